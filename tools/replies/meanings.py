@@ -77,6 +77,7 @@ REPLIES = {
     "imported": "a store was made of the image: {0} objects of {1} words",
     "exported": "an image of the store was written, of {0} bytes",
     "cleaned": "an image of what can be reached in the store was written: {0} objects of {1} words",
+    "condensed": "the store had {0} definitions, and has {1}: of the others later ones take the place",
     "snapshot": "the image was saved in the store, in {0} bytes",
     "used": "{0} objects are kept, of {1} words",
     "registers": "active context {0}, home context {1}, method {2}, receiver {3}; instruction pointer {4} and stack pointer {5} as a context "

@@ -4,31 +4,15 @@ use Rattle.std.specs.Prelude.{ℤ, pos, negsuc, nat_abs, slice_get, if◌then◌
 use Rattle.std.proofs.lemmas.Int.{ints}
 use Rattle.std.proofs.lemmas.Bool.Decides.{nat_tests}
 use Rattle.st_model.specs.declared.dead.Dead.TheVariants as dead
-use Rattle.st_model.specs.Values.{Value, Small, Ref}
+use Rattle.st_model.specs.Values.{Value}
 use Rattle.st_model.specs.Objects.{Object, first_unit}
 use Rattle.st_model.specs.Machine.{State, Died, Went, is_there}
-use Rattle.st_model.specs.Steps.{fetch_field, count_fields, literal, code_byte, byte_at, stored_at, store_at, set_field, store_field}
-use Rattle.st_model.specs.Table.{Table, table, bounded_table, entry}
-use Rattle.st_model.specs.View.{Has, is_live, object_of}
+use Rattle.st_model.specs.Steps.{literal, code_byte, byte_at, store_field}
+use Rattle.st_model.specs.Table.{Table, table, bounded_table}
+use Rattle.st_model.specs.View.{Has, object_of}
 use Rattle.st_model.proofs.Runs.{run-then, run-next, after-went, run-live, run-passed, run-some}
-use Rattle.st_model.proofs.Tabular.{fetch_field-as, count_fields-as, literal-as, byte_at-as, store_field-as}
-use Rattle.st_memory.specs.Tabular.{bounded_tabular}
 use Rattle.st_at_once.specs.Known.{IsCodeAt, HasLiteral}
-
-pub fetch_field-bounded : (v : Value) (i : ℕ) → fetch_field bounded_table v i ≡ fetch_field table v i
-fetch_field-bounded = fetch_field-as bounded_tabular
-
-pub count_fields-bounded : (v : Value) → count_fields bounded_table v ≡ count_fields table v
-count_fields-bounded = count_fields-as bounded_tabular
-
-pub literal-bounded : (v : Value) (i : ℕ) → literal bounded_table v i ≡ literal table v i
-literal-bounded = literal-as bounded_tabular
-
-pub byte_at-bounded : (v : Value) (ip : ℤ) → byte_at bounded_table v ip ≡ byte_at table v ip
-byte_at-bounded = byte_at-as bounded_tabular
-
-pub store_field-bounded : (v : Value) (i : ℕ) (x : Value) → store_field bounded_table v i x ≡ store_field table v i x
-store_field-bounded = store_field-as bounded_tabular
+use Rattle.st_memory.proofs.Wide.{run_set_gone, fetch_field-bounded, count_fields-bounded, literal-bounded, byte_at-bounded, store_field-bounded}
 
 pub ruleset bounded = (fetch_field-bounded, count_fields-bounded, literal-bounded, byte_at-bounded, store_field-bounded)
 
@@ -74,22 +58,12 @@ literal_read t v w i x y same h e f s over =
 
 -- what isn't there isn't stored
 
-absent_at : (n i : ℕ) (x : Value) (s : State Table) (e : Option Object) → stored_at table n i x s e false ≡ Died dead.Kind
-unfolding stored_at
-absent_at n i x s None = refl
-absent_at n i x s (Some o) = refl
-
-absent_set : (v : Value) (i : ℕ) (x : Value) (s : State Table) → is_live s.memory v ≡ true → is_there table s.memory x ≡ false → (set_field table v i x).run s ≡ Died dead.Kind
-unfolding set_field store_at is_live
-absent_set (Small n) i x s live e = cc
-absent_set (Ref n) i x s live e = ap (stored_at table n i x s (entry s.memory n)) e ∙ absent_at n i x s (entry s.memory n)
-
 absent_table : (v : Value) (i : ℕ) (x : Value) (s : State Table) → Has s.memory v i 1 → is_there table s.memory x ≡ false → (store_field table v i x).run s ≡ Died dead.Kind
 unfolding store_field
 absent_table v i x s has e =
     let l = has.fields in
     let r : nat_lt i (length (object_of s.memory v).fields) ≡ true = grind (arith, nat_tests) in
-    simp (run-then, run-next, after-went, run-live v s has.live, run-passed dead.Kind _ s has.kind, run-passed dead.Field _ s r, absent_set v i x s has.live e) refl
+    simp (run-then, run-next, after-went, run-live v s has.live, run-passed dead.Kind _ s has.kind, run-passed dead.Field _ s r, run_set_gone v i x s has.live e) refl
 
 pub store_absent : (t : Table) (v w : Value) (i : ℕ) (x : Value) → v ≡ w → Has t v i 1 → is_there table t x ≡ false
     → (s : State Table) → s.memory ≡ t → (store_field bounded_table w i x).run s ≡ Died dead.Kind

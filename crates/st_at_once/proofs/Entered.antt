@@ -6,7 +6,7 @@ use Rattle.std.proofs.Math.ListN.{length-replicate}
 use Rattle.std.proofs.lemmas.Bool.Decides.{nat_tests}
 use Rattle.std.specs.Prelude.{◌-◌, ◌&&◌, nat_le, if◌then◌else◌}
 use Rattle.st_model.specs.declared.kind.Kind.TheVariants as kind
-use Rattle.st_model.specs.Values.{Value, Small, Ref}
+use Rattle.st_model.specs.Values.{Value, Ref}
 use Rattle.st_model.specs.Objects.{Object, nil, one, words_of}
 use Rattle.st_model.specs.Formed.{fresh_with}
 use Rattle.st_model.specs.Machine.{ObjectMemory, State, Step, has_room, answer, after, ◌>>=◌, ◌>>◌}
@@ -19,19 +19,15 @@ use Rattle.st_model.proofs.Tabular.{method_header-as}
 use Rattle.st_memory.specs.Tabular.{bounded_tabular}
 use Rattle.st_control.specs.AtOnce.{at_once, enter_context, context_space, activate_at_once}
 use Rattle.st_at_once.proofs.Alike.{page-is, field-is, count-is, store-is, transfer-is, top-is, under-is, switch-is}
+use Rattle.st_memory.proofs.Unbounded.{half_bounded}
 
 -- the search for a method
 
 pub header-is : method_header bounded_table ≡ method_header table
 header-is = fun_ext (method_header-as bounded_tabular)
 
-half_word-as : (v : Value) → half_word bounded_table v ≡ half_word table v
-unfolding half_word
-half_word-as (Small n) = refl
-half_word-as (Ref n) = refl
-
 half_word-is : half_word bounded_table ≡ half_word table
-half_word-is = fun_ext half_word-as
+half_word-is = fun_ext half_bounded
 
 method_at-as : (d : Value) (k : ℕ) → method_at bounded_table d k ≡ method_at table d k
 unfolding method_at checked_method

@@ -1,5 +1,6 @@
 pub mod Staying
 pub mod AtOnce
+pub mod InContext
 pub mod Alike
 pub mod AlikeProcesses
 pub mod Entered
@@ -11,6 +12,7 @@ pub mod AlikeRows
 pub mod Linked
 pub mod OverMemory
 mod Keeping
+mod Placed
 mod Direct
 mod Settled
 pub mod Fixed

@@ -21,7 +21,8 @@ use Rattle.st_memory.specs.Tabular.{bounded_tabular}
 use Rattle.st_at_once.specs.AtOnce.{object_space, where_space, largest_fixed, largest_indexed, respond_with, respond_at_once}
 use Rattle.st_at_once.proofs.Alike.{page-is, class-is, field-is, top-is, under-is, answer_with-is}
 use Rattle.st_at_once.proofs.AlikeProcesses.{processes-is, method_primitive-as}
-use Rattle.st_at_once.proofs.Staying.{Left, Keeps, then-keeps, next-keeps, answer-keeps, die-keeps, check-keeps, or_die-keeps, object-keeps, page-keeps, active-keeps, sp-keeps, fetch_field-keeps, Alike, then-alike, same-alike, Room, Any, any-keeps, any-alike, unasked-alike, made_same, both}
+use Rattle.st_at_once.proofs.Staying.{Left, Keeps, then-keeps, next-keeps, answer-keeps, die-keeps, check-keeps, or_die-keeps, object-keeps, page-keeps, active-keeps, sp-keeps, fetch_field-keeps, Alike, then-alike, same-alike, Room, Any, any-keeps, any-alike, unasked-alike, made_same}
+use Rattle.std.proofs.lemmas.Bool.{and_from}
 
 -- CONDITIONS READ
 
@@ -141,7 +142,7 @@ words_fit u x w b l h = grind (arith, nat_tests, l, h)
 
 room_for : (w c n : ℕ) (k : Kind) (s : State Table) → words_of (fresh_with nil c k n 0) ≤ w → Room 1 w s.memory s.head → has_room bounded_table s.head s.memory (fresh_with nil c k n 0) ≡ true
 room_for w c n k s l r =
-    both (nat_le (total_used one s.memory + 1) s.head.entries) (nat_le (total_used words_of s.memory + words_of (fresh_with nil c k n 0)) s.head.words)
+    and_from (nat_le (total_used one s.memory + 1) s.head.entries) (nat_le (total_used words_of s.memory + words_of (fresh_with nil c k n 0)) s.head.words)
     (one_fits (total_used one s.memory) s.head.entries r.0) (words_fit (total_used words_of s.memory) (words_of (fresh_with nil c k n 0)) w s.head.words l r.1)
 
 make-alike : (w n : ℕ) (k : Kind) (class : Value) → is_method k ≡ false → 2 + body_words k n ≤ w → Alike (Room 1 w) Any (make bounded_table class k n 0) (make table class k n 0)

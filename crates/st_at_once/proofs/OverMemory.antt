@@ -1,11 +1,11 @@
 -- A step that was done at once, over a memory and its registers.
 use Rattle.std.proofs.Common.{◌≡◌, ◌<◌, ◌≤◌, ℕ, arith, Bool, true, false, Ok, Err, refl, sym, ap, ◌∙◌, subst}
-use Rattle.std.specs.Prelude.{Result, nat_lt, ◌/◌, ◌%◌, ◌==◌, ◌&&◌, is_some, if◌then◌else◌}
+use Rattle.std.specs.Prelude.{Result, nat_lt, ◌/◌, ◌%◌, ◌==◌, ◌&&◌, if◌then◌else◌}
 use Rattle.std.proofs.lemmas.Bool.Decides.{nat_tests}
 use Rattle.st_model.specs.declared.dead.Dead.{Dead}
 use Rattle.st_model.specs.declared.deed.Deed.{Deed}
 use Rattle.st_model.specs.declared.word.Word.{Word}
-use Rattle.st_model.specs.Values.{Small, Ref, value_of, word, is_small, IsLive}
+use Rattle.st_model.specs.Values.{word, IsLive}
 use Rattle.st_model.specs.Show.{IsUsed}
 use Rattle.st_model.specs.Deeds.{deed_done, with_deed}
 use Rattle.st_simulation.proofs.Closed.{step_closed}
@@ -27,13 +27,14 @@ use Rattle.st_frames.specs.Rows.{row_state, registers_in}
 use Rattle.st_frames.specs.Shown.{shown, registers_of, IsReady, StaysFrame}
 use Rattle.st_control.specs.Foreseen.{IsForeseen}
 use Rattle.st_at_once.specs.declared.ending.RowEnd.{RowEnd}
-use Rattle.st_at_once.specs.declared.ending.RowEnd.TheVariants.{ToForesee, Done, Leaves}
+use Rattle.st_at_once.specs.declared.ending.RowEnd.TheVariants.{ToForesee, Stays, Done, Leaves}
 use Rattle.st_at_once.specs.AtOnce.{was_done, deed_left, GoesOn, IsDoneBut, step_at_once}
 use Rattle.st_at_once.proofs.AtOnce.{As, step-as}
 use Rattle.st_at_once.proofs.Messages.{header_stays}
 use Rattle.st_at_once.proofs.AlikeRows.{same_at_once}
 use Rattle.st_at_once.proofs.Linked.{Linked, linked}
 use Rattle.st_frames.proofs.Closed.{is_closed}
+use Rattle.st_frames.proofs.There.{word_there, all_four}
 
 table_tabular : IsTabular table
 table_tabular = record { read = refl; replace = refl; exchange = refl; named = refl }
@@ -75,13 +76,13 @@ module _ (v : View) (f : Frame) (w : World) (whole : IsWhole v) (ready : IsReady
   quick_dies cause q = link (Died cause) (table_dies (shown v f w) x d does cause q)
 
   pub quick_foreseen : (u : View) (end : RowEnd) → x ≡ Ok end → was_done end ≡ true → IsWhole u → used table d.memory ≡ used table u.objects → u.head ≡ v.head → IsForeseen (shown v f w)
-  quick_foreseen u end q b there uses head =
+  quick_foreseen u end q b word_there uses head =
       let l = link (Went outcome.Went d) (table_done (shown v f w) x d does end q b) in
       record {
         outcome = l.0;
         after = l.1;
         goes = l.2;
-        fits = ap (λ y. is_over y v.head) (l.3 ∙ uses) ∙ within u v.head there head;
+        fits = ap (λ y. is_over y v.head) (l.3 ∙ uses) ∙ within u v.head word_there head;
       }
 
 -- a deed changes nothing of what is used
@@ -89,26 +90,14 @@ pub left_uses : (u : View) (r : Words) (deed : Deed) → used table (with_deed d
 unfolding row_state
 left_uses u r deed = deed_uses deed u.objects
 
-there_if : (t : Table) (b : Bool) (n : ℕ) → IsLive (IsUsed t) (if b then Small n else Ref n) → (is_small (if b then Small n else Ref n) ≡ true → n < 32768)
-    → is_there table t (if b then Small n else Ref n) ≡ true
-there_if t true n h s = let l = s refl in grind (arith, nat_tests, l)
-there_if t false n h s = ap (λ x. is_some x) h.1
-
-there : (t : Table) (w : Word) → IsLive (IsUsed t) (word w) → IsNarrow w → is_there table t (word w) ≡ true
-unfolding value_of
-there t w h s = there_if t (w.0 % 2 == 1) (w.0 / 2) h (λ e. let l = s e in omega (arith, l))
-
-all_there : (a b c d : Bool) → a ≡ true → b ≡ true → c ≡ true → d ≡ true → (a && (b && (c && d))) ≡ true
-all_there a b c d p q r s = rw (p, q, r, s) refl
-
--- what the registers name is there, as it is once the deed is done that is left
+-- what the registers name is word_there, as it is once the deed is done that is left
 pub quick_there : (v : View) (f : Frame) (world : World) (t : Table) (a : Head) (r : Words) (deed : Deed) → IsWhole v → IsReady v f world
     → (step bounded_table).run (shown v f world) ≡ Went outcome.Went (with_deed deed (row_state t a r)) → are_there table t (registers_in r) ≡ true
 unfolding row_state
 quick_there v f world t a r deed w ready e =
     let closed = step_closed (shown v f world) (with_deed deed (row_state t a r)) outcome.Went (is_closed v f world w ready) e in
-    let before : (x : Word) → IsLive (IsUsed (deed_done deed t)) (word x) → IsNarrow x → is_there table t (word x) ≡ true = λ x l n. sym (deed_leaves_there deed t (word x)) ∙ there (deed_done deed t) x l n in
-    all_there (is_there table t (word r.active)) (is_there table t (word r.home)) (is_there table t (word r.method)) (is_there table t (word r.receiver))
+    let before : (x : Word) → IsLive (IsUsed (deed_done deed t)) (word x) → IsNarrow x → is_there table t (word x) ≡ true = λ x l n. sym (deed_leaves_there deed t (word x)) ∙ word_there (deed_done deed t) x l n in
+    all_four (is_there table t (word r.active)) (is_there table t (word r.home)) (is_there table t (word r.method)) (is_there table t (word r.receiver))
     (before r.active closed.roots.0 r.active_narrow) (before r.home closed.roots.1.0 r.home_narrow)
     (before r.method closed.roots.1.1.0 r.method_narrow) (before r.receiver closed.roots.1.1.1.0 r.receiver_narrow)
 
@@ -124,11 +113,13 @@ quick_ready u v f g w ready stays = record { frame = stays.frame; devices = stay
 -- a bytecode that was done, but for what it leaves
 pub done_but : (c d : State Table) (left : Deed) (end : RowEnd) → was_done end ≡ true → GoesOn c (with_deed (deed_left left end) d) → IsDoneBut c left (Ok end) d
 done_but c d left ToForesee b h = cc
+done_but c d left Stays b h = h
 done_but c d left Done b h = h
 done_but c d left Leaves b h = h
 
 -- a bytecode that wasn't
 pub undone : (c d : State Table) (left : Deed) (end : RowEnd) → was_done end ≡ false → d ≡ c → IsDoneBut c left (Ok end) d
 undone c d left ToForesee b h = h
+undone c d left Stays b h = cc
 undone c d left Done b h = cc
 undone c d left Leaves b h = cc

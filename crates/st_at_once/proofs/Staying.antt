@@ -1,6 +1,6 @@
 -- What stays while fields are fetched and stored, and objects made; and steps that do the same over a bounded table as over the
 -- table, as long as there is room.
-use Rattle.std.proofs.Common.{◌≡◌, ◌≤◌, ◌+◌, ℕ, zero, suc, List, [], ◌∷◌, Option, Some, None, Bool, true, false, length-set, refl, sym, ap, ◌∙◌, subst, arith}
+use Rattle.std.proofs.Common.{◌≡◌, ◌≤◌, ◌+◌, ℕ, zero, suc, List, [], ◌∷◌, Option, Some, None, Bool, true, false, refl, sym, ap, ◌∙◌, subst, arith}
 use Rattle.std.proofs.Math.ListN.{length-replicate}
 use Rattle.std.proofs.lemmas.Bool.Decides.{nat_tests}
 use Rattle.std.specs.Prelude.{◌&&◌, nat_lt, nat_le, length}
@@ -15,6 +15,8 @@ use Rattle.st_model.specs.Machine.{Head, State, Transition, Died, Went, Step, is
 use Rattle.st_model.specs.Steps.{get_active, get_sp, set_sp, of_page, found, object_named, object, check, or_die, stored_at, store_at, set_field, fetch_field, store_field, count_fields, fetch_fields, store_fields, transfer, made, make_named, make, new_object, put, push, drop_words}
 use Rattle.st_model.specs.Table.{Table, table, bounded_table, entry, changed, placed, total_used}
 use Rattle.st_simulation.proofs.Bounded.{total-placed, total-changed}
+use Rattle.std.proofs.lemmas.Bool.{and_from}
+use Rattle.st_model.proofs.FormedLemmas.{words_of-with_field}
 
 -- Steps that leave P of the objects and the head, where they go on
 
@@ -181,11 +183,8 @@ same-alike P m n e h = record { same = λ s p. ap (λ (x : Step Table _). x.run 
 abbrev pub Room : ℕ → ℕ → Table → Head → Type 0
 Room e w t a = (total_used one t + e ≤ a.entries) × (total_used words_of t + w ≤ a.words)
 
-stored_words : (o : Object) (i : ℕ) (x : Value) → words_of (with_field o i x) ≡ words_of o
-stored_words o i x = rw (length-set o.fields i x) refl
-
 pub room_stored : (e w : ℕ) (t : Table) (a : Head) (n i : ℕ) (x : Value) (o : Object) → Room e w t a → entry t n ≡ Some o → is_pointers o.kind ≡ true → Room e w (changed t n (with_field o i x)) a
-room_stored e w t a n i x o r h k = rw (total-changed one t n o (with_field o i x) h refl, total-changed words_of t n o (with_field o i x) h (stored_words o i x)) r
+room_stored e w t a n i x o r h k = rw (total-changed one t n o (with_field o i x) h refl, total-changed words_of t n o (with_field o i x) h (words_of-with_field o i x)) r
 
 fits : (u e b : ℕ) → u + suc e ≤ b → nat_le (u + 1) b ≡ true
 fits u e b h = grind (arith, nat_tests, h)
@@ -193,17 +192,12 @@ fits u e b h = grind (arith, nat_tests, h)
 fits_words : (u n w b m : ℕ) → m ≡ 2 + n → u + (2 + n + w) ≤ b → nat_le (u + m) b ≡ true
 fits_words u n w b m q h = grind (arith, nat_tests, q, h)
 
-pub both : (a b : Bool) → a ≡ true → b ≡ true → (a && b) ≡ true
-both true true p q = refl
-both true false p q = cc
-both false b p q = cc
-
 fields_words : (c n : ℕ) → words_of (fresh_with nil c kind.Pointers n 0) ≡ 2 + n
 fields_words c n = rw (length-replicate n nil) (omega arith)
 
 has_room_for : (e w n c : ℕ) (s : State Table) → Room (suc e) (2 + n + w) s.memory s.head → has_room bounded_table s.head s.memory (fresh_with nil c kind.Pointers n 0) ≡ true
 has_room_for e w n c s r =
-    both (nat_le (total_used one s.memory + 1) s.head.entries) (nat_le (total_used words_of s.memory + words_of (fresh_with nil c kind.Pointers n 0)) s.head.words)
+    and_from (nat_le (total_used one s.memory + 1) s.head.entries) (nat_le (total_used words_of s.memory + words_of (fresh_with nil c kind.Pointers n 0)) s.head.words)
     (fits (total_used one s.memory) e s.head.entries r.0) (fits_words (total_used words_of s.memory) n w s.head.words _ (fields_words c n) r.1)
 
 pub made_same : (o : Object) (s : State Table) (there room : Bool) → room ≡ true → made bounded_table o s there room ≡ made table o s there true

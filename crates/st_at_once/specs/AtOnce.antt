@@ -17,7 +17,7 @@ use Rattle.st_model.specs.declared.page.PageObject.TheVariants.{FalseObject, Tru
 use Rattle.st_model.specs.Decoded.{decoded}
 use Rattle.st_model.specs.Outcomes.{Outcome}
 use Rattle.st_model.specs.Outcomes as outcome
-use Rattle.st_model.specs.Machine.{ObjectMemory, State, Died, Went, Step, answer, tried, ◌>>=◌, ◌>>◌}
+use Rattle.st_model.specs.Machine.{ObjectMemory, Registers, State, Died, Went, Step, answer, tried, ◌>>=◌, ◌>>◌}
 use Rattle.st_model.specs.Steps.{get_receiver, get_free, of_page, class_of, under, pop, next_byte}
 use Rattle.st_model.specs.Methods.{method_header, method_primitive, temporary_count, flag_of}
 use Rattle.st_model.specs.Lookup.{find}
@@ -35,7 +35,7 @@ use Rattle.st_model.specs.Table.{Table, apart, bounded_table}
 use Rattle.st_frames.specs.Rows.{send_changes, activation_changes}
 use Rattle.st_control.specs.Foreseen.{IsForeseen}
 use Rattle.st_at_once.specs.declared.ending.RowEnd.{RowEnd}
-use Rattle.st_at_once.specs.declared.ending.RowEnd.TheVariants.{ToForesee, Done, Leaves}
+use Rattle.st_at_once.specs.declared.ending.RowEnd.TheVariants.{ToForesee, Stays, Done, Leaves}
 use Rattle.st_memory.specs.declared.objects.Objects.{Ghosts}
 use Rattle.st_control.specs.AtOnce.{AreStill, at_once, activate_at_once, jump_at_once, return_to_sender_at_once, return_to_caller_at_once}
 
@@ -197,36 +197,42 @@ literal_send_at_once m i n = do
   selector ← fetch_literal_constant m i
   send_at_once m selector n
 
+-- the registers name what they named
+pub record NamesSame (old new : Registers) : Type 0 where
+  pub active : new.active ≡ old.active
+  pub home : new.home ≡ old.home
+  pub method : new.method ≡ old.method
+  pub receiver : new.receiver ≡ old.receiver
+
+-- the row of a bytecode that stays in its context, since it sends nothing, returns nothing and tries none of 198 to 202, where that
+-- is done at once
+unfoldable pub row_in_context : {H : Type 0} → ObjectMemory H → Bytecode → Step H Bool
+row_in_context m (code.Push operand) = at_once (push_operand m operand)
+row_in_context m (code.StoreAndPop operand) = at_once (store_and_pop m operand)
+row_in_context m code.PushReceiver = at_once (push_receiver m)
+row_in_context m (code.PushConstant c) = at_once (push_constant m c)
+row_in_context m code.ExtendedPush = at_once (extended_push m)
+row_in_context m code.ExtendedStore = at_once (extended_store m)
+row_in_context m code.ExtendedStoreAndPop = at_once (extended_store_and_pop m)
+row_in_context m code.PopStack = at_once (pop_stack m)
+row_in_context m code.DuplicateTop = at_once (duplicate_top m)
+row_in_context m code.PushActiveContext = at_once (push_active_context m)
+row_in_context m (code.ShortUnconditionalJump i) = at_once (short_unconditional_jump i)
+row_in_context m (code.ShortJumpOnFalse i) = jump_at_once m FalseObject TrueObject (pos (i + 1))
+row_in_context m (code.LongUnconditionalJump i) = at_once (long_unconditional_jump m i)
+row_in_context m (code.LongJumpOnTrue i) = long_jump_at_once m TrueObject FalseObject i
+row_in_context m (code.LongJumpOnFalse i) = long_jump_at_once m FalseObject TrueObject i
+row_in_context m (code.ArithmeticSend k) = arithmetic_at_once m k
+row_in_context m b = answer false
+
 -- the row of a bytecode that is no send by 208 to 255, where that is done at once
 unfoldable pub unsent_at_once : {H : Type 0} → ObjectMemory H → Bytecode → Step H Bool
-unsent_at_once m (code.Push operand) = at_once (push_operand m operand)
-unsent_at_once m (code.StoreAndPop operand) = at_once (store_and_pop m operand)
-unsent_at_once m code.PushReceiver = at_once (push_receiver m)
-unsent_at_once m (code.PushConstant c) = at_once (push_constant m c)
 unsent_at_once m code.ReturnReceiver = return_receiver_at_once m
 unsent_at_once m (code.ReturnConstant c) = return_constant_at_once m c
 unsent_at_once m code.ReturnTopToSender = return_top_to_sender_at_once m
 unsent_at_once m code.ReturnTopToCaller = return_top_to_caller_at_once m
-unsent_at_once m code.Unused = answer false
-unsent_at_once m code.ExtendedPush = at_once (extended_push m)
-unsent_at_once m code.ExtendedStore = at_once (extended_store m)
-unsent_at_once m code.ExtendedStoreAndPop = at_once (extended_store_and_pop m)
-unsent_at_once m code.ExtendedSend = answer false
-unsent_at_once m code.DoubleExtendedSend = answer false
-unsent_at_once m code.ExtendedSuperSend = answer false
-unsent_at_once m code.DoubleExtendedSuperSend = answer false
-unsent_at_once m code.PopStack = at_once (pop_stack m)
-unsent_at_once m code.DuplicateTop = at_once (duplicate_top m)
-unsent_at_once m code.PushActiveContext = at_once (push_active_context m)
-unsent_at_once m (code.ShortUnconditionalJump i) = at_once (short_unconditional_jump i)
-unsent_at_once m (code.ShortJumpOnFalse i) = jump_at_once m FalseObject TrueObject (pos (i + 1))
-unsent_at_once m (code.LongUnconditionalJump i) = at_once (long_unconditional_jump m i)
-unsent_at_once m (code.LongJumpOnTrue i) = long_jump_at_once m TrueObject FalseObject i
-unsent_at_once m (code.LongJumpOnFalse i) = long_jump_at_once m FalseObject TrueObject i
-unsent_at_once m (code.ArithmeticSend k) = arithmetic_at_once m k
-unsent_at_once m (code.SpecialSend k) = answer false
 unsent_at_once m (code.PrimitiveSend k) = primitive_at_once m k
-unsent_at_once m (code.LiteralSend i n) = answer false
+unsent_at_once m b = row_in_context m b
 
 -- the row of a bytecode, where that is done at once
 unfoldable pub bytecode_at_once : {H : Type 0} → ObjectMemory H → Bytecode → Step H Bool
@@ -242,14 +248,20 @@ step_at_once m = do
 -- whether a bytecode of the code was done at once
 abbrev pub was_done : RowEnd → Bool
 was_done ToForesee = false
+was_done Stays = true
 was_done Done = true
 was_done Leaves = true
 
 -- and which deed it leaves to be done, where this is the one that was left
 abbrev pub deed_left : Deed → RowEnd → Deed
 deed_left left ToForesee = Nothing
+deed_left left Stays = Nothing
 deed_left left Done = Nothing
 deed_left left Leaves = left
+
+-- where it stays in its context, the registers name what they named
+abbrev pub StaysInContext : Result RowEnd Dead → Registers → Registers → Type 0
+StaysInContext result old new = result ≡ Ok Stays → NamesSame old new
 
 -- where it is to be foreseen, the objects are as they were
 abbrev pub StillToForesee : {M : Type 0} → Ghosts M → M → Result RowEnd Dead → M → Type 0
@@ -264,6 +276,7 @@ GoesOn c d = IsForeseen c × ((step bounded_table).run c ≡ Went outcome.Went d
 abbrev pub IsDoneBut : State Table → Deed → Result RowEnd Dead → State Table → Type 0
 IsDoneBut c left (Err cause) d = (step apart).run c ≡ Died cause
 IsDoneBut c left (Ok ToForesee) d = d ≡ c
+IsDoneBut c left (Ok Stays) d = GoesOn c d
 IsDoneBut c left (Ok Done) d = GoesOn c d
 IsDoneBut c left (Ok Leaves) d = GoesOn c (with_deed left d)
 

@@ -1,5 +1,6 @@
 -- What is known of the active context, its home and its method.
 use Rattle.std.specs.Prelude.{◌≡◌, ℕ, ◌+◌, ◌*◌, ◌<◌, ◌≤◌, length, replicate, None, true, ℤ, pos, ◌≤ℤ◌, ◌<ℤ◌}
+use Rattle.st_model.specs.declared.word.Word.{Word}
 use Rattle.st_model.specs.Values.{Value, word}
 use Rattle.st_model.specs.Objects.{is_pointers, is_method, first_unit, size_of}
 use Rattle.st_model.specs.Table.{Table}
@@ -38,6 +39,11 @@ pub record KnowsCode (t : Table) (held : Value) (c : Code) : Type 0 where
   pub literals : 0 < c.literals → HasCode t held c
   pub bytes : c.first <ℤ c.end → HasCode t held c
 
+-- the word names an object that is there
+pub record IsThere (t : Table) (w : Word) : Type 0 where
+  pub short : w.0 < 65536
+  pub live : is_live t (word w) ≡ true
+
 -- the object is of kind Pointers and has so many fields
 pub record HasNumber (t : Table) (v : Value) (n : ℕ) : Type 0 where
   pub live : is_live t v ≡ true
@@ -67,3 +73,10 @@ pub record IsNear (v : View) (k : Known) : Type 0 where
 -- What stays of a memory that is borrowed under this name: what is held, the head, and the name, as the length of a table.
 abbrev pub fixed_of : View → ℕ → View
 fixed_of v name = record { objects = replicate name None; held = v.held; head = v.head }
+
+-- what is known stands at these places
+pub record ArePlaced (stands : Value → ℕ → Type 0) (k : Known) : Type 0 where
+  pub active : 0 < k.active.number → stands (word k.active.object) k.active.place
+  pub home : 0 < k.home.number → stands (word k.home.object) k.home.place
+  pub literals : 0 < k.code.literals → stands (word k.code.method) k.code.place
+  pub bytes : k.code.first <ℤ k.code.end → stands (word k.code.method) k.code.place

@@ -1,4 +1,13 @@
-use st_model::Word;
+use st_model::{Oop, Word};
+
+/// An object near at hand.
+#[derive(Clone, Copy)]
+pub(crate) struct Body {
+    /// Its pointer.
+    pub object: Oop,
+    /// The place at which it stands.
+    pub place: u32,
+}
 
 /// What is known of a context. Nothing is where it has 0 fields.
 #[derive(Clone, Copy)]
@@ -7,6 +16,8 @@ pub struct Fields {
     pub object: Word,
     /// How many fields it has.
     pub number: u32,
+    /// The place at which it stands.
+    pub place: u32,
 }
 
 impl Fields {
@@ -14,6 +25,7 @@ impl Fields {
     pub const NONE: Fields = Fields {
         object: Word::NIL,
         number: 0,
+        place: 0,
     };
 }
 
@@ -28,6 +40,8 @@ pub struct Code {
     pub first: i32,
     /// The number behind that of its last bytecode, at most 16382.
     pub end: i32,
+    /// The place at which it stands.
+    pub place: u32,
 }
 
 impl Code {
@@ -37,6 +51,7 @@ impl Code {
         literals: 0,
         first: 0,
         end: 0,
+        place: 0,
     };
 }
 

@@ -1,6 +1,7 @@
+ghost use Rattle.std.specs.Prelude.{◌<◌, ◌<ℤ◌};
 ghost use Rattle.st_model.specs.Values.{value, word};
 ghost use Rattle.st_frames.specs.Shown.{IsFrame};
-ghost use Rattle.st_at_once.specs.Known.{KnowsFields, KnowsCode, IsNear};
+ghost use Rattle.st_at_once.specs.Known.{KnowsFields, KnowsCode, IsNear, IsThere, ArePlaced};
 
 use crate::known::{Code, Fields, Known};
 use st_frames::Frame;
@@ -10,7 +11,8 @@ use st_model::{Oop, Word, literals};
 /// What is known of a context.
 #[tactic(auto, using(st_memory::proofs::Bodies::most_fields))]
 fn look_at_fields<M: Memory>(m: &M, context: Oop) -> Fields
-    ensures { KnowsFields (M.view m.now).objects (value context) result }
+    ensures fields { KnowsFields (M.view m.now).objects (value context) result }
+    ensures place { 0 < result.number → M.stands m.now (word result.object) result.place }
 {
     if !m.live(context) {
         return Fields::NONE;
@@ -21,12 +23,15 @@ fn look_at_fields<M: Memory>(m: &M, context: Oop) -> Fields
     Fields {
         object: Word(u32::from(context.0)),
         number: m.size(context),
+        place: m.place(context),
     }
 }
 
 /// What is known of a method.
 fn look_at_code<M: Memory>(m: &M, method: Oop) -> Code
-    ensures { KnowsCode (M.view m.now).objects (value method) result }
+    ensures code { KnowsCode (M.view m.now).objects (value method) result }
+    ensures literals { 0 < result.literals → M.stands m.now (word result.method) result.place }
+    ensures bytes { result.first <ℤ result.end → M.stands m.now (word result.method) result.place }
 {
     if !m.live(method) {
         return Code::NONE;
@@ -40,13 +45,16 @@ fn look_at_code<M: Memory>(m: &M, method: Oop) -> Code
         literals: count,
         first: (2 * count + 2) as i32,
         end: m.size(method).min(16382) as i32,
+        place: m.place(method),
     }
 }
 
 /// What is known of the home context, where this is known of the active one; in a method both are the same.
 fn look_at_home<M: Memory>(m: &M, f: &Frame, active: Fields) -> Fields
-    requires { KnowsFields (M.view m.now).objects (value f.now.active) active }
-    ensures { KnowsFields (M.view m.now).objects (value f.now.home) result }
+    requires fields { KnowsFields (M.view m.now).objects (value f.now.active) active }
+    requires place { 0 < active.number → M.stands m.now (word active.object) active.place }
+    ensures fields { KnowsFields (M.view m.now).objects (value f.now.home) result }
+    ensures place { 0 < result.number → M.stands m.now (word result.object) result.place }
 {
     if f.home.0 == f.active.0 {
         active
@@ -55,14 +63,67 @@ fn look_at_home<M: Memory>(m: &M, f: &Frame, active: Fields) -> Fields
     }
 }
 
+/// The place at which a context stands of which this is known, or 0.
+fn place_of_fields<M: Memory>(m: &M, f: Fields) -> u32
+    requires { 0 < f.number → IsThere (M.view m.now).objects f.object }
+    ensures { 0 < f.number → M.stands m.now (word f.object) result }
+{
+    if f.number == 0 {
+        0
+    } else {
+        m.place(Oop(f.object.0 as u16))
+    }
+}
+
+/// The place at which a method stands of which this is known, or 0.
+fn place_of_code<M: Memory>(m: &M, c: Code) -> u32
+    requires literals { 0 < c.literals → IsThere (M.view m.now).objects c.method }
+    requires bytes { c.first <ℤ c.end → IsThere (M.view m.now).objects c.method }
+    ensures literals { 0 < c.literals → M.stands m.now (word c.method) result }
+    ensures bytes { c.first <ℤ c.end → M.stands m.now (word c.method) result }
+{
+    if c.literals == 0 && c.end <= c.first {
+        0
+    } else {
+        m.place(Oop(c.method.0 as u16))
+    }
+}
+
+/// What is known, with the places at which it stands now.
+pub(crate) fn look_at_places<M: Memory>(m: &M, known: Known) -> Known
+    requires { IsNear (M.view m.now) known }
+    ensures near { IsNear (M.view m.now) result }
+    ensures places { ArePlaced (M.stands m.now) result }
+{
+    Known {
+        active: Fields {
+            place: place_of_fields(m, known.active),
+            ..known.active
+        },
+        home: Fields {
+            place: place_of_fields(m, known.home),
+            ..known.home
+        },
+        code: Code {
+            place: place_of_code(m, known.code),
+            ..known.code
+        },
+    }
+}
+
 /// What is known of a method, where this was known of one; often that is the same.
 #[tactic(auto, using(crate::proofs::Keeping::code_renamed))]
 fn look_at_code_again<M: Memory>(m: &M, method: Oop, before: Code) -> Code
     requires { KnowsCode (M.view m.now).objects (word before.method) before }
-    ensures { KnowsCode (M.view m.now).objects (value method) result }
+    ensures code { KnowsCode (M.view m.now).objects (value method) result }
+    ensures literals { 0 < result.literals → M.stands m.now (word result.method) result.place }
+    ensures bytes { result.first <ℤ result.end → M.stands m.now (word result.method) result.place }
 {
     if before.method.0 == u32::from(method.0) {
-        before
+        Code {
+            place: place_of_code(m, before),
+            ..before
+        }
     } else {
         look_at_code(m, method)
     }
@@ -72,7 +133,8 @@ fn look_at_code_again<M: Memory>(m: &M, method: Oop, before: Code) -> Code
 pub fn look<M: Memory>(m: &M, f: &Frame, before: Code) -> Known
     requires frame { IsFrame (M.view m.now) f.now }
     requires before { KnowsCode (M.view m.now).objects (word before.method) before }
-    ensures { IsNear (M.view m.now) result }
+    ensures near { IsNear (M.view m.now) result }
+    ensures places { ArePlaced (M.stands m.now) result }
 {
     let active = look_at_fields(m, f.active);
     Known {

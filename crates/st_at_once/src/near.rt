@@ -5,22 +5,24 @@ ghost use Rattle.st_model.specs.Table.{bounded_table};
 ghost use Rattle.st_model.specs.Steps.{store_field};
 ghost use Rattle.st_model.specs.Calls.{Changes, itself};
 ghost use Rattle.st_frames.specs.Shown.{IsFrame};
-ghost use Rattle.st_at_once.specs.Known.{IsNear, IsCodeAt, HasLiteral, HasNumber};
+ghost use Rattle.st_at_once.specs.Known.{IsNear, ArePlaced, IsCodeAt, HasLiteral, HasNumber};
 
-use crate::known::{Code, Known};
+use crate::known::{Body, Code, Known};
 use crate::looking::look;
 use st_frames::Frame;
-use st_memory::{Memory, Objects};
+use st_memory::{Memory, store_live_field};
 use st_model::{Dead, Oop, Word};
 
 /// The objects of a memory, with what is known of the active context, its home and its method, which it holds. As long as they
-/// are held, a field or a byte of them is read and stored without a look at the object.
+/// are held, a field or a byte of them is read and stored at its place, without a look at the object. Where an object was made
+/// or what a search found was remembered, places are asked for anew.
 #[derive(Drop)]
 pub struct Near<'a, M: Memory> {
     /// The memory behind.
     pub memory: &'a mut M,
     pub(crate) known: Known,
     ghost near: { IsNear (M.view memory.now) known },
+    ghost places: { ∥ ArePlaced (M.stands memory.now) known ∥₁ },
 }
 
 impl<'a, M: Memory> Near<'a, M> {
@@ -42,17 +44,31 @@ impl<'a, M: Memory> Near<'a, M> {
         self.memory.settle();
     }
 
-    /// The pointer of the active or home context, where this is its word and it has field i.
+    /// What is known stands at the places that are known.
     #[inline(always)]
-    pub(crate) fn find_context(&self, o: Word, i: u32) -> Option<Oop>
-        ensures same { IfSome result (λ p. value p ≡ word o) }
-        ensures has { IfSome result (λ p. Has (M.view self.now.memory.now).objects (value p) i 1) }
+    fn stand(&self)
+        ensures { ArePlaced (M.stands self.now.memory.now) self.now.known }
+    {}
+
+    /// The active or home context, where this is its word and it has field i.
+    #[inline(always)]
+    pub(crate) fn find_context(&self, o: Word, i: u32) -> Option<Body>
+        ensures same { IfSome result (λ b. value b.object ≡ word o) }
+        ensures has { IfSome result (λ b. Has (M.view self.now.memory.now).objects (value b.object) i 1) }
+        ensures place { IfSome result (λ b. M.stands self.now.memory.now (value b.object) b.place) }
     {
+        self.stand();
         if o.0 == self.known.active.object.0 && i < self.known.active.number {
-            return Some(Oop(o.0 as u16));
+            return Some(Body {
+                object: Oop(o.0 as u16),
+                place: self.known.active.place,
+            });
         }
         if o.0 == self.known.home.object.0 && i < self.known.home.number {
-            return Some(Oop(o.0 as u16));
+            return Some(Body {
+                object: Oop(o.0 as u16),
+                place: self.known.home.place,
+            });
         }
         None
     }
@@ -72,31 +88,42 @@ impl<'a, M: Memory> Near<'a, M> {
         None
     }
 
-    /// The pointer of the method, where this is its word and it has a bytecode of this number.
+    /// The method, where this is its word and it has a bytecode of this number.
     #[inline(always)]
-    pub(crate) fn find_code(&self, method: Word, ip: i32) -> Option<Oop>
-        ensures same { IfSome result (λ p. value p ≡ word method) }
-        ensures code { IfSome result (λ p. IsCodeAt (M.view self.now.memory.now).objects (value p) ip) }
+    pub(crate) fn find_code(&self, method: Word, ip: i32) -> Option<Body>
+        ensures same { IfSome result (λ b. value b.object ≡ word method) }
+        ensures code { IfSome result (λ b. IsCodeAt (M.view self.now.memory.now).objects (value b.object) ip) }
+        ensures place { IfSome result (λ b. M.stands self.now.memory.now (value b.object) b.place) }
     {
+        self.stand();
         if method.0 == self.known.code.method.0
             && self.known.code.first <= ip
             && ip < self.known.code.end
         {
-            Some(Oop(method.0 as u16))
+            Some(Body {
+                object: Oop(method.0 as u16),
+                place: self.known.code.place,
+            })
         } else {
             None
         }
     }
 
-    /// The pointer of the method, where this is its word and it has literal i.
+    /// The method, where this is its word and it has literal i.
     #[inline(always)]
-    pub(crate) fn find_literals(&self, method: Word, i: u32) -> Option<Oop>
-        ensures same { IfSome result (λ p. value p ≡ word method) }
-        ensures small { IfSome result (λ p. i < 64) }
-        ensures literal { IfSome result (λ p. HasLiteral (M.view self.now.memory.now).objects (value p) i) }
+    pub(crate) fn find_literals(&self, method: Word, i: u32) -> Option<Body>
+        ensures same { IfSome result (λ b. value b.object ≡ word method) }
+        ensures small { IfSome result (λ b. i < 64) }
+        ensures literal { IfSome result (λ b.
+            HasLiteral (M.view self.now.memory.now).objects (value b.object) i) }
+        ensures place { IfSome result (λ b. M.stands self.now.memory.now (value b.object) b.place) }
     {
+        self.stand();
         if method.0 == self.known.code.method.0 && i < self.known.code.literals {
-            Some(Oop(method.0 as u16))
+            Some(Body {
+                object: Oop(method.0 as u16),
+                place: self.known.code.place,
+            })
         } else {
             None
         }
@@ -104,6 +131,7 @@ impl<'a, M: Memory> Near<'a, M> {
 
     /// Stores x in field i of an object that isn't near at hand. Nothing is known any more where it dies.
     #[inline(never)]
+    #[tactic(auto, using(crate::proofs::Keeping::near_nothing, crate::proofs::Placed::placed_nothing))]
     pub(crate) fn store_elsewhere(&mut self, o: Word, i: u32, x: Word) -> Result<(), Dead>
         ensures stores { Changes (store_field bounded_table (word o) i (word x)) itself
             (M.view self.old.memory.now).objects (M.view self.old.memory.now).head
@@ -112,7 +140,7 @@ impl<'a, M: Memory> Near<'a, M> {
         ensures head { (M.view self.new.memory.now).head ≡ (M.view self.old.memory.now).head }
         ensures same_memory { self.new.memory.ghost_name ≡ self.old.memory.ghost_name }
     {
-        let done = self.memory.store_field(o, i, x);
+        let done = store_live_field(self.memory, o, i, x);
         if done.is_err() {
             self.known = Known::NONE;
         }

@@ -2,8 +2,9 @@ ghost use Rattle.std.specs.Prelude.{◌≡◌, ◌+◌, ◌≤◌};
 ghost use Rattle.st_model.specs.Table.{bounded_table};
 
 use crate::known::Known;
+use crate::looking::look_at_places;
 use crate::near::Near;
-use st_memory::{Memory, Objects, live_value};
+use st_memory::{ContextFields, Memory, Objects, live_value, transfer_live_fields};
 use st_model::{Dead, Demand, Kind, Word};
 
 impl<'a, M: Memory> Objects for Near<'a, M> {
@@ -28,7 +29,9 @@ impl<'a, M: Memory> Objects for Near<'a, M> {
     #[tactic(auto, using(st_model::proofs::Runs::runs, crate::proofs::Direct::bounded), unfolding(st_model::specs::Steps::fetch_field))]
     fn fetch_field(&self, o: Word, i: u32) -> Result<Word, Dead> {
         match self.find_context(o, i) {
-            Some(context) => Ok(Word::from(self.memory.pointer(context, i))),
+            Some(context) => Ok(Word::from(
+                self.memory.placed_pointer(context.object, context.place, i),
+            )),
             None => self.memory.fetch_field(o, i),
         }
     }
@@ -40,6 +43,11 @@ impl<'a, M: Memory> Objects for Near<'a, M> {
             Some(number) => Ok(number),
             None => self.memory.count_fields(o),
         }
+    }
+
+    #[inline(always)]
+    fn context_fields(&self, context: Word) -> Option<ContextFields> {
+        self.memory.context_fields(context)
     }
 
     fn fetch_class(&self, o: Word) -> Result<Word, Dead> {
@@ -66,7 +74,10 @@ impl<'a, M: Memory> Objects for Near<'a, M> {
     #[tactic(auto, using(st_model::proofs::Runs::runs, crate::proofs::Direct::bounded), unfolding(st_model::specs::Steps::literal))]
     fn literal(&self, method: Word, i: u32) -> Result<Word, Dead> {
         match self.find_literals(method, i) {
-            Some(method) => Ok(Word::from(self.memory.pointer(method, i + 1))),
+            Some(method) => Ok(Word::from(
+                self.memory
+                    .placed_pointer(method.object, method.place, i + 1),
+            )),
             None => self.memory.literal(method, i),
         }
     }
@@ -83,7 +94,12 @@ impl<'a, M: Memory> Objects for Near<'a, M> {
     #[tactic(auto, using(st_model::proofs::Runs::runs, crate::proofs::Direct::bounded), unfolding(st_model::specs::Steps::byte_at))]
     fn byte_at(&self, method: Word, ip: i32) -> Result<u8, Dead> {
         match self.find_code(method, ip) {
-            Some(method) => Ok(self.memory.byte(method, ip as u32)),
+            Some(method) => {
+                Ok(
+                    self.memory
+                        .placed_byte(method.object, method.place, ip as u32),
+                )
+            }
             None => self.memory.byte_at(method, ip),
         }
     }
@@ -117,13 +133,15 @@ impl<'a, M: Memory> Objects for Near<'a, M> {
         };
         match live_value(self.memory, x) {
             Some(value) => {
-                self.memory.set_pointer(context, i, value);
+                self.memory
+                    .set_placed_pointer(context.object, context.place, i, value);
                 Ok(())
             }
             None => Err(Dead::Kind),
         }
     }
 
+    #[tactic(auto, using(crate::proofs::Keeping::near_nothing, crate::proofs::Placed::placed_nothing))]
     fn transfer(
         &mut self,
         n: u32,
@@ -132,24 +150,27 @@ impl<'a, M: Memory> Objects for Near<'a, M> {
         target: Word,
         to: u32,
     ) -> Result<(), Dead> {
-        let done = self.memory.transfer(n, source, from, target, to);
+        let done = transfer_live_fields(self.memory, n, source, from, target, to);
         if done.is_err() {
             self.known = Known::NONE;
         }
         done
     }
 
-    #[tactic(auto, using(crate::proofs::Keeping::near_nothing))]
+    #[tactic(auto, using(crate::proofs::Keeping::near_nothing, crate::proofs::Placed::placed_nothing))]
     fn exchange(&mut self, a: Word, b: Word) -> Result<(), Dead> {
         self.known = Known::NONE;
         self.memory.exchange(a, b)
     }
 
+    #[tactic(auto, using(crate::proofs::Keeping::near_nothing, crate::proofs::Placed::placed_nothing))]
     fn make(&mut self, class: Word, kind: Kind, size: u32, literals: u32) -> Result<Word, Dead> {
         let made = Objects::make(self.memory, class, kind, size, literals);
         if made.is_err() {
             self.known = Known::NONE;
+            return made;
         }
+        self.known = look_at_places(self.memory, self.known);
         made
     }
 
@@ -164,6 +185,7 @@ impl<'a, M: Memory> Objects for Near<'a, M> {
 
     fn remember(&mut self, class: Word, selector: Word, method: Word) {
         Objects::remember(self.memory, class, selector, method);
+        self.known = look_at_places(self.memory, self.known);
     }
 
     ghost tabular = { bounded_tabular };

@@ -32,7 +32,7 @@ pub fn step_from<M: Memory>(
 {
     let end = row_at_once(near, r, left)?;
     if end.was_done() {
-        near.hold_again(f, r);
+        near.hold_again(f, r, end);
     }
     Ok(end)
 }
@@ -50,6 +50,7 @@ pub fn step_at_once<M: Memory>(m: &mut M, f: &mut Frame, w: &mut World) -> Resul
     let mut left = Deed::Nothing;
     match step_from(&mut near, f, &mut r, &mut left)? {
         RowEnd::ToForesee => Ok(false),
+        RowEnd::Stays => Ok(true),
         RowEnd::Done => Ok(true),
         RowEnd::Leaves => {
             carry_out(m, w, left);

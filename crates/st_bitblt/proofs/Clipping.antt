@@ -1,5 +1,5 @@
 -- Clipping by integers is clipping by the numbers that are 16384 more.
-use Rattle.std.proofs.Common.{◌≡◌, ℕ, ◌+◌, ◌-◌, ◌<◌, Bool, true, false, Option, Some, None, refl, arith}
+use Rattle.std.proofs.Common.{◌≡◌, ℕ, ◌+◌, ◌-◌, ◌<◌, Bool, true, Option, Some, None, refl, arith}
 use Rattle.std.specs.Prelude.{ℤ, pos, negsuc, ◌+ℤ◌, ◌<ℤ◌, ◌≤ℤ◌, int_le, int_lt, nat_lt, ◌&&◌}
 use Rattle.std.proofs.lemmas.Int.{ints}
 use Rattle.std.proofs.lemmas.Bool.Decides.{nat_tests}
@@ -9,18 +9,8 @@ use Rattle.st_bitblt.specs.declared.span.Lines.{Lines}
 use Rattle.st_bitblt.specs.declared.span.Span.{Span}
 use Rattle.st_bitblt.specs.Reading.{axis_of}
 use Rattle.st_bitblt.specs.Spans.{Takes, IsClipped, IsSpan}
-
-le_true : (a b : ℤ) → a ≤ℤ b → int_le a b ≡ true
-le_true (pos a) (pos b) l = grind (arith, ints, l)
-le_true (pos a) (negsuc b) l = grind (arith, ints, l)
-le_true (negsuc a) (pos b) l = grind (arith, ints, l)
-le_true (negsuc a) (negsuc b) l = grind (arith, ints, l)
-
-lt_true : (a b : ℤ) → a <ℤ b → int_lt a b ≡ true
-lt_true (pos a) (pos b) l = grind (arith, ints, l)
-lt_true (pos a) (negsuc b) l = grind (arith, ints, l)
-lt_true (negsuc a) (pos b) l = grind (arith, ints, l)
-lt_true (negsuc a) (negsuc b) l = grind (arith, ints, l)
+use Rattle.std.proofs.lemmas.Bool.{and_parts, and_from}
+use Rattle.st_model.proofs.IntegerTests.{le_true, lt_true}
 
 true_le : (a b : ℤ) → int_le a b ≡ true → a ≤ℤ b
 true_le (pos a) (pos b) e = grind (arith, ints, e)
@@ -34,14 +24,6 @@ true_lt (pos a) (negsuc b) e = grind (arith, ints, e)
 true_lt (negsuc a) (pos b) e = grind (arith, ints, e)
 true_lt (negsuc a) (negsuc b) e = grind (arith, ints, e)
 
-both : (a b : Bool) → a ≡ true → b ≡ true → (a && b) ≡ true
-both true b e f = f
-both false b e f = cc
-
-parts : (a b : Bool) → (a && b) ≡ true → (a ≡ true) × (b ≡ true)
-parts true b e = (refl, e)
-parts false b e = cc
-
 -- what is copied to, in the order of integers
 record Copies (a : Axis) (lines : ℕ) (source_lines : Option ℕ) (d : ℕ) : Type 0 where
   within : d < lines
@@ -54,18 +36,18 @@ record Copies (a : Axis) (lines : ℕ) (source_lines : Option ℕ) (d : ℕ) : T
 copies_when : (a : Axis) (lines : ℕ) (source_lines : Option ℕ) (d : ℕ) → Copies a lines source_lines d → copies_to a lines source_lines d ≡ true
 unfolding copies_to
 copies_when a lines source_lines d c =
-    both _ _ (grind (arith, nat_tests, c.within))
-    (both _ _ (both _ _ (le_true a.to (pos d) c.low) (lt_true (pos d) (a.to +ℤ a.count) c.high))
-    (both _ _ (both _ _ (le_true a.clip (pos d) c.clip_low) (lt_true (pos d) (a.clip +ℤ a.clip_count) c.clip_high)) c.source))
+    and_from _ _ (grind (arith, nat_tests, c.within))
+    (and_from _ _ (and_from _ _ (le_true a.to (pos d) c.low) (lt_true (pos d) (a.to +ℤ a.count) c.high))
+    (and_from _ _ (and_from _ _ (le_true a.clip (pos d) c.clip_low) (lt_true (pos d) (a.clip +ℤ a.clip_count) c.clip_high)) c.source))
 
 copies_then : (a : Axis) (lines : ℕ) (source_lines : Option ℕ) (d : ℕ) → copies_to a lines source_lines d ≡ true → Copies a lines source_lines d
 unfolding copies_to
 copies_then a lines source_lines d e =
-    let p = parts (nat_lt d lines) _ e in
-    let q = parts (is_among a.to a.count (pos d)) _ p.1 in
-    let r = parts (is_among a.clip a.clip_count (pos d)) _ q.1 in
-    let x = parts (int_le a.to (pos d)) _ q.0 in
-    let y = parts (int_le a.clip (pos d)) _ r.0 in
+    let p = and_parts (nat_lt d lines) _ e in
+    let q = and_parts (is_among a.to a.count (pos d)) _ p.1 in
+    let r = and_parts (is_among a.clip a.clip_count (pos d)) _ q.1 in
+    let x = and_parts (int_le a.to (pos d)) _ q.0 in
+    let y = and_parts (int_le a.clip (pos d)) _ r.0 in
     record {
       within = grind (arith, nat_tests, p.0);
       low = true_le a.to (pos d) x.0;
@@ -95,11 +77,11 @@ module _ (d : Direction) (lines : ℕ) where
   source_line : (n k s : ℕ) → Takes (lines_from d.from n) k s → has_line (Some n) (line_from (axis_of d) k) ≡ true
   source_line n k s t =
       let e = source_taken n k s t in
-      rw e (both _ _ (le_true (pos 0) (pos s) (omega (arith, ints))) (lt_true (pos s) (pos 0 +ℤ pos n) (omega (arith, ints, t.source))))
+      rw e (and_from _ _ (le_true (pos 0) (pos s) (omega (arith, ints))) (lt_true (pos s) (pos 0 +ℤ pos n) (omega (arith, ints, t.source))))
 
   from_source : (n k : ℕ) → Copies (axis_of d) lines (Some n) k → (s : ℕ) × Takes (lines_from d.from n) k s
   from_source n k c =
-      let p = parts (int_le (pos 0) (line_from (axis_of d) k)) _ c.source in
+      let p = and_parts (int_le (pos 0) (line_from (axis_of d) k)) _ c.source in
       let low = true_le (pos 0) (line_from (axis_of d) k) p.0 in
       let high = true_lt (line_from (axis_of d) k) (pos 0 +ℤ pos n) p.1 in (
         d.from + k - d.to,

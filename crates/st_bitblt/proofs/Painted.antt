@@ -5,7 +5,7 @@ use Rattle.std.specs.Int.{bit_at}
 use Rattle.std.specs.Option.{option_map}
 use Rattle.std.proofs.Math.Nat.{add-mul, mul_assoc, mul_comm, mul-add-mod_self_right, mul-add-div_right, mod-eq_of_lt, div-eq_of_lt}
 use Rattle.std.proofs.lemmas.Nat.{div-add-mod'}
-use Rattle.std.proofs.lemmas.Bool.{cases_order}
+use Rattle.std.proofs.lemmas.Bool.{cases_order, and_parts, and_from}
 use Rattle.st_model.specs.Values.{Value, word}
 use Rattle.st_model.specs.View.{View}
 use Rattle.st_model.specs.Pixels.{AllFit, pixel, combine, row_words}
@@ -26,6 +26,7 @@ use Rattle.st_bitblt.specs.Painting.{bits_of, width_of, height_of, source_words,
 use Rattle.st_bitblt.proofs.Bits.{ones_bit}
 use Rattle.st_bitblt.proofs.Words.{words_same}
 use Rattle.st_bitblt.proofs.RowLaws.{row_before}
+use Rattle.st_model.proofs.SettledIs.{bool_cases}
 
 -- what was read and clipped of a BitBlt
 pub record IsPlan (old : View) (b : BitBlt) (x y : Span) (a : Layout) (pen : Pen) : Type 0 where
@@ -72,18 +73,6 @@ source_is v (Some f) u w i j k hu hw e =
 tone_is : (v : View) (h : Option Form) (tone x y : ℕ) → tone ≡ tone_at v h (y % 16) → bit_at tone (15 - x % 16) ≡ halftone_pixel (option_map (form_in v.objects) h) x y
 tone_is v None tone x y e = ap (λ z. bit_at z (15 - x % 16)) e ∙ ones_bit (15 - x % 16) (omega arith)
 tone_is v (Some f) tone x y e = ap (λ z. bit_at z (15 - x % 16)) e
-
-parts : (a b : Bool) → (a && b) ≡ true → (a ≡ true) × (b ≡ true)
-parts true b e = (refl, e)
-parts false b e = cc
-
-both : (a b : Bool) → a ≡ true → b ≡ true → (a && b) ≡ true
-both true b e f = f
-both false b e f = cc
-
-true_or_false : (b : Bool) → (b ≡ true) ⊎ (b ≡ false)
-true_or_false true = inl refl
-true_or_false false = inr refl
 
 after_copied : (c : Copy) (x y d : ℕ) → is_copied c x y ≡ true → pixel_after c x y d ≡ formula c x y d
 unfolding pixel_after
@@ -139,7 +128,7 @@ module _ (old new : View) (b : BitBlt) (x y : Span) (a : Layout) (pen : Pen) (pl
 
   copied_lines : (u v : ℕ) → is_copied copy u v ≡ true → ((x.to ≤ u) × (u < x.to + x.count)) × ((y.to ≤ v) × (v < y.to + y.count))
   copied_lines u v e =
-      let p = parts (copies_to copy.across copy.destination.width (option_map (λ (f : ModelForm). f.width) copy.source) u) _ e in
+      let p = and_parts (copies_to copy.across copy.destination.width (option_map (λ (f : ModelForm). f.width) copy.source) u) _ e in
       (plan.across.all u (rw (widths old b.source) at p.0), plan.down.all v (rw (heights old b.source) at p.1))
 
   pub place_in : (i j : ℕ) → a.p + j * a.along + i ≡ (y.to + j) * (16 * row) + (x.to + i)
@@ -195,7 +184,7 @@ module _ (old new : View) (b : BitBlt) (x y : Span) (a : Layout) (pen : Pen) (pl
         let hx : i < x.count = omega (arith, plan.layout.n, hi) in
         let hy : j < y.count = omega (arith, plan.layout.height, hj) in
         let m = row_of row k (x.to + i) (y.to + j) (column_within i hx) (q ∙ place_in i j) in
-        let c : is_copied copy (x.to + i) (y.to + j) ≡ true = both _ _ (column_copied i hx) (row_copied j hy) in
+        let c : is_copied copy (x.to + i) (y.to + j) ≡ true = and_from _ _ (column_copied i hx) (row_copied j hy) in
         let d : is_copied copy (k % row_pixels copy) (k / row_pixels copy) ≡ true = ap (λ z. is_copied copy z (k / row_pixels copy)) m.0 ∙ ap (is_copied copy (x.to + i)) m.1 ∙ c in
         cc
 
@@ -213,7 +202,7 @@ module _ (old new : View) (b : BitBlt) (x y : Span) (a : Layout) (pen : Pen) (pl
         ]
 
     each_pixel : (k : ℕ) → pixel (words new dest) k ≡ painted_pixel copy k
-    each_pixel k = elim (true_or_false (is_copied copy (k % row_pixels copy) (k / row_pixels copy))) [
+    each_pixel k = elim (bool_cases (is_copied copy (k % row_pixels copy) (k / row_pixels copy))) [
       | inl e ↦ copied_pixel k e
       | inr e ↦ r.outside k (λ j hj. beside_row k j e hj) ∙ sym (after_left copy _ _ (pixel (words old dest) k) e)
     ]
@@ -233,9 +222,9 @@ nothing_painted old b x span none has fit =
     c = copy_in old.objects b
 
     not_copied : (u v : ℕ) → is_copied c u v ≡ false
-    not_copied u v = elim (true_or_false (is_copied c u v)) [
+    not_copied u v = elim (bool_cases (is_copied c u v)) [
       | inl e ↦
-          let p = parts (copies_to c.across c.destination.width (option_map (λ (f : ModelForm). f.width) c.source) u) _ e in
+          let p = and_parts (copies_to c.across c.destination.width (option_map (λ (f : ModelForm). f.width) c.source) u) _ e in
           let l = span.all u (rw (widths old b.source) at p.0) in
           absurd (omega (arith, l, none))
       | inr e ↦ e

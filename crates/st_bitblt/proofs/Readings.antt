@@ -6,12 +6,11 @@ use Rattle.st_model.specs.declared.dead.Dead.{Dead}
 use Rattle.st_model.specs.declared.dead.Dead.TheVariants as dead
 use Rattle.st_model.specs.declared.kind.Kind.{Kind}
 use Rattle.st_model.specs.declared.page.PageObject.TheVariants.{NilObject}
-use Rattle.st_model.specs.Values.{Value, Small, Ref, value_of, is_small}
+use Rattle.st_model.specs.Values.{Value, Ref, value_of}
 use Rattle.st_model.specs.Objects.{Object, is_words}
 use Rattle.st_model.specs.Machine.{ObjectMemory, State, Transition, Died, Went, Step, answer, die, after, ◌>>=◌, ◌>>◌}
 use Rattle.st_model.specs.Table.{Table, table, entry, IsTabular}
-use Rattle.st_model.specs.Steps.{found, object_named, object, check, or_die, fetch_kind, fetch_word, fetch_field, of_page, same_value}
-use Rattle.st_model.specs.Primitives.{bits_or_die}
+use Rattle.st_model.specs.Steps.{object, check, or_die, fetch_kind, fetch_word, fetch_field, of_page, same_value}
 use Rattle.st_model.specs.Deeds.{over_table}
 use Rattle.st_model.specs.View.{is_live, object_of, nothing}
 use Rattle.st_model.specs.Calls.{Reads, itself}
@@ -22,26 +21,7 @@ use Rattle.st_model.proofs.Tabular.{object-as}
 use Rattle.st_model.proofs.Runs.{run-live}
 use Rattle.st_model.proofs.Words.{value_of-nil}
 use Rattle.st_bitblt.specs.Reading.{units_in, HasWordsIn, checked_words}
-
-bits_small : (b : Bool) (n : ℕ) (s : State Table) → is_small (if b then Small n else Ref n) ≡ true → (bits_or_die (if b then Small n else Ref n)).run s ≡ Went n s
-unfolding bits_or_die answer
-bits_small true n s e = refl
-bits_small false n s e = cc
-
-bits_large : (b : Bool) (n : ℕ) (s : State Table) → is_small (if b then Small n else Ref n) ≡ false → (bits_or_die (if b then Small n else Ref n)).run s ≡ Died dead.NotSmall
-unfolding bits_or_die die
-bits_large true n s e = cc
-bits_large false n s e = refl
-
-pub bits-small : (w : ℕ) (s : State Table) → is_small (value_of w) ≡ true → (bits_or_die (value_of w)).run s ≡ Went (w / 2) s
-unfolding value_of
-bits-small w s e = bits_small (w % 2 == 1) (w / 2) s e
-
-pub bits-large : (w : ℕ) (s : State Table) → is_small (value_of w) ≡ false → (bits_or_die (value_of w)).run s ≡ Died dead.NotSmall
-unfolding value_of
-bits-large w s e = bits_large (w % 2 == 1) (w / 2) s e
-
-pub ruleset bits = (bits-small, bits-large)
+use Rattle.st_model.proofs.Looking.{object-went}
 
 -- the words of an object
 
@@ -54,16 +34,6 @@ went_at : {A : Type 0} (x : Transition (State Table) Object) (g : Object → A) 
 unfolding after
 went_at (Died k) g a u e = cc
 went_at (Went o t) g a u e = let q : g o ≡ a = cc in let r : t ≡ u = cc in (o, ap (Went o) r, q)
-
-found_went : (x : Option Object) (s u : State Table) (o : Object) → (found x).run s ≡ Went o u → x ≡ Some o
-unfolding found die answer
-found_went None s u o e = cc
-found_went (Some p) s u o e = let q : p ≡ o = cc in ap Some q
-
-object_went : (v : Value) (s u : State Table) (o : Object) → (object table v).run s ≡ Went o u → (n : ℕ) × (v ≡ Ref n) × (entry s.memory n ≡ Some o)
-unfolding object object_named die
-object_went (Small n) s u o e = cc
-object_went (Ref n) s u o e = (n, refl, found_went (entry s.memory n) s u o e)
 
 some_below : (us : List ℕ) (i : ℕ) (s : State Table) (w : ℕ) → (or_die dead.Field (slice_get us i)).run s ≡ Went w s → i < length us
 unfolding or_die die
@@ -84,7 +54,7 @@ module _ {m : ObjectMemory Table} (h : IsTabular m) (v : Value) (t : Table) wher
   kind_object k s q e =
       let x = went_at ((object m v).run s) (λ (o : Object). o.kind) k s e in
       let a : (object table v).run s ≡ Went x.0 s = ap (λ (st : Step Table Object). st.run s) (sym (object-as h v)) ∙ x.1 in
-      let b = object_went v s s x.0 a in
+      let b = object-went v s s x.0 a in
       let f : entry t b.0 ≡ Some x.0 = ap (λ u. entry u b.0) (sym q) ∙ b.2 in
       let g : object_of t v ≡ x.0 = ap (object_of t) b.1 ∙ ap (λ y. unwrap_or y nothing) f in
       (x.1 ∙ ap (λ o. Went o s) (sym g), sym x.2 ∙ ap (λ (o : Object). o.kind) (sym g), ap (is_live t) b.1 ∙ ap is_some f)

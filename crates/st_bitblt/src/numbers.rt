@@ -10,7 +10,7 @@ use st_memory::Objects;
 use st_model::{Dead, Word};
 
 /// The number in a field that holds a SmallInteger of at least 0.
-#[tactic(auto, using(st_model::proofs::Runs::runs, st_model::proofs::Runs::tests, crate::proofs::Readings::bits), unfolding(st_model::specs::BitBlt::fetch_positive, st_model::specs::Primitives::positive_small))]
+#[tactic(auto, using(st_model::proofs::Runs::runs, st_model::proofs::Runs::tests, st_model::proofs::SmallBits::bits), unfolding(st_model::specs::BitBlt::fetch_positive, st_model::specs::Primitives::positive_small))]
 pub fn fetch_positive<O: Objects>(m: &O, o: Word, i: u32) -> Result<u32, Dead>
     ensures does { Reads (fetch_positive O.names (word o) i) itself (O.table m.now) result }
     ensures small { IfOk result (λ n. n < 16384) }

@@ -5,37 +5,20 @@ use Rattle.std.specs.Prelude.{slice_get, Option, Some, None, unwrap_or, is_some,
 use Rattle.st_model.specs.declared.kind.Kind.{Kind}
 use Rattle.st_model.specs.declared.kind.Kind.TheVariants as kind
 use Rattle.st_model.specs.Values.{Value, Small, Ref}
-use Rattle.st_model.specs.Objects.{Object, is_pointers, is_words, is_bytes, holds_fields, first_unit, size_of}
+use Rattle.st_model.specs.Objects.{Object, is_bytes, first_unit, size_of}
 use Rattle.st_model.specs.Table.{Table, entry}
 use Rattle.st_model.specs.View.{View, IsWhole, is_live, object_of, nothing}
 use Rattle.st_model.specs.Text.{escaped, said_text}
 use Rattle.st_memory.proofs.Bodies.{no_fields}
 use Rattle.st_call.specs.Saying.{said_in}
-
-fields_not : (k : Kind) → is_bytes k ≡ true → holds_fields k ≡ false
-fields_not kind.Pointers e = cc
-fields_not kind.Words e = cc
-fields_not kind.Bytes e = refl
-fields_not kind.Method e = cc
-
-pointers_not : (k : Kind) → is_bytes k ≡ true → is_pointers k ≡ false
-pointers_not kind.Pointers e = cc
-pointers_not kind.Words e = refl
-pointers_not kind.Bytes e = refl
-pointers_not kind.Method e = refl
-
-pub words_not : (k : Kind) → is_bytes k ≡ true → is_words k ≡ false
-words_not kind.Pointers e = refl
-words_not kind.Words e = cc
-words_not kind.Bytes e = refl
-words_not kind.Method e = refl
+use Rattle.st_model.proofs.KindTests.{text_fields, text_pointers}
 
 module _ {v : View} (whole : IsWhole v) (x : Value) (live : is_live v.objects x ≡ true) (kind : is_bytes (object_of v.objects x).kind ≡ true) where
   pub first_none : first_unit (object_of v.objects x) ≡ 0
-  first_none = let f = no_fields x whole live (fields_not (object_of v.objects x).kind kind) in omega (arith, f)
+  first_none = let f = no_fields x whole live (text_fields (object_of v.objects x).kind kind) in omega (arith, f)
 
   pub size_is : size_of (object_of v.objects x) ≡ length (object_of v.objects x).units
-  size_is = rw (pointers_not (object_of v.objects x).kind kind) (let f = first_none in omega (arith, f))
+  size_is = rw (text_pointers (object_of v.objects x).kind kind) (let f = first_none in omega (arith, f))
 
   pub unit_is : (i b : ℕ) → slice_get (object_of v.objects x).units (i - first_unit (object_of v.objects x)) ≡ Some b → slice_get (object_of v.objects x).units i ≡ Some b
   unit_is i b e = let f = first_none in let z : i ≡ i - first_unit (object_of v.objects x) = omega (arith, f) in ap (slice_get (object_of v.objects x).units) z ∙ e

@@ -1,6 +1,6 @@
 -- The lines of the objects up to a place, and up to the next one that there is.
 use Rattle.std.proofs.Common.{◌≡◌, ℕ, ◌+◌, ◌*◌, ◌/◌, ◌<◌, ◌≤◌, zero, suc, true, false, [], ◌∷◌, ◌++◌, length, take, drop, refl, sym, ap, subst, ◌∙◌, arith, append_assoc, append-nil}
-use Rattle.std.specs.Prelude.{Option, Some, None, is_some, unwrap_or, ◌%◌, ◌==◌}
+use Rattle.std.specs.Prelude.{Option, Some, None, ◌%◌, ◌==◌}
 use Rattle.std.proofs.lemmas.Bool.Decides.{nat_tests}
 use Rattle.st_model.specs.declared.oop.Oop.{Oop}
 use Rattle.st_model.specs.Values.{Ref, value, value_of}
@@ -9,6 +9,7 @@ use Rattle.st_model.specs.Table.{Table, entry}
 use Rattle.st_model.specs.View.{is_live, object_of, nothing}
 use Rattle.st_memory.proofs.Bodies.{even_pointer}
 use Rattle.st_model.specs.Text.{object_text, objects_text}
+use Rattle.st_writer.proofs.Places.{some_there, none_there}
 
 -- nothing stands from one place up to another
 abbrev pub IsEmptyFrom : Table → ℕ → ℕ → Type 0
@@ -75,21 +76,13 @@ value_of-even j =
     let h : (2 * j) / 2 ≡ j = grind arith in
     rw b (ap Ref h)
 
-none_of : (e : Option Object) → is_some e ≡ false → e ≡ None
-none_of None q = refl
-none_of (Some o) q = cc
-
-some_of : (e : Option Object) → is_some e ≡ true → e ≡ Some (unwrap_or e nothing)
-some_of None q = cc
-some_of (Some o) q = refl
-
 dead_place : (t : Table) (j : ℕ) → is_live t (Ref j) ≡ false → entry t j ≡ None
 unfolding is_live
-dead_place t j dead = none_of (entry t j) dead
+dead_place t j dead = none_there (entry t j) dead
 
 live_place : (t : Table) (j : ℕ) → is_live t (Ref j) ≡ true → entry t j ≡ Some (object_of t (Ref j))
 unfolding is_live object_of
-live_place t j live = some_of (entry t j) live
+live_place t j live = some_there (entry t j) live
 
 pub live_entry : (t : Table) (w : ℕ) → is_live t (value_of w) ≡ true → entry t (w / 2) ≡ Some (object_of t (value_of w))
 live_entry t w live =

@@ -20,7 +20,7 @@ use Rattle.st_changes.proofs.ListTexts.{more_of, all_more}
 pub one_selector : (text s t : List ℕ) → HasSelector text s → HasSelector text t → s ≡ t
 one_selector text s t x y = sym x.is ∙ ap (λ (v : MethodView). v.selector) (tree_determined text x.tree y.tree x.means y.means) ∙ y.is
 
-none_of : (P : Definition → Type 0) → All P []
+pub none_of : (P : Definition → Type 0) → All P []
 none_of P k x less = absurd (omega arith)
 
 -- an entry is that of one definition

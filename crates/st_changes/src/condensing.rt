@@ -2,7 +2,7 @@
 ghost use Rattle.std.specs.Prelude.{◌≡◌, ◌⊎◌, ◌≤◌, ◌+◌, ◌<◌, ◌^◌, ◌++◌, ◌∷◌, [], List, All, IfOk, get_or, true, Some, Err, IsTrue, IsErr, OnErr, OnOk, nat_lt, length, take, drop};
 ghost use Rattle.st_host.specs.Pieces.{end_of, Pushes};
 ghost use Rattle.st_host.specs.Runs.{IsSynced, WritesAbove, Makes, ChangesBoth, IsAtRest};
-ghost use Rattle.st_changes.specs.declared.condense_fault.CondenseFault.TheVariants.{OutOfMemory};
+ghost use Rattle.st_host.specs.declared.file_fault.FileFault.TheVariants.{OutOfMemory};
 ghost use Rattle.st_store.specs.Names.{roots_file, changes_file};
 ghost use Rattle.st_store.specs.Stored.{Stored, Opens, IsKept};
 ghost use Rattle.st_store.specs.Faults.{RestsUnlessGate};
@@ -16,12 +16,11 @@ ghost use Rattle.st_changes.specs.Condensing.{Tells, Stays, kept_by, turned, Con
 
 use crate::Definition;
 use crate::changes::Changes;
-use crate::condense_fault::CondenseFault;
 use crate::index::Index;
 use crate::noting::text_span;
 use crate::selector::find_selector;
 use crate::writing::{entry_length, entry_text};
-use st_host::{Host, HostFault, Piece, cut_file};
+use st_host::{FileFault, Host, HostFault, Piece, cut_file};
 use st_store::{Root, Store};
 use std::alloc::{AllocError, Global};
 
@@ -120,7 +119,7 @@ fn push_kept<H: Host>(
     name: &str,
     listed: &[Definition],
     marks: &[bool],
-) -> Result<Pushed, CondenseFault>
+) -> Result<Pushed, FileFault>
     requires { end_of piece.old + length (entries (definitions_of listed.now)) < 2 ^ 64 }
     ensures pushes { Extends H.Host.own name.now (entries (kept_by marks.now (definitions_of listed.now)))
         host.old host.new piece.old piece.new result }
@@ -157,7 +156,7 @@ fn write_kept<H: Host>(
     front: &[Definition],
     marks: &[bool],
     behind: &[Definition],
-) -> Result<Written, CondenseFault>
+) -> Result<Written, FileFault>
     requires { length (entries (definitions_of front.now)) + length (entries (definitions_of behind.now))
         < 2 ^ 64 }
     ensures base { IfOk result (λ w. w.base
@@ -201,6 +200,9 @@ pub struct Condensed {
     pub before: u32,
     pub after: u32,
 }
+
+/// Why a store isn't condensed.
+pub type CondenseFault = FileFault;
 
 /// Writes the other changes file without the definitions before the base that later ones supersede, and goes over to it: whole,
 /// or not at all. After an error the store is opened again.

@@ -1,11 +1,10 @@
 // The header of a group, written with single spaces.
 ghost use Rattle.std.specs.Prelude.{◌≡◌, ◌≤◌, ◌++◌, IfOk, length, take, drop};
-ghost use Rattle.std.specs.List.{prefix_len};
-ghost use Rattle.std.specs.Char.{is_ascii_alphanumeric};
 ghost use Rattle.st_chunk.specs.Groups.{is_name};
 ghost use Rattle.st_changes.specs.Entries.{FindsSide, FindsHeader};
 
 use crate::run::find_run;
+use st_chunk::word_length;
 use st_scan::Text;
 use std::alloc::{AllocError, Global};
 
@@ -15,16 +14,6 @@ pub(crate) struct Header {
     pub(crate) class: Text,
     pub(crate) meta: bool,
     pub(crate) category: Text,
-}
-
-/// How many letters and digits stand at the front of a text.
-fn word_length(text: &[u8]) -> usize
-    ensures exact { result ≡ prefix_len is_ascii_alphanumeric text.now }
-    ensures within { result ≤ length text.now }
-{
-    text.iter()
-        .take_while(|b| b.is_ascii_alphanumeric())
-        .count()
 }
 
 /// Whether the text names the class side, and how many bytes stand before the category's. None where the text doesn't go

@@ -4,7 +4,6 @@
 
 mod appending;
 mod changes;
-mod condense_fault;
 mod condensing;
 mod counting;
 mod definition;
@@ -21,8 +20,7 @@ mod span;
 mod writing;
 
 pub use changes::Changes;
-pub use condense_fault::CondenseFault;
-pub use condensing::{Condensed, condense};
+pub use condensing::{CondenseFault, Condensed, condense};
 pub use definition::Definition;
 pub use laws::{condensing_keeps_last, one_damage, one_list};
 pub use loading::load;

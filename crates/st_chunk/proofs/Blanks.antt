@@ -1,15 +1,12 @@
 -- Blanks at the ends of a text.
-use Rattle.std.proofs.Common.{◌≡◌, ℕ, ◌+◌, ◌-◌, ◌<◌, suc, Bool, true, false, List, [], ◌∷◌, length, take, drop, get_or, reverse, refl, sym, ap, ◌∙◌, arith, add-one, length-drop}
+use Rattle.std.proofs.Common.{◌≡◌, ℕ, ◌+◌, ◌-◌, ◌<◌, suc, true, false, List, [], ◌∷◌, length, take, drop, get_or, reverse, refl, sym, ap, ◌∙◌, arith, add-one, length-drop}
 use Rattle.std.specs.List.{prefix_len}
 use Rattle.std.proofs.lemmas.List.{reverse-append, reverse-reverse, take_all}
 use Rattle.std.proofs.Math.Seq.{take-suc}
 use Rattle.st_chunk.specs.Texts.{is_blank}
 use Rattle.st_chunk.specs.Groups.{after_blanks}
 use Rattle.st_chunk.specs.Headings.{before_blanks}
-
-by_test : {P : Type 0} (t : Bool) → (t ≡ true → P) → (t ≡ false → P) → P
-by_test true passed failed = passed refl
-by_test false passed failed = failed refl
+use Rattle.st_chunk.proofs.Cases.{by_test}
 
 one : (n : ℕ) → 1 + n ≡ suc n
 one n = omega arith

@@ -8,10 +8,7 @@ use Rattle.st_chunk.specs.declared.cutting.Phase.TheVariants.{Within, Marked, To
 use Rattle.st_chunk.specs.declared.cutting.Fed.TheVariants as answers
 use Rattle.st_chunk.specs.Texts.{mark, most, is_blank, is_empty}
 use Rattle.st_chunk.specs.Feeding.{State, with_byte, fed_in, fed, carried_from, answer, MayGoOn}
-
-by_test : {P : Type 0} (t : Bool) → (t ≡ true → P) → (t ≡ false → P) → P
-by_test true passed failed = passed refl
-by_test false passed failed = failed refl
+use Rattle.st_chunk.proofs.Cases.{by_test}
 
 abbrev blank_as : State → List ℕ → ℕ → Type 0
 blank_as t bytes b = is_empty t.bytes ≡ (is_empty bytes && ((length t.bytes == length bytes) || is_blank b))

@@ -19,10 +19,7 @@ use Rattle.st_chunk.specs.Reading.{Place, InLine, Browsed, Opened, InHeader, InM
 use Rattle.st_chunk.specs.Scripts.{IsBrowsed, IsDefined, IsHeading, IsSound}
 use Rattle.st_chunk.proofs.FedBytes.{short_fed}
 use Rattle.st_chunk.proofs.Sound.{heading_sound, method_sound}
-
-by_test : {P : Type 0} (t : Bool) → (t ≡ true → P) → (t ≡ false → P) → P
-by_test true passed failed = passed refl
-by_test false passed failed = failed refl
+use Rattle.st_chunk.proofs.Cases.{by_test}
 
 -- LINES ASK FOR NO DEFINITION, AND FOR A LOOK ONLY WHERE THEY SAY AT WHAT; THE MOUSE IS WHERE IT MAY BE
 

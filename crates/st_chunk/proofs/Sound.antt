@@ -11,10 +11,7 @@ use Rattle.st_chunk.specs.Groups.{begins, is_name, after_blanks, trimmed, word_o
 use Rattle.st_chunk.specs.Definitions.{IsDefinition}
 use Rattle.st_chunk.specs.Scripts.{method_of, IsHeading}
 use Rattle.st_chunk.specs.Headings.{class_side_in, category_in}
-
-by_test : {P : Type 0} (t : Bool) → (t ≡ true → P) → (t ≡ false → P) → P
-by_test true passed failed = passed refl
-by_test false passed failed = failed refl
+use Rattle.st_chunk.proofs.Cases.{by_test}
 
 -- PARTS OF A HEADER
 

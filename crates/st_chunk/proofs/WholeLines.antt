@@ -12,7 +12,7 @@ use Rattle.st_chunk.specs.Scripts.{asked_by, asked_from, IsWholeLine, line_read}
 abbrev line_at : ℕ → List ℕ → Reading
 line_at n text = record { place = InLine text; line = n; start = n }
 
-no_feed : (t : Bool) → not t ≡ true → t ≡ false
+pub no_feed : (t : Bool) → not t ≡ true → t ≡ false
 no_feed true e = cc
 no_feed false e = refl
 

@@ -8,10 +8,7 @@ use Rattle.std.specs.Int.{is_in_range}
 use Rattle.std.specs.Char.{is_ascii_alphabetic, is_ascii_alphanumeric}
 use Rattle.std.proofs.Math.Seq.{drop-cons}
 use Rattle.st_chunk.specs.Groups.{begins, is_name, word_of, behind_word, behind}
-
-by_test : {P : Type 0} (t : Bool) → (t ≡ true → P) → (t ≡ false → P) → P
-by_test true passed failed = passed refl
-by_test false passed failed = failed refl
+use Rattle.st_chunk.proofs.Cases.{by_test}
 
 one : (n : ℕ) → 1 + n ≡ suc n
 one n = omega arith

@@ -58,7 +58,7 @@ pub fn trimmed(text: &[u8]) -> &[u8]
 }
 
 /// How many letters and digits stand at the front of a text.
-fn word_length(text: &[u8]) -> usize
+pub fn word_length(text: &[u8]) -> usize
     ensures exact { result ≡ prefix_len is_ascii_alphanumeric text.now }
     ensures within { result ≤ length text.now }
 {

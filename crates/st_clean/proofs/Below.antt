@@ -13,16 +13,13 @@ use Rattle.st_model.proofs.SettledLemmas.{settled-entry, entry-settled}
 use Rattle.st_model.proofs.WholeLemmas.{live_used, used_live}
 use Rattle.st_clean.specs.Reach.{IsClosed}
 use Rattle.st_clean.specs.Filling.{below, FilledBelow, HasRoom, Puts, only}
-use Rattle.st_clean.proofs.Pointers.{small_live}
 use Rattle.st_clean.proofs.Places.{with-ref, free_ref, object-ref}
+use Rattle.st_model.proofs.Reclaiming.{length-settled}
+use Rattle.st_model.proofs.Making.{live_even}
 
 none_of : (e : Option Object) → e ≡ None → (b : Bool) → (if b then e else None) ≡ None
 none_of e h true = h
 none_of e h false = refl
-
-pub length-settled : (t : Table) (keep : ℕ → Bool) → length (settled_table t keep) ≡ length t
-length-settled [] keep = refl
-length-settled (e ∷ t) keep = ap (λ n. suc n) (length-settled t (λ k. keep (suc k)))
 
 settled_none : (t : Table) (set : ℕ → Bool) → settled_table t (below 0 set) ≡ replicate (length t) None
 settled_none [] set = refl
@@ -137,7 +134,7 @@ module _ (v : View) (set : ℕ → Bool) (whole : IsWhole v) (c : IsClosed v.obj
 
   table_stays : (r : Option Value) → ((n : ℕ) → AnyRefTo n (table_root r) → IsTrue (set n)) → ((x : Value) → r ≡ Some x → is_live v.objects x ≡ true) → (x : Value) → r ≡ Some x → is_live t x ≡ true
   table_stays None f h x e = cc
-  table_stays (Some (Small n)) f h x e = let l = small_live v.objects (Small n) (h (Small n) refl) in cc
+  table_stays (Some (Small n)) f h x e = let l = live_even v.objects (Small n) (h (Small n) refl) in cc
   table_stays (Some (Ref n)) f h x e = subst (λ y. is_live t y ≡ true) (same_some (Ref n) x e) (live_stays n (f n (inl refl)) (h (Ref n) refl))
     where
       same_some : (a b : Value) → Some a ≡ Some b → a ≡ b

@@ -1,8 +1,8 @@
 -- Tables of objects in which one place is given an object.
-use Rattle.std.proofs.Common.{◌≡◌, ℕ, zero, suc, ◌+◌, ◌<◌, [], ◌∷◌, length, true, false, get_or, Option, Some, None, refl, sym, ap, ◌∙◌, subst, arith}
+use Rattle.std.proofs.Common.{◌≡◌, ℕ, ◌+◌, ◌<◌, [], ◌∷◌, length, true, false, Some, None, refl, sym, ap, ◌∙◌, subst, arith}
 use Rattle.std.specs.Prelude.{slice_set, slice_get, unwrap_or, is_some}
-use Rattle.std.proofs.lemmas.List.{set-set, get_or-set_same}
-use Rattle.std.proofs.Math.ListN.{length-set, set}
+use Rattle.std.proofs.lemmas.List.{set-set}
+use Rattle.std.proofs.Math.ListN.{length-set}
 use Rattle.st_model.specs.Values.{Value, Ref}
 use Rattle.st_model.specs.Objects.{Object, with_field, object_with_unit, is_method}
 use Rattle.st_model.specs.Formed.{IsHeader}
@@ -10,26 +10,7 @@ use Rattle.st_model.specs.Table.{Table, entry, changed}
 use Rattle.st_model.specs.View.{View, is_live, object_of, nothing, with_object, with_stored, with_unit}
 use Rattle.st_clean.specs.Filling.{IsPart, Puts, PutsPart, IsAmong}
 use Rattle.st_clean.proofs.Parts.{part_field, part_unit, part_whole}
-
-pub entry-get : (t : Table) (k : ℕ) → entry t k ≡ get_or t k None
-entry-get [] k = refl
-entry-get (e ∷ t) zero = refl
-entry-get (e ∷ t) (suc k) = entry-get t k
-
-pub entry-set_same : (t : Table) (k : ℕ) (e : Option Object) → k < length t → entry (slice_set t k e) k ≡ e
-entry-set_same t k e k_in = entry-get (slice_set t k e) k ∙ get_or-set_same t k e None k_in
-
-changed-set : (t : Table) (k : ℕ) (o p : Object) → entry t k ≡ Some o → changed t k p ≡ slice_set t k (Some p)
-changed-set [] k o p e = cc
-changed-set (None ∷ t) zero o p e = cc
-changed-set (Some a ∷ t) zero o p e = refl
-changed-set (None ∷ t) (suc k) o p e = ap (λ (u : Table). None ∷ u) (changed-set t k o p e)
-changed-set (Some a ∷ t) (suc k) o p e = ap (λ (u : Table). Some a ∷ u) (changed-set t k o p e)
-
-set-same : (t : Table) (k : ℕ) (o : Object) → entry t k ≡ Some o → slice_set t k (Some o) ≡ t
-set-same [] k o e = refl
-set-same (a ∷ t) zero o e = ap (λ (x : Option Object). x ∷ t) (sym e)
-set-same (a ∷ t) (suc k) o e = ap (λ (u : Table). a ∷ u) (set-same t k o e)
+use Rattle.st_model.proofs.Entries.{entry-set_same, changed-set, set-same}
 
 pub with-ref : (t : Table) (k : ℕ) (o : Object) → with_object t (Ref k) o ≡ slice_set t k (Some o)
 unfolding with_object

@@ -24,8 +24,9 @@ use Rattle.st_model.specs.Faults.{IsWellFormed}
 use Rattle.st_clean.specs.Reach.{IsReach, IsClosed}
 use Rattle.st_clean.specs.Filling.{only}
 use Rattle.st_clean.specs.Cleaning.{image_only}
-use Rattle.st_clean.proofs.Below.{length-settled, total-settled, complete_only}
+use Rattle.st_clean.proofs.Below.{total-settled, complete_only}
 use Rattle.st_clean.proofs.Closed.{reach_closed}
+use Rattle.st_model.proofs.Reclaiming.{length-settled}
 
 -- IT IS WHOLE
 

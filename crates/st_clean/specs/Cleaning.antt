@@ -6,8 +6,8 @@ use Rattle.st_model.specs.Machine.{Head}
 use Rattle.st_model.specs.Objects.{one, words_of}
 use Rattle.st_model.specs.Table.{Table, settled_table, total_used}
 use Rattle.st_writer.specs.Written.{image_of}
-use Rattle.st_clean.specs.declared.fault.CleanFault.{CleanFault}
-use Rattle.st_clean.specs.declared.fault.CleanFault.TheVariants.{Disk, OutOfMemory}
+use Rattle.st_host.specs.declared.file_fault.FileFault.{FileFault}
+use Rattle.st_host.specs.declared.file_fault.FileFault.TheVariants.{Disk, OutOfMemory}
 use Rattle.st_clean.specs.Filling.{only}
 use Rattle.st_clean.specs.Reach.{IsReach}
 
@@ -30,6 +30,6 @@ pub record HasWritten (t : Table) (h : Head) (told : Type 0) (file : Option (Lis
   pub written : told → file ≡ Some image
 
 -- the count of faults doesn't fall, and a fault of the disk comes only where it rose
-pub record CleanHasCause (before now : ℕ) (result : Result Demand CleanFault) : Type 0 where
+pub record CleanHasCause (before now : ℕ) (result : Result Demand FileFault) : Type 0 where
   pub later : before ≤ now
   pub rose : result ≡ Err Disk → Rose before now

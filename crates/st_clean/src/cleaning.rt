@@ -1,16 +1,18 @@
 ghost use Rattle.std.specs.Prelude.{◌≡◌, IsTrue, IfOk, OnOk, Err};
 ghost use Rattle.st_host.specs.Runs.{WritesAbove, IsSynced};
-ghost use Rattle.st_clean.specs.declared.fault.CleanFault.TheVariants.{OutOfMemory};
+ghost use Rattle.st_host.specs.declared.file_fault.FileFault.TheVariants.{OutOfMemory};
 ghost use Rattle.st_clean.specs.Cleaning.{HasWritten, CleanHasCause};
 
-use crate::fault::CleanFault;
 use crate::filling::restricted;
 use crate::needed::reach;
-use st_host::Host;
+use st_host::{FileFault, Host};
 use st_memory::{Loader, Memory};
 use st_model::Demand;
 use st_writer::write;
 use std::alloc::Global;
+
+/// Why an image that is cleaned isn't written.
+pub type CleanFault = FileFault;
 
 /// Writes to a file the image of what a memory's image needs: the objects that can be reached from the root page and the tables of
 /// names, under the same pointers and the same head. The file is cut to that text and synced. Answers how many objects and words

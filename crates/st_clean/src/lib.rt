@@ -3,7 +3,6 @@
 #![tactic(auto)]
 
 mod cleaning;
-mod fault;
 mod filling;
 mod finding;
 mod laws;
@@ -11,7 +10,6 @@ mod marks;
 mod needed;
 mod state;
 
-pub use cleaning::clean;
-pub use fault::CleanFault;
+pub use cleaning::{CleanFault, clean};
 pub use laws::{clean_image_is_read, one_reach, reach_is_least};
 pub use needed::reach;

@@ -4,7 +4,7 @@ ghost use Rattle.std.specs.Prelude.{◌≡◌, Some};
 ghost use Rattle.st_code.specs.declared.fault.CodeFault.TheVariants.{At, OutOfMemory};
 ghost use Rattle.st_code.specs.Reported.{cause_number, fault_text};
 
-use std::alloc::{AllocError, AllocFailed};
+use std::alloc::AllocError;
 use std::error::Error;
 use std::fmt;
 
@@ -88,14 +88,6 @@ impl From<AllocError> for CodeFault {
     ghost from_gives = { λ _ e. e ≡ OutOfMemory };
 
     fn from(_e: AllocError) -> CodeFault {
-        CodeFault::OutOfMemory
-    }
-}
-
-impl<T: Drop> From<AllocFailed<T>> for CodeFault {
-    ghost from_gives = { λ _ e. e ≡ OutOfMemory };
-
-    fn from(_e: AllocFailed<T>) -> CodeFault {
         CodeFault::OutOfMemory
     }
 }

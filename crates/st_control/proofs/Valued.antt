@@ -1,12 +1,12 @@
 -- How blocks are made and valued, by their conditions.
 use Rattle.std.proofs.Common.{◌≡◌, ◌≢◌, ◌≤◌, ℕ, Bool, true, false, refl, arith}
-use Rattle.std.specs.Prelude.{◌||◌, ◌==◌, ℤ, pos, negsuc, ◌+ℤ◌, ◌≤ℤ◌, ◌<ℤ◌, int_le}
+use Rattle.std.specs.Prelude.{◌||◌, ◌==◌, ℤ, pos, ◌+ℤ◌, ◌≤ℤ◌, ◌<ℤ◌, int_le}
 use Rattle.std.proofs.lemmas.Bool.Decides.{nat_tests}
 use Rattle.std.proofs.lemmas.Int.{ints, to_z-of_z}
 use Rattle.st_model.specs.declared.dead.Dead.{Dead}
 use Rattle.st_model.specs.declared.dead.Dead.TheVariants as dead
 use Rattle.st_model.specs.Values.{Value, word}
-use Rattle.st_model.specs.Machine.{ObjectMemory, Head, State, Transition, Died, Went, answer, after, tried, ◌>>=◌, ◌>>◌}
+use Rattle.st_model.specs.Machine.{ObjectMemory, Head, State, Transition, Died, Went, answer, after, ◌>>=◌, ◌>>◌}
 use Rattle.st_model.specs.Steps.{check, count_fields, get_active, get_ip, top, under}
 use Rattle.st_model.specs.Contexts.{home_of}
 use Rattle.st_model.specs.Primitives.{positive_small}
@@ -18,35 +18,16 @@ use Rattle.st_frames.specs.Rows.{row_state}
 use Rattle.st_frames.specs.Answering.{succeed_by}
 use Rattle.st_frames.proofs.Doing.{rows, checks}
 use Rattle.st_frames.proofs.Tries.{primitive-done}
-
--- either test holds, or neither
-pub either : (a b : Bool) → a ≡ true → (a || b) ≡ true
-either true b e = refl
-either false b e = cc
+use Rattle.st_model.proofs.IntegerTests.{le_true, le_false}
+use Rattle.std.proofs.lemmas.Bool.{or_from, or_left}
 
 pub other : (a b : Bool) → a ≡ false → b ≡ true → (a || b) ≡ true
 other true b e f = refl
 other false b e f = f
 
-pub neither : (a b : Bool) → a ≡ false → b ≡ false → (a || b) ≡ false
-neither true b e f = cc
-neither false b e f = f
-
-pub ruleset contexts = (rows, run-passed, run-failed, either, other, neither)
+pub ruleset contexts = (rows, run-passed, run-failed, or_left, other, or_from)
 
 -- the place 3 bytes on is at most 16383, or past it
-
-le_true : (a b : ℤ) → a ≤ℤ b → int_le a b ≡ true
-le_true (pos a) (pos b) l = grind (arith, ints, l)
-le_true (pos a) (negsuc b) l = grind (arith, ints, l)
-le_true (negsuc a) (pos b) l = grind (arith, ints, l)
-le_true (negsuc a) (negsuc b) l = grind (arith, ints, l)
-
-le_false : (a b : ℤ) → b <ℤ a → int_le a b ≡ false
-le_false (pos a) (pos b) l = grind (arith, ints, l)
-le_false (pos a) (negsuc b) l = grind (arith, ints, l)
-le_false (negsuc a) (pos b) l = grind (arith, ints, l)
-le_false (negsuc a) (negsuc b) l = grind (arith, ints, l)
 
 pub place-within : (k : Dead) (i : ℤ) (s : State Table) → i ≤ℤ pos 16380 → (check k (int_le (i +ℤ pos 3) (pos 16383))).run s ≡ Went tt s
 place-within k i s l = run-passed k _ s (le_true (i +ℤ pos 3) (pos 16383) (omega (arith, ints, l)))

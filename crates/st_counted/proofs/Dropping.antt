@@ -8,7 +8,7 @@ use Rattle.st_model.specs.Objects.{Object, page, place_of, one}
 use Rattle.st_model.specs.Table.{Table, table, entry, settled_table, total_used}
 use Rattle.st_model.specs.Settled.{IsRefTo, AnyRefTo, Refers, IsRoot, held_root, page_root, is_root, or, names, any_of_page}
 use Rattle.st_model.specs.View.{View, view_roots, is_live, SettlesTo}
-use Rattle.st_model.proofs.SettledIs.{or_cases, root_is, is_root-of}
+use Rattle.st_model.proofs.SettledIs.{or_cases, root_is, is_root-of, or_left, or_right}
 use Rattle.st_model.proofs.Settling.{DropsTo, left, left_is, settled}
 use Rattle.st_model.proofs.Rounds.{KeepsNeeded, moved_roots}
 use Rattle.st_counted.specs.Counts.{count_at, is_zero, is_unused}
@@ -82,14 +82,6 @@ some_uses n (Some o ∷ t) h = by_case (object_uses n (Some o)) refl (some_uses 
     by_case : (a : ℕ) → object_uses n (Some o) ≡ a → (1 ≤ uses n t → (m : ℕ) × (p : Object) × (entry t m ≡ Some p) × Refers p n) → (m : ℕ) × (p : Object) × (entry (Some o ∷ t) m ≡ Some p) × Refers p n
     by_case zero q more = let r = more (omega (arith, h, q)) in (suc r.0, r.1, r.2, r.3)
     by_case (suc a) q more = (0, o, refl, some_object n o (omega (arith, q)))
-
-or_left : (a b : Bool) → IsTrue a → IsTrue (or a b)
-or_left true b h = refl
-or_left false b h = cc
-
-or_right : (a b : Bool) → IsTrue b → IsTrue (or a b)
-or_right true b h = refl
-or_right false b h = h
 
 pub some_page : (n : ℕ) (qs : List PageObject) → 1 ≤ times n (page_values qs) → IsTrue (any_of_page qs (λ q. n == place_of q))
 some_page n [] h = absurd (omega (arith, h))
@@ -215,7 +207,7 @@ fewer (Some o ∷ t) zero h = omega arith
 fewer (None ∷ t) (suc k) h = fewer t k h
 fewer (Some o ∷ t) (suc k) h = let s = fewer t k h in omega (arith, s)
 
-moved_root : (first v : View) (n : ℕ) → v.held ≡ first.held → v.head ≡ first.head → IsRoot table v.objects (view_roots v) n → IsRoot table first.objects (view_roots first) n
+pub moved_root : (first v : View) (n : ℕ) → v.held ≡ first.held → v.head ≡ first.head → IsRoot table v.objects (view_roots v) n → IsRoot table first.objects (view_roots first) n
 moved_root first v n held head (held_root r) = held_root (subst (λ xs. AnyRefTo n xs) (moved_roots first v held head) r)
 moved_root first v n held head (page_root q e) = page_root q e
 

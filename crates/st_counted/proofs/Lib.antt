@@ -1,6 +1,6 @@
-mod Dropping
+pub mod Dropping
 mod Finishing
-mod Referring
+pub mod Referring
 mod Rooting
 mod Sizes
 mod Storing
@@ -13,6 +13,11 @@ pub mod Beginning
 mod Holding
 pub mod Instances
 mod Nothing
+mod Placed
 mod InBlocks
 pub mod ZeroList
 mod Linked
+mod Listing
+mod Moved
+mod Below
+mod Slots

@@ -6,6 +6,7 @@ use Rattle.st_model.specs.Objects.{Object}
 use Rattle.st_model.specs.Table.{Table, entry}
 use Rattle.st_model.specs.View.{nothing, is_live, object_of}
 use Rattle.st_model.proofs.Pointers.{value_of-pointer}
+use Rattle.st_model.proofs.LoadingLemmas.{none_of}
 
 pub place_value : (w k : ℕ) → w ≡ 2 * k → value_of w ≡ Ref k
 place_value w k e = ap value_of e ∙ value_of-pointer k
@@ -14,14 +15,10 @@ some_is : (x : Option Object) → is_some x ≡ true → x ≡ Some (unwrap_or x
 some_is None h = cc
 some_is (Some o) h = refl
 
-none_is : (x : Option Object) → is_some x ≡ false → x ≡ None
-none_is None h = refl
-none_is (Some o) h = cc
-
 pub live_entry : (t : Table) (v : Value) (k : ℕ) → v ≡ Ref k → is_live t v ≡ true → entry t k ≡ Some (object_of t v)
 unfolding is_live object_of
 live_entry t v k e h = some_is (entry t k) (ap (is_live t) (sym e) ∙ h) ∙ ap (λ x. Some (object_of t x)) (sym e)
 
 pub dead_entry : (t : Table) (v : Value) (k : ℕ) → v ≡ Ref k → is_live t v ≡ false → entry t k ≡ None
 unfolding is_live
-dead_entry t v k e h = none_is (entry t k) (ap (is_live t) (sym e) ∙ h)
+dead_entry t v k e h = none_of (entry t k) (ap (is_live t) (sym e) ∙ h)

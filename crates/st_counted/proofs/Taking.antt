@@ -1,41 +1,21 @@
 -- What is taken away is in no set that supports itself; what is left where nothing can be taken away supports itself.
-use Rattle.std.proofs.Common.{◌≡◌, ◌≢◌, ℕ, zero, suc, ◌<◌, List, [], ◌∷◌, Bool, true, false, refl, sym, subst, arith, inl, inr, ◌⊎◌}
+use Rattle.std.proofs.Common.{◌≡◌, ◌≢◌, ℕ, ◌<◌, List, [], ◌∷◌, Bool, true, false, refl, sym, subst, arith, inl, inr, ◌⊎◌}
 use Rattle.std.specs.Prelude.{◌&&◌, ◌==◌, not, IsTrue}
 use Rattle.std.proofs.lemmas.Bool.Decides.{nat_tests}
 use Rattle.st_model.specs.Values.{Value}
 use Rattle.st_model.specs.Machine.{ObjectMemory}
 use Rattle.st_model.specs.Births.{Births, births, borne}
 use Rattle.st_model.specs.Table.{table}
-use Rattle.st_model.specs.Settled.{IsRoot, IsReferredFrom, SupportsItself, IsSettled, or, any_below, object_names, is_root, is_supported}
-use Rattle.st_model.proofs.SettledIs.{or_cases, below_true, object_is, is_object, root_is, is_root-of}
+use Rattle.st_model.specs.Settled.{IsRoot, IsReferredFrom, SupportsItself, IsSettled, object_names, is_root, is_supported}
+use Rattle.st_model.proofs.SettledIs.{or_cases, below_true, object_is, is_object, root_is, is_root-of, or_left, or_right, true_below, both, and_true, not_so}
 use Rattle.st_model.proofs.SettledLemmas.{some_is}
 use Rattle.st_model.proofs.BirthLemmas.{borne_before}
-use Rattle.st_simulation.proofs.Reclaimed.{table_finite_in}
 use Rattle.st_counted.specs.Taking.{IsUnsupported, without, TakesAway, TakesNoneSupported, LeftSupportsItself, TakingSettles}
-
-or_left : (a b : Bool) → IsTrue a → IsTrue (or a b)
-or_left true b h = refl
-or_left false b h = cc
-
-or_right : (a b : Bool) → IsTrue b → IsTrue (or a b)
-or_right true b h = refl
-or_right false b h = h
-
-both : (a b : Bool) → IsTrue (a && b) → IsTrue a × IsTrue b
-both true b h = (refl, h)
-both false b h = cc
-
-and_true : (a b : Bool) → IsTrue a → IsTrue b → IsTrue (a && b)
-and_true true b h k = k
-and_true false b h k = cc
+use Rattle.st_model.proofs.Reclaiming.{table_finite}
 
 bool_cases : (b : Bool) → IsTrue b ⊎ (b ≡ false)
 bool_cases true = inl refl
 bool_cases false = inr refl
-
-not_so : (b : Bool) → (IsTrue b → ⊥) → b ≡ false
-not_so true f = absurd (f refl)
-not_so false f = refl
 
 both_ways : (b : Bool) → IsTrue b → b ≡ false → ⊥
 both_ways true h e = cc
@@ -49,16 +29,6 @@ other_number k n d = grind (arith, nat_tests)
 
 pub without_below : (set : ℕ → Bool) (k n : ℕ) → IsTrue (without set k n) → IsTrue (set n)
 without_below set k n t = (both (set n) (not (n == k)) t).0
-
-last_case : (k n : ℕ) → k < suc n → (k ≡ n) ⊎ (k < n)
-last_case k n l = grind arith
-
-true_below : (n k : ℕ) (f : ℕ → Bool) → k < n → IsTrue (f k) → IsTrue (any_below n f)
-true_below zero k f l h = absurd (omega arith)
-true_below (suc n) k f l h = elim (last_case k n l) [
-  | inl e ↦ or_left (f n) (any_below n f) (subst (λ x. IsTrue (f x)) e h)
-  | inr m ↦ or_right (f n) (any_below n f) (true_below n k f m h)
-]
 
 module _ {H : Type 0} (m : ObjectMemory H) (h : H) (roots : List Value) where
   -- what is left was there
@@ -145,10 +115,10 @@ pub left_births : LeftSupportsItself births
 left_births = λ b roots order left takes none. left_supports births b roots (births_finite b) order left takes none
 
 pub left_table : LeftSupportsItself table
-left_table = λ t roots order left takes none. left_supports table t roots (table_finite_in t) order left takes none
+left_table = λ t roots order left takes none. left_supports table t roots (table_finite t) order left takes none
 
 pub births_settled : TakingSettles births
 births_settled = λ b roots order left takes none. left_settled births b roots (births_finite b) order left takes none
 
 pub table_settled : TakingSettles table
-table_settled = λ t roots order left takes none. left_settled table t roots (table_finite_in t) order left takes none
+table_settled = λ t roots order left takes none. left_settled table t roots (table_finite t) order left takes none

@@ -5,9 +5,9 @@ use Rattle.st_model.specs.Objects.{Object}
 use Rattle.st_model.specs.declared.kind.Kind.TheVariants as kind
 use Rattle.st_model.specs.Table.{Table, table}
 use Rattle.st_model.specs.Settled.{is_root, is_supported}
-use Rattle.st_simulation.proofs.Reclaimed.{table_finite_in}
 use Rattle.st_counted.specs.Taking.{IsUnsupported, without, TakesAway}
 use Rattle.st_counted.proofs.Taking.{unsupported, without_below}
+use Rattle.st_model.proofs.Reclaiming.{table_finite}
 
 -- an object of the class at place 9, with these fields
 of_nine : List Value → Object
@@ -28,11 +28,11 @@ left = without no_ten 5
 
 ten_first : IsUnsupported table objects [] kept 10
 unfolding is_root is_supported objects of_nine kept
-ten_first = unsupported table objects [] kept (table_finite_in objects) 10 refl refl
+ten_first = unsupported table objects [] kept (table_finite objects) 10 refl refl
 
 then_five : IsUnsupported table objects [] no_ten 5
 unfolding is_root is_supported objects of_nine kept no_ten
-then_five = unsupported table objects [] no_ten (λ n t. table_finite_in objects n (without_below kept 10 n t)) 5 refl refl
+then_five = unsupported table objects [] no_ten (λ n t. table_finite objects n (without_below kept 10 n t)) 5 refl refl
 
 chain_goes : TakesAway table objects [] kept (10 ∷ 5 ∷ []) left
 unfolding no_ten left

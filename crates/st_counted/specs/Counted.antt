@@ -22,3 +22,10 @@ numbers_of c = counts_of c.counts
 -- the count of each object is the number of roots, class words, fields and literals that name it
 abbrev pub AllCounted : Contents → Type 0
 AllCounted c = IsCounted (counted_view c).objects (all_roots (counted_view c)) [] (numbers_of c)
+
+-- of the memory stands all but its counts and the links between its objects
+pub record SameButLinks (c c' : Contents) : Type 0 where
+  pub objects : objects_of c'.objects ≡ objects_of c.objects
+  pub room : room_of c'.objects ≡ room_of c.objects
+  pub roots : c'.roots ≡ c.roots
+  pub head : c'.head ≡ c.head

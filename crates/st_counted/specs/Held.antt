@@ -1,8 +1,6 @@
 -- What is held, by the words.
-use Rattle.std.specs.Prelude.{List, map, ⊤}
+use Rattle.std.specs.Prelude.{List, map}
 use Rattle.st_model.specs.declared.oop.Oop.{Oop}
-use Rattle.st_model.specs.declared.place.RootPlace.{RootPlace}
-use Rattle.st_model.specs.declared.place.RootPlace.TheVariants as place
 use Rattle.st_model.specs.Values.{value}
 use Rattle.st_model.specs.View.{Held}
 use Rattle.st_counted.specs.declared.roots.Places.{Places}
@@ -27,17 +25,3 @@ held_words p pending = record {
 
 abbrev pub held_of : Roots → Held
 held_of r = held_words r.places r.pending.items
-
--- not one of the pending signals
-abbrev pub IsSinglePlace : RootPlace → Type 0
-IsSinglePlace place.Active = ⊤
-IsSinglePlace place.Home = ⊤
-IsSinglePlace place.Method = ⊤
-IsSinglePlace place.Receiver = ⊤
-IsSinglePlace place.NewProcess = ⊤
-IsSinglePlace place.Display = ⊤
-IsSinglePlace place.Cursor = ⊤
-IsSinglePlace place.InputSemaphore = ⊤
-IsSinglePlace place.Timer = ⊤
-IsSinglePlace place.LowSpace = ⊤
-IsSinglePlace (place.Pending k) = ⊥

@@ -7,3 +7,4 @@ pub mod Standing
 pub mod Contents
 pub mod Counts
 pub mod Links
+pub mod Slots

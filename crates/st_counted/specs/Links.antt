@@ -1,7 +1,14 @@
--- A list of places through the places that follow and precede each; place 0 is none.
-use Rattle.std.specs.Prelude.{◌≡◌, ◌≢◌, ◌<◌, ◌==◌, ◌+◌, ℕ, Bool, List, [], ◌∷◌, length, slice_index_or, if◌then◌else◌, true, false}
-use Rattle.std.specs.List.{All}
-use Rattle.st_counted.specs.declared.links.Links.{Links}
+-- The list of the objects to which nothing refers (chapter 30), through what follows and precedes each by its entry; place 0 is none.
+use Rattle.std.specs.Prelude.{◌≡◌, ◌≢◌, ◌<◌, ◌==◌, ◌+◌, ℕ, Bool, List, [], ◌∷◌, is_some, if◌then◌else◌, true, false}
+use Rattle.st_model.specs.Table.{entry}
+use Rattle.st_table.specs.Entries.{place}
+use Rattle.st_heap.specs.declared.store.Store.{Store}
+use Rattle.st_heap.specs.declared.objects.Objects.{Objects}
+use Rattle.st_heap.specs.Links.{next_of, before_of}
+use Rattle.st_heap.specs.Tables.{objects_of}
+use Rattle.st_counted.specs.Counts.{is_counted, is_unused}
+use Rattle.st_counted.specs.Contents.{counts_of}
+use Rattle.st_counted.specs.declared.counts.Counts.{Counts}
 
 -- how many times k stands in the list
 abbrev pub times : ℕ → List ℕ → ℕ
@@ -13,22 +20,29 @@ abbrev pub IsLinked : ℕ → (ℕ → ℕ) → (ℕ → ℕ) → ℕ → ℕ �
 IsLinked size next before prev at [] = at ≡ 0
 IsLinked size next before prev at (z ∷ zs) = (at ≡ z) × (z ≢ 0) × (z < size) × (before z ≡ prev) × IsLinked size next before z (next z) zs
 
--- the list that the links give holds each place of which the test holds once, and no other
-pub record Listed (l : Links) (p : ℕ → Bool) : Type 0 where
+-- The list that begins with `first` and goes through the entries of a store holds each place of which the test holds once, and no
+-- other.
+pub record Listed (s : Store) (first : ℕ) (p : ℕ → Bool) : Type 0 where
   pub list : List ℕ
-  pub chain : IsLinked (length l.next.items) (λ k. slice_index_or l.next.items k 0) (λ k. slice_index_or l.before.items k 0) 0 l.first list
+  pub chain : IsLinked 32768 (next_of s) (before_of s) 0 first list
   pub exact : (k : ℕ) → times k list ≡ (if p k then 1 else 0)
 
 -- there is such a list
-abbrev pub Holds : Links → (ℕ → Bool) → Type 0
-Holds l p = ∥ Listed l p ∥₁
+abbrev pub Holds : Store → ℕ → (ℕ → Bool) → Type 0
+Holds s first p = ∥ Listed s first p ∥₁
 
--- each link leads to a place
-pub record IsWithin (l : Links) : Type 0 where
-  pub first : l.first < length l.next.items
-  pub next : All (λ k. k < length l.next.items) l.next.items
-  pub before : All (λ k. k < length l.next.items) l.before.items
-  pub sizes : length l.before.items ≡ length l.next.items
+-- the end of a list, or an object
+abbrev pub IsEnd : Objects → ℕ → Type 0
+IsEnd o k = k ≢ 0 → is_some (entry (objects_of o) k) ≡ true
+
+-- at each place of which the test holds stands an object
+abbrev pub AreStored : Objects → (ℕ → Bool) → Type 0
+AreStored o p = (k : ℕ) → p k ≡ true → is_some (entry (objects_of o) k) ≡ true
+
+-- The list holds just the objects whose count is 0, and only objects have counts.
+pub record IsListed (o : Objects) (c : Counts) : Type 0 where
+  pub list : Holds o.store (place c.first) (is_unused (counts_of c))
+  pub stored : AreStored o (is_counted (counts_of c))
 
 abbrev pub with_member : ℕ → (ℕ → Bool) → ℕ → Bool
 with_member k p o = if k == o then true else p o

@@ -8,6 +8,7 @@ use Rattle.st_heap.specs.Forms.{cell, object_from}
 use Rattle.st_counted.specs.Counts.{count_at, is_unused}
 use Rattle.st_counted.specs.Links.{Holds}
 use Rattle.st_counted.specs.References.{all_roots, times, uses}
+use Rattle.st_table.specs.Entries.{place}
 use Rattle.st_counted.specs.Counted.{counted_view, numbers_of}
 use Rattle.st_counted.specs.declared.contents.Contents.{Contents}
 
@@ -27,8 +28,8 @@ StandsInBlocks c = (k : ℕ) (o : Object) → entry (counted_view c).objects k �
 abbrev pub references_to : Contents → ℕ → ℕ
 references_to c k = times k (all_roots (counted_view c)) + uses k (counted_view c).objects
 
--- The count of each object is the number of references to it, and nothing else has one. The list holds just the places whose count
--- is 0.
+-- The count of each object is the number of references to it, and nothing else has one. The list that goes through next and before
+-- of the entries holds just the objects whose count is 0.
 pub record CountsReferences (c : Contents) : Type 0 where
   pub count : (k : ℕ) → count_at (numbers_of c) k ≡ (if is_some (entry (counted_view c).objects k) then Some (references_to c k) else None)
-  pub zeros : Holds c.counts.zeros (is_unused (numbers_of c))
+  pub zeros : Holds c.objects.store (place c.counts.first) (is_unused (numbers_of c))

@@ -1,10 +1,13 @@
-ghost use Rattle.std.specs.Prelude.{◌≡◌, ◌+◌, ◌≤◌, ◌<◌, ◌/◌, ◌==◌, ℕ, true, None, [], length, slice_set, IfOk, if◌then◌else◌};
+ghost use Rattle.std.specs.Prelude.{◌≡◌, ◌+◌, ◌≤◌, ◌<◌, ◌/◌, ◌==◌, ℕ, true, false, None, [], length, slice_set, IfOk, IfSome, IfNone, if◌then◌else◌};
 ghost use Rattle.st_model.specs.Values.{value, Ref};
 ghost use Rattle.st_model.specs.Formed.{IsHeader, IsMakeable, fresh};
 ghost use Rattle.st_model.specs.Table.{first_free, placed};
 ghost use Rattle.st_model.specs.View.{empty_view, head_of, fits, IsWhole, IsPlace, IsKnown, is_live, object_of, with_held, with_stored, demand_of};
 ghost use Rattle.st_table.specs.Entries.{place as place_at};
+ghost use Rattle.st_heap.specs.Places.{SamePlaces, SameOtherPlaces, Stands};
 ghost use Rattle.st_counted.specs.Counts.{count_at, is_counted, number_at, is_unused, raised};
+ghost use Rattle.st_heap.specs.Tables.{objects_of, room_of};
+ghost use Rattle.st_counted.specs.Links.{IsListed};
 ghost use Rattle.st_counted.specs.Contents.{counts_of};
 ghost use Rattle.st_counted.specs.References.{all_roots, nils_of, IsCounted};
 
@@ -40,7 +43,8 @@ pub struct Contents {
 }
 
 impl Contents {
-    ghost use Rattle.st_counted.specs.Counted.{counted_view, numbers_of, HasRoom, AllCounted};
+    ghost use Rattle.st_counted.specs.Counted.{counted_view, numbers_of, HasRoom, AllCounted, SameButLinks};
+    ghost use Rattle.st_counted.specs.Links.{IsListed};
 
     /// No objects under a head, and nothing held.
     pub fn new(alloc: Global, head: Head) -> Result<Contents, AllocError>
@@ -65,6 +69,7 @@ impl Contents {
     pub fn set_pointer(&mut self, o: Oop, at: u32, v: Oop)
         requires whole { IsWhole (counted_view self.old) }
         requires counted { AllCounted self.old }
+        requires listed { IsListed self.old.objects self.old.counts }
         requires live { is_live (counted_view self.old).objects (value o) ≡ true }
         requires range { at < length (object_of (counted_view self.old).objects (value o)).fields }
         requires known { IsKnown (counted_view self.old).objects (value v) }
@@ -74,12 +79,38 @@ impl Contents {
         ensures held { (counted_view self.new).held ≡ (counted_view self.old).held }
         ensures head { self.new.head ≡ self.old.head }
         ensures counted { AllCounted self.new }
+        ensures listed { IsListed self.new.objects self.new.counts }
         ensures room { HasRoom self.old → HasRoom self.new }
+        ensures places { SamePlaces self.old.objects.store self.new.objects.store }
     {
-        let old = self.objects.field(o, at);
-        self.objects.set_field(o, at, v);
-        raise(&mut self.counts, v, 1);
-        lower(&mut self.counts, old);
+        let stand = self.objects.place_of(o);
+        self.set_placed_pointer(o, stand, at, v);
+    }
+
+    /// Stores v in field `at` of an object whose block stands at a place; in a Method's header only what counts the same literals.
+    #[inline(always)]
+    pub fn set_placed_pointer(&mut self, o: Oop, stand: u32, at: u32, v: Oop)
+        requires whole { IsWhole (counted_view self.old) }
+        requires counted { AllCounted self.old }
+        requires listed { IsListed self.old.objects self.old.counts }
+        requires live { is_live (counted_view self.old).objects (value o) ≡ true }
+        requires place { Stands self.old.objects (value o) stand }
+        requires range { at < length (object_of (counted_view self.old).objects (value o)).fields }
+        requires known { IsKnown (counted_view self.old).objects (value v) }
+        requires header { IsHeader (object_of (counted_view self.old).objects (value o)) at (value v) }
+        ensures objects { (counted_view self.new).objects
+            ≡ with_stored (counted_view self.old).objects (value o) at (value v) }
+        ensures held { (counted_view self.new).held ≡ (counted_view self.old).held }
+        ensures head { self.new.head ≡ self.old.head }
+        ensures counted { AllCounted self.new }
+        ensures listed { IsListed self.new.objects self.new.counts }
+        ensures room { HasRoom self.old → HasRoom self.new }
+        ensures places { SamePlaces self.old.objects.store self.new.objects.store }
+    {
+        let old = self.objects.placed_field(o, stand, at);
+        self.objects.set_placed_field(o, stand, at, v);
+        raise(&mut self.counts, &mut self.objects, v, 1);
+        lower(&mut self.counts, &mut self.objects, old);
     }
 
     /// Holds o at a place; nil clears it.
@@ -87,27 +118,31 @@ impl Contents {
     pub fn hold(&mut self, place: RootPlace, o: Oop)
         requires whole { IsWhole (counted_view self.old) }
         requires counted { AllCounted self.old }
+        requires listed { IsListed self.old.objects self.old.counts }
         requires place { IsPlace place }
         requires known { IsKnown (counted_view self.old).objects (value o) }
         ensures objects { (counted_view self.new).objects ≡ (counted_view self.old).objects }
         ensures held { (counted_view self.new).held ≡ with_held (counted_view self.old).held place (value o) }
         ensures head { self.new.head ≡ self.old.head }
         ensures counted { AllCounted self.new }
+        ensures listed { IsListed self.new.objects self.new.counts }
         ensures room { HasRoom self.old → HasRoom self.new }
+        ensures places { SamePlaces self.old.objects.store self.new.objects.store }
     {
         let old = self.roots.held(place);
         if old == o {
             return;
         }
-        raise(&mut self.counts, o, 1);
+        raise(&mut self.counts, &mut self.objects, o, 1);
         self.roots.hold(place, o);
-        lower(&mut self.counts, old);
+        lower(&mut self.counts, &mut self.objects, old);
     }
 
     /// A new object at the least free pointer, with fields of nil, units of 0 and, in a Method, its literal count.
     pub fn make(&mut self, class: Oop, kind: Kind, size: u32, literals: u32) -> Oop
         requires whole { IsWhole (counted_view self.old) }
         requires counted { AllCounted self.old }
+        requires listed { IsListed self.old.objects self.old.counts }
         requires class { is_live (counted_view self.old).objects (value class) ≡ true }
         requires makeable { IsMakeable (class.0 / 2) kind size literals }
         requires room { let new = fresh (class.0 / 2) kind size literals in
@@ -119,13 +154,14 @@ impl Contents {
         ensures held { (counted_view self.new).held ≡ (counted_view self.old).held }
         ensures head { self.new.head ≡ self.old.head }
         ensures counted { AllCounted self.new }
+        ensures listed { IsListed self.new.objects self.new.counts }
         ensures words { HasRoom self.new }
     {
-        raise(&mut self.counts, class, 1);
+        raise(&mut self.counts, &mut self.objects, class, 1);
         let nils = count_nils(kind, size, literals);
-        raise_nil(&mut self.counts, nils);
+        raise_nil(&mut self.counts, &mut self.objects, nils);
         let o = self.objects.make(class, kind, size, literals);
-        self.counts.enter(usize::from(o.0 / 2));
+        self.counts.enter(&mut self.objects, usize::from(o.0 / 2));
         o
     }
 
@@ -133,17 +169,20 @@ impl Contents {
     pub fn drop_object(&mut self, k: usize)
         requires place { k < 32768 }
         requires counted { AllCounted self.old }
+        requires listed { IsListed self.old.objects self.old.counts }
         requires unused { is_unused (numbers_of self.old) k ≡ true }
         ensures objects { (counted_view self.new).objects ≡ slice_set (counted_view self.old).objects k None }
         ensures held { (counted_view self.new).held ≡ (counted_view self.old).held }
         ensures head { self.new.head ≡ self.old.head }
         ensures counted { AllCounted self.new }
+        ensures listed { IsListed self.new.objects self.new.counts }
         ensures room { HasRoom self.old → HasRoom self.new }
+        ensures places { SameOtherPlaces self.old.objects.store self.new.objects.store k }
     {
         let o = pointer_of(k);
-        self.counts.leave(k);
+        self.counts.leave(&mut self.objects, k);
         let class = self.objects.class_of(o);
-        lower(&mut self.counts, class);
+        lower(&mut self.counts, &mut self.objects, class);
         self.lower_fields(o);
         self.objects.remove(o);
     }
@@ -151,13 +190,16 @@ impl Contents {
     /// Counts what stands in the fields of an object that is about to go no more; nil, which stands in most fields of a
     /// context, at once for all of them.
     fn lower_fields(&mut self, o: Oop)
+        requires listed { IsListed self.old.objects self.old.counts }
         requires live { is_live (counted_view self.old).objects (value o) ≡ true }
         requires counted { let v = counted_view self.old in
             let fields = (object_of v.objects (value o)).fields in
             IsCounted (slice_set v.objects (place_at o) None) (all_roots v) fields (numbers_of self.old) }
         ensures counted { let v = counted_view self.new in
             IsCounted (slice_set v.objects (place_at o) None) (all_roots v) [] (numbers_of self.new) }
-        ensures rest { self.new ≡ record self.old { counts = self.new.counts } }
+        ensures listed { IsListed self.new.objects self.new.counts }
+        ensures rest { SameButLinks self.old self.new }
+        ensures places { SamePlaces self.old.objects.store self.new.objects.store }
     {
         let mut nils = 0;
         for i in 0..self.objects.count_fields(o) {
@@ -165,11 +207,25 @@ impl Contents {
             if v.0 == Oop::NIL.0 {
                 nils += 1;
             } else {
-                lower(&mut self.counts, v);
+                lower(&mut self.counts, &mut self.objects, v);
             }
         }
         if nils > 0 {
-            self.counts.lower(1, nils);
+            self.counts.lower(&mut self.objects, 1, nils);
+        }
+    }
+
+    /// The place of an object to which nothing refers, if there is one.
+    pub fn first_unused(&self) -> Option<usize>
+        requires listed { IsListed self.now.objects self.now.counts }
+        ensures found { IfSome result (λ k. is_unused (numbers_of self.now) k ≡ true) }
+        ensures none { IfNone result ((k : ℕ) → is_unused (numbers_of self.now) k ≡ false) }
+    {
+        let first = self.counts.first;
+        if first.0 < 2 {
+            None
+        } else {
+            Some(usize::from(first.0 / 2))
         }
     }
 
@@ -185,14 +241,18 @@ impl Contents {
 }
 
 /// Counts so many references to nil more.
-fn raise_nil(counts: &mut Counts, by: u32)
+fn raise_nil(counts: &mut Counts, objects: &mut Objects, by: u32)
+    requires listed { IsListed objects.old counts.old }
     requires counted { is_counted (counts_of counts.old) 1 ≡ true }
     requires room { number_at (counts_of counts.old) 1 + by < 4294967296 }
-    ensures { let old = counts_of counts.old in
+    ensures listed { IsListed objects.new counts.new }
+    ensures objects { objects_of objects.new ≡ objects_of objects.old }
+    ensures room { room_of objects.new ≡ room_of objects.old }
+    ensures counts { let old = counts_of counts.old in
         counts_of counts.new ≡ (if by == 0 then old else raised old 1 by) }
 {
     if by != 0 {
-        counts.raise(1, by);
+        counts.raise(objects, 1, by);
     }
 }
 

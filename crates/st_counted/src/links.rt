@@ -1,108 +1,81 @@
-ghost use Rattle.std.specs.Prelude.{◌≡◌, ◌≢◌, ◌<◌, ℕ, Bool, true, false, length, slice_set, ◌==◌, if◌then◌else◌, IfOk, replicate};
-ghost use Rattle.st_counted.specs.Links.{Holds, IsWithin, with_member, without_member};
+ghost use Rattle.std.specs.Prelude.{◌≡◌, ◌≢◌, ◌/◌, ℕ, Bool, true, false, is_some, if◌then◌else◌, ◌==◌};
+ghost use Rattle.st_model.specs.Values.{value};
+ghost use Rattle.st_model.specs.Table.{entry};
+ghost use Rattle.st_model.specs.View.{is_live};
+ghost use Rattle.st_table.specs.Entries.{place};
+ghost use Rattle.st_heap.specs.Links.{next_of, before_of};
+ghost use Rattle.st_heap.specs.Places.{SamePlaces};
+ghost use Rattle.st_heap.specs.Tables.{objects_of, room_of};
+ghost use Rattle.st_counted.specs.Links.{Holds, IsEnd, with_member, without_member};
 
-use std::alloc::{AllocError, Global};
+use st_heap::Objects;
+use st_model::Oop;
 
-/// A list of places, doubly linked through the places themselves; 0 is none.
-#[derive(Drop)]
-pub struct Links {
-    /// What follows each place of the list.
-    next: Vec<usize>,
-    /// What stands before each place of the list.
-    before: Vec<usize>,
-    /// The first place of the list.
-    pub first: usize,
-}
-
-impl Links {
-    /// The empty list of places below a size.
-    pub fn new(alloc: Global, size: usize) -> Result<Links, AllocError>
-        requires { 0 < size }
-        ensures within { IfOk result IsWithin }
-        ensures size { IfOk result (λ l. length l.next.items ≡ size) }
-        ensures holds { IfOk result (λ l. (p : ℕ → Bool) → ((k : ℕ) → p k ≡ false) → Holds l p) }
-    {
-        let next = zeros(alloc, size)?;
-        let before = zeros(alloc, size)?;
-        Ok(Links {
-            next,
-            before,
-            first: 0,
-        })
-    }
-
-    /// Puts a place that is not in the list at its head.
-    #[inline(never)]
-    pub fn link(&mut self, k: usize)
-        requires within { IsWithin self.old }
-        requires place { k < length self.old.next.items }
-        requires some { k ≢ 0 }
-        ensures within { IsWithin self.new }
-        ensures size { length self.new.next.items ≡ length self.old.next.items }
-        ensures holds { (p : ℕ → Bool) → Holds self.old p → p k ≡ false
-            → Holds self.new (with_member k p) }
-    {
-        let first = self.first;
-        self.next[k] = first;
-        self.before[k] = 0;
-        self.precede(first, k);
-        self.first = k;
-    }
-
-    /// Takes a place that is in the list out of it.
-    #[inline(never)]
-    pub fn unlink(&mut self, k: usize)
-        requires within { IsWithin self.old }
-        requires place { k < length self.old.next.items }
-        ensures within { IsWithin self.new }
-        ensures size { length self.new.next.items ≡ length self.old.next.items }
-        ensures holds { (p : ℕ → Bool) → Holds self.old p → p k ≡ true
-            → Holds self.new (without_member k p) }
-    {
-        let next = self.next[k];
-        let before = self.before[k];
-        self.follow(before, next);
-        self.precede(next, before);
-    }
-
-    /// Has `to` follow a place, or come first where that is none.
-    fn follow(&mut self, from: usize, to: usize)
-        requires within { IsWithin self.old }
-        requires from { from < length self.old.next.items }
-        requires to { to < length self.old.next.items }
-        ensures within { IsWithin self.new }
-        ensures next { self.new.next.items
-            ≡ (if from == 0 then self.old.next.items else slice_set self.old.next.items from to) }
-        ensures before { self.new.before.items ≡ self.old.before.items }
-        ensures first { self.new.first ≡ (if from == 0 then to else self.old.first) }
-    {
-        if from == 0 {
-            self.first = to;
-        } else {
-            self.next[from] = to;
-        }
-    }
-
-    /// Has `to` precede a place, if it is one.
-    fn precede(&mut self, at: usize, to: usize)
-        requires within { IsWithin self.old }
-        requires at { at < length self.old.next.items }
-        requires to { to < length self.old.next.items }
-        ensures within { IsWithin self.new }
-        ensures next { self.new.next.items ≡ self.old.next.items }
-        ensures before { self.new.before.items
-            ≡ (if at == 0 then self.old.before.items else slice_set self.old.before.items at to) }
-        ensures first { self.new.first ≡ self.old.first }
-    {
-        if at != 0 {
-            self.before[at] = to;
-        }
-    }
-}
-
-/// So many zeros.
-fn zeros(alloc: Global, size: usize) -> Result<Vec<usize>, AllocError>
-    ensures { IfOk result (λ v. v.items ≡ replicate size 0) }
+/// Puts an object that is not in the list at its head, and answers the head.
+#[inline(never)]
+pub fn link(objects: &mut Objects, first: Oop, o: Oop) -> Oop
+    requires stored { is_some (entry (objects_of objects.old) (place o)) ≡ true }
+    requires head { IsEnd objects.old (place first) }
+    ensures head { result ≡ o }
+    ensures objects { objects_of objects.new ≡ objects_of objects.old }
+    ensures room { room_of objects.new ≡ room_of objects.old }
+    ensures places { SamePlaces objects.old.store objects.new.store }
+    ensures holds { (p : ℕ → Bool) → Holds objects.old.store (place first) p → p (place o) ≡ false
+        → Holds objects.new.store (place o) (with_member (place o) p) }
 {
-    vec![in alloc; 0usize; size]
+    objects.set_next(o, first);
+    objects.set_before(o, Oop(0));
+    precede(objects, first, o);
+    o
+}
+
+/// Takes an object that is in the list out of it, and answers the head.
+#[inline(never)]
+pub fn unlink(objects: &mut Objects, first: Oop, o: Oop) -> Oop
+    requires live { is_live (objects_of objects.old) (value o) ≡ true }
+    requires next { IsEnd objects.old (next_of objects.old.store (place o)) }
+    requires before { IsEnd objects.old (before_of objects.old.store (place o)) }
+    ensures objects { objects_of objects.new ≡ objects_of objects.old }
+    ensures room { room_of objects.new ≡ room_of objects.old }
+    ensures places { SamePlaces objects.old.store objects.new.store }
+    ensures holds { (p : ℕ → Bool) → Holds objects.old.store (place first) p → p (place o) ≡ true
+        → Holds objects.new.store (place result) (without_member (place o) p) }
+{
+    let next = objects.next(o);
+    let before = objects.before(o);
+    precede(objects, next, before);
+    follow(objects, first, before, next)
+}
+
+/// Has `to` follow an object, or come first where there is none, and answers the head.
+fn follow(objects: &mut Objects, first: Oop, from: Oop, to: Oop) -> Oop
+    requires { IsEnd objects.old (place from) }
+    ensures head { result ≡ (if place from == 0 then to else first) }
+    ensures objects { objects_of objects.new ≡ objects_of objects.old }
+    ensures room { room_of objects.new ≡ room_of objects.old }
+    ensures places { SamePlaces objects.old.store objects.new.store }
+    ensures here { place from ≢ 0 → next_of objects.new.store (place from) ≡ place to }
+    ensures others { (k : ℕ) → k ≢ place from → next_of objects.new.store k ≡ next_of objects.old.store k }
+    ensures before { (k : ℕ) → before_of objects.new.store k ≡ before_of objects.old.store k }
+{
+    if from.0 < 2 {
+        return to;
+    }
+    objects.set_next(from, to);
+    first
+}
+
+/// Has `to` precede an object, if there is one.
+fn precede(objects: &mut Objects, at: Oop, to: Oop)
+    requires { IsEnd objects.old (place at) }
+    ensures objects { objects_of objects.new ≡ objects_of objects.old }
+    ensures room { room_of objects.new ≡ room_of objects.old }
+    ensures places { SamePlaces objects.old.store objects.new.store }
+    ensures here { place at ≢ 0 → before_of objects.new.store (place at) ≡ place to }
+    ensures others { (k : ℕ) → k ≢ place at → before_of objects.new.store k ≡ before_of objects.old.store k }
+    ensures next { (k : ℕ) → next_of objects.new.store k ≡ next_of objects.old.store k }
+{
+    if at.0 >= 2 {
+        objects.set_before(at, to);
+    }
 }

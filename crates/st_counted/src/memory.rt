@@ -1,7 +1,10 @@
 ghost use Rattle.std.specs.Prelude.{◌≡◌};
 ghost use Rattle.st_model.specs.View.{IsWhole, SettlesTo};
 ghost use Rattle.st_model.specs.Props.{IsWhole-prop};
+ghost use Rattle.st_memory.specs.Places.{KeepsPlacesIn};
+ghost use Rattle.st_heap.specs.Places.{Stands};
 ghost use Rattle.st_counted.specs.Counted.{counted_view, HasRoom, AllCounted};
+ghost use Rattle.st_counted.specs.Links.{IsListed};
 
 use crate::contents::Contents;
 use st_memory::Memory;
@@ -14,6 +17,7 @@ pub struct CountedMemory {
     pub ghost whole: { IsWhole (counted_view contents) } by { IsWhole-prop (counted_view contents) },
     pub ghost room: { HasRoom contents },
     pub ghost counted: { AllCounted contents },
+    pub ghost listed: { IsListed contents.objects contents.counts },
 }
 
 impl CountedMemory {
@@ -22,6 +26,7 @@ impl CountedMemory {
         requires whole { IsWhole (counted_view contents) }
         requires room { HasRoom contents }
         requires counted { AllCounted contents }
+        requires listed { IsListed contents.objects contents.counts }
         ensures { result.contents ≡ contents }
     {
         CountedMemory { contents }
@@ -30,9 +35,11 @@ impl CountedMemory {
     /// Takes away one object after the other to which nothing refers.
     #[inline(never)]
     fn drop_unused(&mut self)
-        ensures { SettlesTo (counted_view self.old.contents) (counted_view self.new.contents) }
+        ensures settles { SettlesTo (counted_view self.old.contents) (counted_view self.new.contents) }
+        ensures places { KeepsPlacesIn (counted_view self.new.contents).objects
+            (Stands self.old.contents.objects) (Stands self.new.contents.objects) }
     {
-        while let Some(k) = self.contents.counts.first_unused() {
+        while let Some(k) = self.contents.first_unused() {
             self.contents.drop_object(k);
         }
     }
@@ -40,6 +47,8 @@ impl CountedMemory {
 
 impl Memory for CountedMemory {
     ghost view = { λ m. counted_view m.contents };
+
+    ghost stands = { λ m. Stands m.contents.objects };
 
     fn live(&self, o: Oop) -> bool {
         self.contents.objects.live(o)
@@ -120,7 +129,7 @@ impl Memory for CountedMemory {
 
     #[inline(always)]
     fn settle(&mut self) {
-        match self.contents.counts.first_unused() {
+        match self.contents.first_unused() {
             Some(_) => self.drop_unused(),
             None => {}
         }
@@ -155,6 +164,25 @@ impl Memory for CountedMemory {
 
     fn symbols(&self) -> Oop {
         self.contents.head.symbols
+    }
+
+    fn place(&self, o: Oop) -> u32 {
+        self.contents.objects.place_of(o)
+    }
+
+    #[inline(always)]
+    fn placed_pointer(&self, o: Oop, place: u32, at: u32) -> Oop {
+        self.contents.objects.placed_field(o, place, at)
+    }
+
+    #[inline(always)]
+    fn placed_byte(&self, o: Oop, place: u32, at: u32) -> u8 {
+        self.contents.objects.placed_byte(o, place, at) as u8
+    }
+
+    #[inline(always)]
+    fn set_placed_pointer(&mut self, o: Oop, place: u32, at: u32, v: Oop) {
+        self.contents.set_placed_pointer(o, place, at, v);
     }
 
     ghost whole = { λ m. m.whole };

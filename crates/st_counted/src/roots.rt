@@ -1,4 +1,4 @@
-ghost use Rattle.std.specs.Prelude.{◌≡◌, ◌≢◌, ◌<◌, ◌≤◌, ◌+◌, ◌==◌, ℕ, List, length, slice_index_or, take, map, IfOk};
+ghost use Rattle.std.specs.Prelude.{◌≡◌, ◌≢◌, ◌<◌, ◌≤◌, ◌+◌, ◌==◌, ℕ, length, slice_index_or, take, map, IfOk};
 ghost use Rattle.st_model.specs.declared.oop.Oop.{Oop};
 ghost use Rattle.st_model.specs.declared.place.RootPlace.TheVariants.{Pending};
 ghost use Rattle.st_model.specs.Values.{value};
@@ -48,8 +48,6 @@ pub struct Roots {
 }
 
 impl Places {
-    ghost use Rattle.st_counted.specs.Held.{held_words, IsSinglePlace};
-
     /// nil at every place.
     const NOTHING: Places = Places {
         active: Oop::NIL,
@@ -63,40 +61,6 @@ impl Places {
         timer: Oop::NIL,
         low_space: Oop::NIL,
     };
-
-    /// The places with o in one of them; the pending signals are not among them.
-    #[inline(always)]
-    fn with(self, place: RootPlace, o: Oop) -> Places
-        requires { IsSinglePlace place }
-        ensures { (pending : List Oop) → held_words result pending
-            ≡ with_held (held_words self pending) place (value o) }
-    {
-        match place {
-            RootPlace::Active => Places { active: o, ..self },
-            RootPlace::Home => Places { home: o, ..self },
-            RootPlace::Method => Places { method: o, ..self },
-            RootPlace::Receiver => Places {
-                receiver: o,
-                ..self
-            },
-            RootPlace::NewProcess => Places {
-                new_process: o,
-                ..self
-            },
-            RootPlace::Display => Places { display: o, ..self },
-            RootPlace::Cursor => Places { cursor: o, ..self },
-            RootPlace::InputSemaphore => Places {
-                input_semaphore: o,
-                ..self
-            },
-            RootPlace::Timer => Places { timer: o, ..self },
-            RootPlace::LowSpace => Places {
-                low_space: o,
-                ..self
-            },
-            RootPlace::Pending(_) => self,
-        }
-    }
 }
 
 /// Where the pending signals end once o stands at place k.
@@ -168,8 +132,17 @@ impl Roots {
         ensures { held_of self.new ≡ with_held (held_of self.old) place (value o) }
     {
         match place {
+            RootPlace::Active => self.places.active = o,
+            RootPlace::Home => self.places.home = o,
+            RootPlace::Method => self.places.method = o,
+            RootPlace::Receiver => self.places.receiver = o,
+            RootPlace::NewProcess => self.places.new_process = o,
+            RootPlace::Display => self.places.display = o,
+            RootPlace::Cursor => self.places.cursor = o,
+            RootPlace::InputSemaphore => self.places.input_semaphore = o,
+            RootPlace::Timer => self.places.timer = o,
+            RootPlace::LowSpace => self.places.low_space = o,
             RootPlace::Pending(k) => self.hold_pending(k, o),
-            _ => self.places = self.places.with(place, o),
         }
     }
 

@@ -8,10 +8,11 @@ ghost use Rattle.st_model.specs.View.{IsWhole, IsKnown, is_live, object_of, held
 ghost use Rattle.st_model.specs.declared.place.RootPlace.{RootPlace};
 ghost use Rattle.st_counted.specs.Counts.{count_at, number_at};
 ghost use Rattle.st_counted.specs.References.{object_uses, uses, IsTallied, IsEntered, AddsReferences};
-ghost use Rattle.st_counted.specs.Counted.{counted_view, numbers_of, AllCounted};
+ghost use Rattle.st_counted.specs.Counted.{counted_view, numbers_of, AllCounted, SameButLinks};
+ghost use Rattle.st_counted.specs.Links.{IsListed};
 
 use crate::contents::Contents;
-use crate::counting::{pointer_of, raise};
+use crate::counting::{add, pointer_of};
 use st_model::Oop;
 
 /// The pointers of the root page.
@@ -48,11 +49,28 @@ impl Contents {
         requires held { (p : RootPlace) → held_at (counted_view self.old).held p ≡ nil }
         requires none { (k : ℕ) → count_at (numbers_of self.old) k ≡ None }
         ensures counted { AllCounted self.new }
-        ensures rest { self.new ≡ record self.old { counts = self.new.counts } }
+        ensures listed { IsListed self.new.objects self.new.counts }
+        ensures rest { SameButLinks self.old self.new }
     {
         self.enter_all();
         self.raise_objects();
         self.raise_roots();
+        self.list_unused();
+    }
+
+    /// Lists the objects to which nothing refers, and no other.
+    fn list_unused(&mut self)
+        requires counted { AllCounted self.old }
+        ensures listed { IsListed self.new.objects self.new.counts }
+        ensures rest { SameButLinks self.old self.new }
+        ensures numbers { numbers_of self.new ≡ numbers_of self.old }
+    {
+        self.counts.first = Oop(0);
+        for k in 0..32768 {
+            if self.counts.is_unused(k) {
+                self.counts.list(&mut self.objects, k);
+            }
+        }
     }
 
     /// Counts each object from 0 on.
@@ -77,7 +95,7 @@ impl Contents {
         ensures rest { self.new ≡ record self.old { counts = self.new.counts } }
     {
         self.raise_all(&PAGE);
-        raise(&mut self.counts, Oop::NIL, PLACES);
+        add(&mut self.counts, Oop::NIL, PLACES);
         self.raise_table(self.head.globals);
         self.raise_table(self.head.symbols);
     }
@@ -95,7 +113,7 @@ impl Contents {
     {
         let o = pointer_of(k);
         if self.objects.live(o) {
-            self.counts.enter(k);
+            self.counts.start(k);
         }
     }
 
@@ -126,7 +144,7 @@ impl Contents {
         let o = pointer_of(k);
         if self.objects.live(o) {
             let class = self.objects.class_of(o);
-            raise(&mut self.counts, class, 1);
+            add(&mut self.counts, class, 1);
             self.raise_fields(o);
         }
     }
@@ -143,7 +161,7 @@ impl Contents {
     {
         for i in 0..self.objects.count_fields(o) {
             let v = self.objects.field(o, i);
-            raise(&mut self.counts, v, 1);
+            add(&mut self.counts, v, 1);
         }
     }
 
@@ -158,7 +176,7 @@ impl Contents {
         ensures rest { self.new ≡ record self.old { counts = self.new.counts } }
     {
         for o in words {
-            raise(&mut self.counts, *o, 1);
+            add(&mut self.counts, *o, 1);
         }
     }
 
@@ -173,7 +191,7 @@ impl Contents {
         ensures rest { self.new ≡ record self.old { counts = self.new.counts } }
     {
         if o.0 != 0 {
-            raise(&mut self.counts, o, 1);
+            add(&mut self.counts, o, 1);
         }
     }
 }

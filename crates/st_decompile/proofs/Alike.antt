@@ -12,23 +12,15 @@ use Rattle.st_resolved.specs.Instructions.{on_some, long_count, read_as}
 use Rattle.st_expression_stack.specs.Items.{Item, piece, cascade, again, answered, argument, over, back, statements_of, Acted, goes_on, on_piece}
 use Rattle.st_expression_stack.specs.Messages.{sends}
 use Rattle.st_decompile.specs.Reading.{front, behind, passed, act, decided, makes_block, block_piece, choice_piece, passes, run, region}
+use Rattle.std.proofs.lemmas.Bool.{and_parts, and_right}
+use Rattle.st_resolved.proofs.Fitting.{at_most}
+use Rattle.st_resolved.proofs.Decoding.{below}
 
 -- SIZES
 
 two_bytes : (d : ℕ) (b : Bool) → is_short d ≡ b → size_of (if b then JumpPast d else Jump d) ≡ 2
 two_bytes d true e = refl
 two_bytes d false e = ap long_if e
-
-below : (m n : ℕ) → nat_lt m n ≡ true → m < n
-below m n e = grind (arith, nat_tests)
-
-at_most : (m n : ℕ) → nat_le m n ≡ true → m ≤ n
-at_most m n e = grind (arith, nat_tests)
-
-both : (a b : Bool) → (a && b) ≡ true → (a ≡ true) × (b ≡ true)
-both true true e = (refl, refl)
-both true false e = absurd cc
-both false b e = absurd cc
 
 -- what isn't sent by two bytes isn't by one
 no_shorter : (n s : ℕ) → (nat_lt s 32 && nat_le n 7) ≡ false → (nat_lt s 16 && nat_le n 2) ≡ false
@@ -37,7 +29,7 @@ no_shorter n s h = by_test (nat_lt s 16 && nat_le n 2) refl
     by_test : (b : Bool) → (nat_lt s 16 && nat_le n 2) ≡ b → b ≡ false
     by_test false e = refl
     by_test true e =
-        let p = both (nat_lt s 16) (nat_le n 2) e in
+        let p = and_parts (nat_lt s 16) (nat_le n 2) e in
         let i = below s 16 p.0 in
         let j = at_most n 2 p.1 in
         let a : nat_lt s 32 ≡ true = grind (arith, nat_tests, i) in
@@ -48,10 +40,6 @@ no_shorter n s h = by_test (nat_lt s 16 && nat_le n 2) refl
 three_bytes : (n s : ℕ) → (nat_lt s 32 && nat_le n 7) ≡ false → size_of (Send n s) ≡ 3
 three_bytes n s h = ap (λ (b : Bool). if b then 1 else long_send_size n s) (no_shorter n s h) ∙ ap (λ (b : Bool). if b then 2 else 3) h
 
-and_none : (a b : Bool) → b ≡ false → (a && b) ≡ false
-and_none true b e = e
-and_none false b e = refl
-
 many : (n : ℕ) → 8 ≤ n → nat_le n 7 ≡ false
 many n h = grind (arith, nat_tests, h)
 
@@ -59,21 +47,21 @@ long_three : (m s : ℕ) → (nat_lt s 32 && nat_le (long_count m s) 7) ≡ fals
 long_three m s = by_test (nat_lt s 32 && nat_le m 7) refl
   where
     by_test : (b : Bool) → (nat_lt s 32 && nat_le m 7) ≡ b → (nat_lt s 32 && nat_le (if b then m + 256 else m) 7) ≡ false
-    by_test true e = and_none (nat_lt s 32) (nat_le (m + 256) 7) (many (m + 256) (omega arith))
+    by_test true e = and_right (nat_lt s 32) (nat_le (m + 256) 7) (many (m + 256) (omega arith))
     by_test false e = e
 
 count_size : (n s : ℕ) (b : Bool) → nat_lt n 256 ≡ b → size_of (Send (if b then n else long_count (n % 256) s) s) ≡ size_of (Send n s)
 count_size n s true e = refl
 count_size n s false e =
     let h : 256 ≤ n = grind (arith, nat_tests, e) in
-    let i : (nat_lt s 32 && nat_le n 7) ≡ false = and_none (nat_lt s 32) (nat_le n 7) (many n (omega (arith, h))) in
+    let i : (nat_lt s 32 && nat_le n 7) ≡ false = and_right (nat_lt s 32) (nat_le n 7) (many n (omega (arith, h))) in
     three_bytes (long_count (n % 256) s) s (long_three (n % 256) s) ∙ sym (three_bytes n s i)
 
 super_size : (n s : ℕ) (b : Bool) → nat_lt n 256 ≡ b → size_of (SendSuper (if b then n else long_count (n % 256) s) s) ≡ size_of (SendSuper n s)
 super_size n s true e = refl
 super_size n s false e =
     let h : 256 ≤ n = grind (arith, nat_tests, e) in
-    let i : (nat_lt s 32 && nat_le n 7) ≡ false = and_none (nat_lt s 32) (nat_le n 7) (many n (omega (arith, h))) in
+    let i : (nat_lt s 32 && nat_le n 7) ≡ false = and_right (nat_lt s 32) (nat_le n 7) (many n (omega (arith, h))) in
     ap (λ (b : Bool). if b then 2 else 3) (long_three (n % 256) s) ∙ sym (ap (λ (b : Bool). if b then 2 else 3) i)
 
 size_same : (x : Step) → size_of (read_as x) ≡ size_of x

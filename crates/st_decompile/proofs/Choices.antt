@@ -1,6 +1,5 @@
 -- Conditional forms have their code again, whichever form they are read as.
 use Rattle.std.proofs.Common.{◌≡◌, ℕ, zero, suc, ◌+◌, ◌≤◌, ◌<◌, Bool, true, false, List, Option, Some, None, inl, inr, ◌⊎◌, refl, sym, ap, ap₂, ◌∙◌, subst, arith}
-use Rattle.std.proofs.lemmas.Bool.Decides.{nat_tests}
 use Rattle.std.specs.Prelude.{if◌then◌else◌, nat_lt, codes}
 use Rattle.st_scan.specs.Views.{ExpressionView, StatementsView, is_super, no_statements, statement}
 use Rattle.st_scan.specs.Views as views
@@ -18,6 +17,8 @@ use Rattle.st_expression_stack.specs.Choosing.{alone, one_sided_by, sides_by, ch
 use Rattle.st_decompile.specs.Calling.{least_in, IsNext}
 use Rattle.st_decompile.proofs.Same.{Same, SameBody, same, same_on, same_sided, same_chosen, same_back, same_constant, body_same}
 use Rattle.st_decompile.proofs.Sends.{sided_send, true_send, false_send, sided_named, chosen_true, chosen_false}
+use Rattle.st_resolved.proofs.Decoding.{below}
+use Rattle.st_resolved.proofs.Wholes.{not_more}
 
 -- a constant alone
 record IsAlone (b : StatementsView) (k : Constant) (c : Context) (acc : List LiteralView) : Type 0 where
@@ -31,12 +32,6 @@ alone_is (views.statement false (views.variable n) views.no_statements) k c acc 
 alone_is b k c acc e = absurd cc
 
 -- THE ORDER OF TWO BLOCKS
-
-below : (m n : ℕ) → nat_lt m n ≡ true → m < n
-below m n e = grind (arith, nat_tests)
-
-not_below : (m n : ℕ) → nat_lt m n ≡ false → n ≤ m
-not_below m n e = grind (arith, nat_tests)
 
 -- the second in the code has the less number, though it isn't the first in the text: then the first declares none
 no_first : (nf ns kf ks lf ls : ℕ) → ks ≡ kf + nf → kf + nf ≤ 64 → lf ≡ least_in nf kf → ls ≡ least_in ns ks → ls < lf → nf ≡ 0
@@ -177,7 +172,7 @@ module _ (at : ℕ → Context) (names_at : (m n : ℕ) → behind (at m) n ≡ 
           straight (inr o) (inl z) = in_order (inl (omega (arith, z))) (inl (omega (arith, z)))
           straight (inr o) (inr z) =
               let kept : kf ≡ ks + ns = omega (arith, o.0, o.1) in
-              let none = no_second nf ns kf ks la lb kept second.fits first.lowest second.lowest (not_below lb la t) in
+              let none = no_second nf ns kf ks la lb kept second.fits first.lowest second.lowest (not_more lb la t) in
               in_order (inr (omega (arith, z, o.0, o.1, none))) (inl none)
 
       with_one : (side : OneSided) (t : List ℕ) → passes_on side ≡ false → form_named t ≡ One side → alone b ≡ Some (other_side side) → Chosen (with_block e t a)

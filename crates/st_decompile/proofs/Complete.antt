@@ -16,17 +16,13 @@ use Rattle.st_code.specs.declared.fault.Cause.TheVariants.{Literals}
 use Rattle.st_code.specs.declared.simple.Simple.{Simple}
 use Rattle.st_code.specs.declared.simple.Simple.TheVariants.{Itself, ItsField}
 use Rattle.st_code.specs.Faults.{method_fault}
-use Rattle.st_code.specs.Methods.{simple, simple_flag, flag, returned_field, own_variables, variables, body, steps, depth, literals, last_literals, header, header_count, room_bit, passes, parts, fault, whole_fault, code, symbols_fault, primitive_fault, primitive_number, is_primitive, fault_if, scope_from, context}
-use Rattle.st_resolved.specs.Placed.{BodyPlaced}
-use Rattle.st_resolved.proofs.Placing.{statements_put}
+use Rattle.st_code.specs.Methods.{simple, simple_flag, flag, returned_field, own_variables, variables, body, steps, depth, literals, header, header_count, room_bit, passes, parts, fault, whole_fault, code, symbols_fault, primitive_fault, primitive_number, is_primitive, fault_if}
 use Rattle.st_resolved.specs.Instructions.{on_some, steps_of, AllFit}
-use Rattle.st_resolved.proofs.Decoding.{steps_back}
+use Rattle.st_resolved.proofs.Decoding.{steps_back, below}
 use Rattle.st_resolved.proofs.Unnumbered.{or_none}
-use Rattle.st_resolved.specs.Seen.{numbers}
-use Rattle.st_resolved.proofs.Seen.{below_more}
 use Rattle.st_emit.specs.Selectors.{arity}
 use Rattle.st_resolved.specs.Right.{RightStatements}
-use Rattle.st_resolved.proofs.Wholes.{placed, fit}
+use Rattle.st_resolved.proofs.Wholes.{placed, fit, not_more}
 use Rattle.st_expression_stack.specs.Items.{Item, no_arguments, most_high, statements_of}
 use Rattle.st_decompile.specs.Reading.{region}
 use Rattle.st_decompile.specs.Back.{body_high, method_least}
@@ -35,8 +31,9 @@ use Rattle.st_decompile.specs.Whole.{size_in, variables_in, own_in, extension_in
 use Rattle.st_decompile.proofs.Pieces.{method_items, method_taken}
 use Rattle.st_decompile.proofs.Nodes.{method_read}
 use Rattle.st_decompile.proofs.Alike.{region_same}
-use Rattle.st_decompile.proofs.Wholes.{tree_again, few, back, not_more, no_fault_if}
+use Rattle.st_decompile.proofs.Wholes.{tree_again, few, back, no_fault_if}
 use Rattle.st_decompile.proofs.Final.{same_code}
+use Rattle.std.proofs.lemmas.Bool.{and_parts}
 
 -- HEADERS
 
@@ -56,14 +53,6 @@ header_parts f c r n h e i j k =
 room_few : (b : Bool) → (if b then 128 else 0) ≤ 128
 room_few true = omega arith
 room_few false = omega arith
-
-both : (a b : Bool) → (a && b) ≡ true → (a ≡ true) × (b ≡ true)
-both true true e = (refl, refl)
-both true false e = absurd cc
-both false b e = absurd cc
-
-below : (m n : ℕ) → nat_lt m n ≡ true → m < n
-below m n e = grind (arith, nat_tests)
 
 equal : (a b : ℕ) → (a == b) ≡ true → a ≡ b
 equal a b e = grind (arith, nat_tests)
@@ -123,7 +112,7 @@ primitive_back (Some n) a h = by_parts n.minus refl h
     by_parts : (m : Bool) → n.minus ≡ m → ((not m && nat_le 1 n.size) && nat_le n.size 255) ≡ true → primitive_by ((a * 256 + n.size) % 256) ≡ Some n
     by_parts true e i = absurd cc
     by_parts false e i =
-        let parts = both (nat_le 1 n.size) (nat_le n.size 255) i in
+        let parts = and_parts (nat_le 1 n.size) (nat_le n.size 255) i in
         let low : 1 ≤ n.size = grind (arith, nat_tests, parts.0) in
         let high : n.size ≤ 255 = grind (arith, nat_tests, parts.1) in
         let rest : (a * 256 + n.size) % 256 ≡ n.size = omega (arith, high) in

@@ -30,6 +30,7 @@ use Rattle.st_expression_stack.specs.Choosing.{content_of, elements_of, constant
 use Rattle.st_decompile.specs.Back.{tree_of, body_tree, nodes_tree, messages_list, high, body_high, messages_high, nodes_high, body_least, method_tree, without_self, is_self}
 use Rattle.st_decompile.proofs.High.{messages_max}
 use Rattle.st_decompile.proofs.Making.{Makes, makes_then, makes_end, makes_sending}
+use Rattle.st_print.proofs.Deep.{wrapped_least}
 
 -- PARENTHESES
 
@@ -41,10 +42,6 @@ loose_unary Any = refl
 wrapped_low : (b : Bool) (m n : ℕ) → m ≤ n → wrapped_nesting b m ≤ wrapped_nesting b n
 wrapped_low true m n h = omega (arith, h)
 wrapped_low false m n h = h
-
-wrapped_more : (b : Bool) (n : ℕ) → n ≤ wrapped_nesting b n
-wrapped_more true n = omega arith
-wrapped_more false n = omega arith
 
 -- where an expression of a rank is wanted
 abbrev put : Rank → ExpressionView → ℕ
@@ -299,10 +296,10 @@ module _ (name_of : Place → List ℕ) where
   sided_nests side e s a m w pa q n h =
       let c = choice_within (passes_on side) (tree_of name_of n) (body_tree name_of (body_of m) no_statements) (body_least (body_of m) no_arguments) (statement false (constant_tree (other_side side)) no_statements) no_arguments in
       record {
-        low = omega (arith, c.low, put_low Binary (tree_of name_of n) e h.rank h.low, q.inside, plain_deep a pa, wrapped_more (is_loose (argument_rank s) (rank_of a)) (nesting a));
+        low = omega (arith, c.low, put_low Binary (tree_of name_of n) e h.rank h.low, q.inside, plain_deep a pa, wrapped_least (is_loose (argument_rank s) (rank_of a)) (nesting a));
         rank = c.rank ∙ sym (form_rank s a no_expressions w);
         inside = omega arith;
-        height = omega (arith, ap loose (form_rank s a no_expressions w), put_room Binary e (high n) h.height, q.within, plain_deep a pa, wrapped_more (is_loose (argument_rank s) (rank_of a)) (nesting a));
+        height = omega (arith, ap loose (form_rank s a no_expressions w), put_room Binary e (high n) h.height, q.within, plain_deep a pa, wrapped_least (is_loose (argument_rank s) (rank_of a)) (nesting a));
         within = omega arith;
       }
 
@@ -311,10 +308,10 @@ module _ (name_of : Place → List ℕ) where
   looped_nests kind e s a m w pe pa q n h =
       let c = block_within (views.block [] (body_tree name_of (body_of n) no_statements)) (loop_selector (leaves_on kind)) (body_tree name_of (body_of m) no_statements) (loop_word (leaves_on kind)) in
       record {
-        low = omega (arith, c.low, h.inside, plain_deep e pe, wrapped_more (is_loose Binary (rank_of e)) (nesting e), q.inside, plain_deep a pa, wrapped_more (is_loose (argument_rank s) (rank_of a)) (nesting a));
+        low = omega (arith, c.low, h.inside, plain_deep e pe, wrapped_least (is_loose Binary (rank_of e)) (nesting e), q.inside, plain_deep a pa, wrapped_least (is_loose (argument_rank s) (rank_of a)) (nesting a));
         rank = c.rank ∙ sym (form_rank s a no_expressions w);
         inside = omega arith;
-        height = omega (arith, ap loose (form_rank s a no_expressions w), h.within, plain_deep e pe, wrapped_more (is_loose Binary (rank_of e)) (nesting e), q.within, plain_deep a pa, wrapped_more (is_loose (argument_rank s) (rank_of a)) (nesting a));
+        height = omega (arith, ap loose (form_rank s a no_expressions w), h.within, plain_deep e pe, wrapped_least (is_loose Binary (rank_of e)) (nesting e), q.within, plain_deep a pa, wrapped_least (is_loose (argument_rank s) (rank_of a)) (nesting a));
         within = omega arith;
       }
     where
@@ -330,10 +327,10 @@ module _ (name_of : Place → List ℕ) where
   true_nests e s a b m o w pa pb q r n h =
       let c = choice_within false (tree_of name_of n) (body_tree name_of (body_of m) no_statements) (body_least (body_of m) no_arguments) (body_tree name_of (body_of o) no_statements) (body_least (body_of o) no_arguments) in
       record {
-        low = omega (arith, c.low, put_low Binary (tree_of name_of n) e h.rank h.low, q.inside, r.inside, plain_deep a pa, plain_deep b pb, wrapped_more (is_loose (argument_rank s) (rank_of a)) (nesting a), wrapped_more (is_loose (argument_rank s) (rank_of b)) (nesting b));
+        low = omega (arith, c.low, put_low Binary (tree_of name_of n) e h.rank h.low, q.inside, r.inside, plain_deep a pa, plain_deep b pb, wrapped_least (is_loose (argument_rank s) (rank_of a)) (nesting a), wrapped_least (is_loose (argument_rank s) (rank_of b)) (nesting b));
         rank = c.rank ∙ sym (form_rank s a (views.expression b no_expressions) w);
         inside = omega arith;
-        height = omega (arith, ap loose (form_rank s a (views.expression b no_expressions) w), put_room Binary e (high n) h.height, q.within, r.within, plain_deep a pa, plain_deep b pb, wrapped_more (is_loose (argument_rank s) (rank_of a)) (nesting a), wrapped_more (is_loose (argument_rank s) (rank_of b)) (nesting b));
+        height = omega (arith, ap loose (form_rank s a (views.expression b no_expressions) w), put_room Binary e (high n) h.height, q.within, r.within, plain_deep a pa, plain_deep b pb, wrapped_least (is_loose (argument_rank s) (rank_of a)) (nesting a), wrapped_least (is_loose (argument_rank s) (rank_of b)) (nesting b));
         within = omega arith;
       }
 
@@ -341,10 +338,10 @@ module _ (name_of : Place → List ℕ) where
   false_nests e s a b m o w pa pb q r n h =
       let c = choice_within false (tree_of name_of n) (body_tree name_of (body_of o) no_statements) (body_least (body_of o) no_arguments) (body_tree name_of (body_of m) no_statements) (body_least (body_of m) no_arguments) in
       record {
-        low = omega (arith, c.low, put_low Binary (tree_of name_of n) e h.rank h.low, q.inside, r.inside, plain_deep a pa, plain_deep b pb, wrapped_more (is_loose (argument_rank s) (rank_of a)) (nesting a), wrapped_more (is_loose (argument_rank s) (rank_of b)) (nesting b));
+        low = omega (arith, c.low, put_low Binary (tree_of name_of n) e h.rank h.low, q.inside, r.inside, plain_deep a pa, plain_deep b pb, wrapped_least (is_loose (argument_rank s) (rank_of a)) (nesting a), wrapped_least (is_loose (argument_rank s) (rank_of b)) (nesting b));
         rank = c.rank ∙ sym (form_rank s a (views.expression b no_expressions) w);
         inside = omega arith;
-        height = omega (arith, ap loose (form_rank s a (views.expression b no_expressions) w), put_room Binary e (high n) h.height, q.within, r.within, plain_deep a pa, plain_deep b pb, wrapped_more (is_loose (argument_rank s) (rank_of a)) (nesting a), wrapped_more (is_loose (argument_rank s) (rank_of b)) (nesting b));
+        height = omega (arith, ap loose (form_rank s a (views.expression b no_expressions) w), put_room Binary e (high n) h.height, q.within, r.within, plain_deep a pa, plain_deep b pb, wrapped_least (is_loose (argument_rank s) (rank_of a)) (nesting a), wrapped_least (is_loose (argument_rank s) (rank_of b)) (nesting b));
         within = omega arith;
       }
 

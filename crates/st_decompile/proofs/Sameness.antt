@@ -1,5 +1,5 @@
 -- Two methods that are compared are the same exactly where they are one.
-use Rattle.std.proofs.Common.{◌≡◌, ℕ, ◌≤◌, Bool, true, false, not, ◌&&◌, ◌==◌, List, [], ◌∷◌, map, drop, length, Some, None, refl, sym, ap, ap₂, ◌∙◌, arith}
+use Rattle.std.proofs.Common.{◌≡◌, ℕ, ◌≤◌, Bool, true, false, not, ◌&&◌, ◌==◌, List, [], ◌∷◌, drop, length, Some, None, refl, sym, ap, ap₂, ◌∙◌, arith}
 use Rattle.std.proofs.lemmas.Bool.{and_parts, eqb-true}
 use Rattle.std.proofs.lemmas.Bool.Decides.{nat_tests}
 use Rattle.std.proofs.lemmas.Slice.Eq.{bytes_eq-Decides}
@@ -14,6 +14,7 @@ use Rattle.st_emit.specs.Views.{literal_view, literals_view, members_view}
 use Rattle.st_emit.proofs.Members.{array_view}
 use Rattle.st_code.specs.Methods.{PartsView}
 use Rattle.st_decompile.specs.Comparing.{same_literal, same_members, members_of, as_members, same_parts}
+use Rattle.st_resolved.proofs.Places.{signed_same as signed_is}
 
 same_bytes : (s t : List ℕ) → bytes_eq s t ≡ true → s ≡ t
 same_bytes s t e = (bytes_eq-Decides s t).0 e
@@ -23,18 +24,6 @@ bytes_same t = (bytes_eq-Decides t t).1 refl
 
 number_same : (n : ℕ) → (n == n) ≡ true
 number_same n = grind (arith, nat_tests)
-
-signed_is : (m n : Signed) → signed_eq m n ≡ true → m ≡ n
-signed_is m n e = by_signs m.minus n.minus refl refl e
-  where
-    make : Bool → ℕ → Signed
-    make b k = record { minus = b; size = k }
-
-    by_signs : (a b : Bool) → m.minus ≡ a → n.minus ≡ b → ((if a then b else not b) && m.size == n.size) ≡ true → m ≡ n
-    by_signs true true x y h = ap₂ make (x ∙ sym y) (eqb-true m.size n.size h)
-    by_signs false false x y h = ap₂ make (x ∙ sym y) (eqb-true m.size n.size h)
-    by_signs true false x y h = absurd cc
-    by_signs false true x y h = absurd cc
 
 signed_same : (n : Signed) → signed_eq n n ≡ true
 signed_same n = ap₂ (λ (a b : Bool). a && b) (by_sign n.minus) (number_same n.size)

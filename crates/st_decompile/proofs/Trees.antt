@@ -1,17 +1,16 @@
 -- The tree that is read of a tree's code has this code again.
-use Rattle.std.proofs.Common.{◌≡◌, ℕ, zero, suc, ◌+◌, ◌≤◌, min, Bool, true, false, not, ◌&&◌, List, [], ◌∷◌, ◌++◌, Option, Some, None, length, refl, sym, ap, ap₂, ◌∙◌, subst, arith, append-nil}
+use Rattle.std.proofs.Common.{◌≡◌, ℕ, zero, suc, ◌+◌, ◌≤◌, min, Bool, true, false, not, ◌&&◌, List, [], ◌∷◌, ◌++◌, None, length, refl, sym, ap, ap₂, ◌∙◌, subst, arith, append-nil}
 use Rattle.st_scan.specs.Views.{NameView, ExpressionView, ExpressionsView, StatementsView, MessagesView, is_super, no_statements, statement}
 use Rattle.st_scan.specs.Views as views
 use Rattle.st_emit.specs.declared.step.Place.{Place}
 use Rattle.st_emit.specs.declared.form.TwoSided.TheVariants.{TrueFirst, FalseFirst}
 use Rattle.st_emit.specs.declared.form.Form.{Form}
 use Rattle.st_emit.specs.declared.form.Form.TheVariants.{Message as Plain, One, Two, Repeated}
-use Rattle.st_emit.specs.Names.{NamesView, Scope, numbered, declared, variable_named, or_else}
+use Rattle.st_emit.specs.Names.{NamesView, Scope, numbered, declared, variable_named}
 use Rattle.st_emit.specs.Literals.{LiteralView, Named, Naming}
 use Rattle.st_emit.specs.Nodes.{Sending, Node, Body, Messages, Nodes, nothing, last, next as following, returned, only, also, node}
 use Rattle.st_emit.specs.Around.{cascade_nodes}
 use Rattle.st_emit.specs.Resolving.{Context, behind, names_in, names_in_statements, names_in_messages, names_in_all, is_plain, all_plain, place_of_name, expression_node, statements_body, messages_of, nodes_of, all_nodes, sending, message_nodes, before, form_named}
-use Rattle.st_code.specs.declared.fault.Fault.{Fault}
 use Rattle.st_code.specs.Faults.{expression_fault, statements_fault, messages_fault, expressions_fault, declare_fault}
 use Rattle.st_resolved.proofs.Grows.{Extends, extends_on, grows_place, grows_sends, grows_sending, grows_messages, grows_all, statements_grow, messages_grow, nodes_grow}
 use Rattle.st_resolved.specs.Seen.{unnumbered}
@@ -26,11 +25,7 @@ use Rattle.st_decompile.proofs.Forms.{IsPlainSend, plain_send, several, as_forme
 use Rattle.st_decompile.proofs.Leaves.{name_back, content_back, assign_back}
 use Rattle.st_decompile.proofs.Blocks.{block_back, was_is, counted_at}
 use Rattle.st_decompile.proofs.Backs.{Back, BodyBack, NodesBack, MessagesBack, ReceiverBack, Ready, AsLong, at_next, again_at, body_back, nodes_back, messages_back, first_next, second_next, least_both}
-
-both : (a b : Bool) → (a && b) ≡ true → (a ≡ true) × (b ≡ true)
-both true true e = (refl, refl)
-both true false e = absurd cc
-both false b e = absurd cc
+use Rattle.std.proofs.lemmas.Bool.{and_parts}
 
 not_true : (a : Bool) → not a ≡ true → a ≡ false
 not_true true e = absurd cc
@@ -417,14 +412,14 @@ module _ (name_of : Place → List ℕ) (names : NamesView) (literals : List Lit
     form_case Plain es e p q b = absurd cc
     form_case (One side) views.no_expressions e p q b = absurd cc
     form_case (One side) (views.expression a views.no_expressions) e p q b =
-        with_plain (λ (y : ExpressionView). IsOneOf r (views.expression y views.no_expressions)) a (both (is_plain a) true p).0 b (λ c hc. one_case r t hr f s next other acc u plain side c hc e)
+        with_plain (λ (y : ExpressionView). IsOneOf r (views.expression y views.no_expressions)) a (and_parts (is_plain a) true p).0 b (λ c hc. one_case r t hr f s next other acc u plain side c hc e)
     form_case (One side) (views.expression a (views.expression d es)) e p q b = absurd cc
     form_case (Two side) views.no_expressions e p q b = absurd cc
     form_case (Two side) (views.expression a views.no_expressions) e p q b = absurd cc
     form_case (Two side) (views.expression a (views.expression d views.no_expressions)) e p q b =
-        let ps = both (is_plain a) (is_plain d && true) p in
+        let ps = and_parts (is_plain a) (is_plain d && true) p in
         with_plain (λ (y : ExpressionView). IsOneOf r (views.expression y (views.expression d views.no_expressions))) a ps.0 b.0
-        (λ c hc. with_plain (λ (z : ExpressionView). IsOneOf r (views.expression (plain_block c) (views.expression z views.no_expressions))) d (both (is_plain d) true ps.1).0 b.1
+        (λ c hc. with_plain (λ (z : ExpressionView). IsOneOf r (views.expression (plain_block c) (views.expression z views.no_expressions))) d (and_parts (is_plain d) true ps.1).0 b.1
         (λ g hg h ready. two_case r t hr f s next other acc u plain c g hc hg h ready side e))
     form_case (Two side) (views.expression a (views.expression d (views.expression g es))) e p q b = absurd cc
     form_case (Repeated kind) es e p q b = by_plain (is_plain r) refl es p q b
@@ -433,7 +428,7 @@ module _ (name_of : Place → List ℕ) (names : NamesView) (literals : List Lit
         by_plain false j es p q b = absurd cc
         by_plain true j views.no_expressions p q b = absurd cc
         by_plain true j (views.expression a views.no_expressions) p q b =
-            with_plain (λ (y : ExpressionView). IsOneOf r (views.expression y views.no_expressions)) a (both (is_plain a) true p).0 b
+            with_plain (λ (y : ExpressionView). IsOneOf r (views.expression y views.no_expressions)) a (and_parts (is_plain a) true p).0 b
             (λ c hc. with_plain (λ (z : ExpressionView). IsOneOf z (views.expression (plain_block c) views.no_expressions)) r j br
             (λ g hg. loop_case g c t hg hc f s next other acc u kind e))
         by_plain true j (views.expression a (views.expression d es)) p q b = absurd cc
@@ -464,8 +459,8 @@ module _ (name_of : Place → List ℕ) (names : NamesView) (literals : List Lit
 
       by_test : (i : Bool) → is_form (is_super r) (is_plain r) t es ≡ i → Back name_of names literals (expression_node (views.send r (views.message t es views.no_messages)) (ctx s next) acc) (names_in (views.send r (views.message t es views.no_messages))) next false (ctx' s other) acc
       by_test true e =
-          let ps = both (not (is_super r)) (all_plain es && is_formed (form_named t) (is_plain r) es) e in
-          let qs = both (all_plain es) (is_formed (form_named t) (is_plain r) es) ps.1 in
+          let ps = and_parts (not (is_super r)) (all_plain es && is_formed (form_named t) (is_plain r) es) e in
+          let qs = and_parts (all_plain es) (is_formed (form_named t) (is_plain r) es) ps.1 in
           form_case r t hr br f s next other acc u (not_true (is_super r) ps.0) (form_named t) es refl qs.0 qs.1 bm h ready
       by_test false e =
           let x = expression_node r (ctx s next) acc in

@@ -1,6 +1,5 @@
 -- The method that is read of a method's code has the same parts.
 use Rattle.std.proofs.Common.{◌≡◌, ℕ, ◌+◌, ◌*◌, ◌≤◌, ◌==◌, Bool, true, false, not, ◌&&◌, ◌||◌, List, [], ◌∷◌, ◌++◌, length, Option, None, refl, sym, ap, ap₂, ◌∙◌, arith}
-use Rattle.std.proofs.lemmas.Bool.Decides.{nat_tests}
 use Rattle.std.specs.Prelude.{if◌then◌else◌, nat_lt, is_some, Ok}
 use Rattle.st_scan.specs.Views.{NameView, MethodView}
 use Rattle.st_emit.specs.Bounds.{most_literals, most_variables, most_flagged, most_bytes, small_room, large_room}
@@ -16,21 +15,17 @@ use Rattle.st_emit.specs.Resolving.{Context, names_in_statements, statements_bod
 use Rattle.st_code.specs.declared.fault.Fault.{Fault}
 use Rattle.st_code.specs.declared.fault.Cause.TheVariants.{Literals, Temporaries, Depth, Jump, Size}
 use Rattle.st_code.specs.declared.simple.Simple.{Simple}
-use Rattle.st_code.specs.Faults.{declare_fault, statements_fault, method_fault}
+use Rattle.st_code.specs.Faults.{method_fault}
 use Rattle.st_code.specs.Methods.{PartsView, simple, scope_from, own_variables, variables, context, body, steps, depth, flag, flag_of, last_of, literals, header, parts, whole_fault, fault, room_bit, count_of, code, parts_or, symbols_fault, primitive_fault, fault_if, simple_flag, primitive_number, passes, header_count}
 use Rattle.st_code.specs.Simple.{simple_by}
 use Rattle.st_code.proofs.ShortCode.{simple_by_nodes}
-use Rattle.st_resolved.specs.Seen.{unnumbered}
-use Rattle.st_resolved.proofs.Unnumbered.{or_none, unnumbered-append}
+use Rattle.st_resolved.proofs.Unnumbered.{or_none}
 use Rattle.st_resolved.proofs.Wholes.{few_variables, body_fault, same_scopes}
 use Rattle.st_decompile.specs.Calling.{renamed, AreNames}
 use Rattle.st_decompile.proofs.Renamed.{renamed-append}
 use Rattle.st_decompile.proofs.Backs.{again_at}
 use Rattle.st_decompile.proofs.Blocks.{names_of, names_length, names_numbered}
 use Rattle.st_decompile.proofs.Bodies.{method_is, method_back, MethodBack}
-
-pub not_more : (m n : ℕ) → nat_lt m n ≡ false → n ≤ m
-not_more m n e = grind (arith, nat_tests)
 
 pub no_fault_if : (b : Bool) (x : _) → fault_if b x ≡ None → b ≡ false
 no_fault_if true x e = absurd cc

@@ -20,13 +20,13 @@ use Rattle.st_emit.proofs.Places.{place_from, place_more}
 
 -- NOTING
 
-same_text : (a b : List ℕ) → bytes_eq a b ≡ true → a ≡ b
+pub same_text : (a b : List ℕ) → bytes_eq a b ≡ true → a ≡ b
 same_text a b h = (bytes_decides a b).0 h
 
 abbrev by_items : Vec ℕ → Vec ℕ → Ordering
 by_items x y = slice_cmp nat_cmp x.items y.items
 
-decides : (a b : Vec ℕ) → is_eq (by_items a b) ≡ bytes_eq a.items b.items
+pub decides : (a b : Vec ℕ) → is_eq (by_items a b) ≡ bytes_eq a.items b.items
 decides a b = is_eq-slice_cmp a.items b.items
 
 pub noted_text : (entries : List (Vec ℕ × ℕ)) (text : List ℕ) → lookup (λ q. is_eq (slice_cmp nat_cmp text q.items)) entries ≡ text_noted entries text

@@ -25,7 +25,7 @@ found_from (name ∷ names) n k text e = by_test (bytes_eq name text) refl e (λ
         let more : k - n ≡ suc (k - (n + 1)) = omega (arith, r.0) in
         (omega (arith, r.0), ap (slice_get (name ∷ names)) more ∙ r.1)
 
-special_there : (text : List ℕ) (k : ℕ) → special_selector text ≡ Some k → slice_get special_selectors k ≡ Some text
+pub special_there : (text : List ℕ) (k : ℕ) → special_selector text ≡ Some k → slice_get special_selectors k ≡ Some text
 special_there text k e = let r = found_from special_selectors 0 k text e in let same : k - 0 ≡ k = omega arith in ap (slice_get special_selectors) (sym same) ∙ r.1
 
 -- each with as many arguments as its text says

@@ -29,7 +29,7 @@ use Rattle.st_first_objects.proofs.Places.{place_within}
 
 -- THE PAGE COMES FIRST
 
-page_begins : (ps : List Part) → Begins (want_all empty page) (order ps)
+pub page_begins : (ps : List Part) → Begins (want_all empty page) (order ps)
 page_begins ps =
     let a = want_all empty page in
     let b = want_all a characters in
@@ -37,7 +37,7 @@ page_begins ps =
     let d = want_parts ps c 0 ps in
     further a d (last_things d) (further a c d (further a b c (all_begins a characters) (all_begins b tables)) (parts_begin ps c 0 ps)) (last_begin d)
 
-got_before : (xs ys : List Thing) (i : ℕ) (x : Thing) → slice_get xs i ≡ Some x → slice_get (xs ++ ys) i ≡ Some x
+pub got_before : (xs ys : List Thing) (i : ℕ) (x : Thing) → slice_get xs i ≡ Some x → slice_get (xs ++ ys) i ≡ Some x
 got_before [] ys i x e = cc
 got_before (y ∷ xs) ys zero x e = e
 got_before (y ∷ xs) ys (suc i) x e = got_before xs ys i x e

@@ -1,10 +1,10 @@
 -- The places of the first objects.
-use Rattle.std.proofs.Common.{◌≡◌, ℕ, zero, suc, ◌+◌, ◌-◌, ◌*◌, ◌/◌, ◌%◌, ◌<◌, ◌≤◌, ◌⊎◌, Bool, true, false, cond, nat_lt, nat_eq, List, [], ◌∷◌, length, get_or, Some, None, refl, sym, subst, ap, ◌∙◌, inl, inr, arith}
+use Rattle.std.proofs.Common.{◌≡◌, ℕ, zero, suc, ◌+◌, ◌-◌, ◌*◌, ◌/◌, ◌%◌, ◌<◌, ◌≤◌, ◌⊎◌, Bool, true, cond, nat_lt, nat_eq, List, [], ◌∷◌, length, get_or, Some, None, refl, sym, subst, ap, ◌∙◌, inl, inr, arith}
 use Rattle.std.specs.Prelude.{◌&&◌}
 use Rattle.std.specs.List.{list_all, position}
-use Rattle.std.proofs.lemmas.Bool.{cases_lt, both_ways, ltb-true, le-ltb, lt-ltb}
+use Rattle.std.proofs.lemmas.Bool.{cases_lt, ltb-true, le-ltb, lt-ltb, and_parts}
 use Rattle.std.proofs.lemmas.Bool.Decides.{Decides-eqb}
-use Rattle.st_model.specs.Values.{Small, Ref, value_of}
+use Rattle.st_model.specs.Values.{Ref, value_of}
 use Rattle.st_first_objects.specs.Things.{Thing, same}
 use Rattle.st_first_objects.specs.Pointers.{first_places, place, place_at, place_in}
 
@@ -13,17 +13,13 @@ use Rattle.st_first_objects.specs.Pointers.{first_places, place, place_at, place
 abbrev inside : ℕ → Bool
 inside p = nat_lt 0 p && nat_lt p 29
 
-both : (x y : Bool) → (x && y) ≡ true → (x ≡ true) × (y ≡ true)
-both true y e = (refl, e)
-both false y e = absurd (both_ways false refl e)
-
 each_inside : (ps : List ℕ) (i : ℕ) → list_all inside ps ≡ true → i < length ps → inside (get_or ps i 0) ≡ true
 each_inside [] i all lt = absurd (omega arith)
-each_inside (p ∷ ps) zero all lt = (both (inside p) (list_all inside ps) all).0
-each_inside (p ∷ ps) (suc i) all lt = each_inside ps i (both (inside p) (list_all inside ps) all).1 (omega arith)
+each_inside (p ∷ ps) zero all lt = (and_parts (inside p) (list_all inside ps) all).0
+each_inside (p ∷ ps) (suc i) all lt = each_inside ps i (and_parts (inside p) (list_all inside ps) all).1 (omega arith)
 
 inside_is : (p : ℕ) → inside p ≡ true → (0 < p) × (p < 29)
-inside_is p e = let a = both (nat_lt 0 p) (nat_lt p 29) e in (ltb-true 0 p a.0, ltb-true p 29 a.1)
+inside_is p e = let a = and_parts (nat_lt 0 p) (nat_lt p 29) e in (ltb-true 0 p a.0, ltb-true p 29 a.1)
 
 pub place_first : (i : ℕ) → i < 28 → (get_or first_places i 0 ≡ place i) × (0 < get_or first_places i 0) × (get_or first_places i 0 < 32768)
 unfolding place
@@ -49,10 +45,6 @@ pub value_of_nil : value_of 2 ≡ Ref 1
 unfolding value_of
 value_of_nil = refl
 
-pub value_of_small : (n : ℕ) → value_of (2 * n + 1) ≡ Small n
-unfolding value_of
-value_of_small n = let a : (2 * n + 1) % 2 ≡ 1 = omega arith in let b : (2 * n + 1) / 2 ≡ n = omega arith in rw (a, b) refl
-
 pub place_found : (ts : List Thing) (t : Thing) (i : ℕ) → Some i ≡ position (same t) ts → place i ≡ place_in ts t
 unfolding place_in
 place_found ts t i e = ap place_at e
@@ -77,7 +69,7 @@ turns_back (suc n) = nat_eq (turn (get_or first_places n 0)) n && turns_back n
 
 each_turns : (n i : ℕ) → turns_back n ≡ true → i < n → turn (get_or first_places i 0) ≡ i
 each_turns zero i e lt = absurd (omega arith)
-each_turns (suc n) i e lt = by (both (nat_eq (turn (get_or first_places n 0)) n) (turns_back n) e) (cases_lt i n) (λ b less. each_turns n i b less)
+each_turns (suc n) i e lt = by (and_parts (nat_eq (turn (get_or first_places n 0)) n) (turns_back n) e) (cases_lt i n) (λ b less. each_turns n i b less)
   where
     by : (nat_eq (turn (get_or first_places n 0)) n ≡ true) × (turns_back n ≡ true) → ((i < n) ⊎ (n ≤ i)) → (turns_back n ≡ true → i < n → turn (get_or first_places i 0) ≡ i) → turn (get_or first_places i 0) ≡ i
     by b (inl less) more = more b.1 less

@@ -1,51 +1,21 @@
 -- Tables in which a free place is given an object, whose parts are then stored.
-use Rattle.std.proofs.Common.{◌≡◌, ◌≢◌, ℕ, zero, suc, ◌+◌, ◌<◌, ◌≤◌, [], ◌∷◌, List, length, true, false, get_or, replicate, Option, Some, None, refl, sym, ap, ◌∙◌, arith}
+use Rattle.std.proofs.Common.{◌≡◌, ◌≢◌, ℕ, zero, suc, ◌+◌, ◌<◌, ◌≤◌, [], ◌∷◌, List, length, true, get_or, replicate, Some, refl, sym, ap, ◌∙◌, arith}
 use Rattle.std.specs.Prelude.{slice_set, slice_get}
-use Rattle.std.proofs.lemmas.List.{set-set, get_or-set_same, get_or-set_other}
+use Rattle.std.proofs.lemmas.List.{set-set}
 use Rattle.st_model.specs.Values.{Value, Ref}
 use Rattle.st_model.specs.Objects.{Object, with_field, object_with_unit}
-use Rattle.st_model.specs.Table.{Table, entry, changed, total_used}
+use Rattle.st_model.specs.Table.{Table, entry, changed}
 use Rattle.st_model.specs.View.{View, is_live, object_of, with_object, with_stored, with_unit}
 use Rattle.st_first_objects.specs.Placing.{Puts, filled}
-
-entry-get : (t : Table) (k : ℕ) → entry t k ≡ get_or t k None
-entry-get [] k = refl
-entry-get (e ∷ t) zero = refl
-entry-get (e ∷ t) (suc k) = entry-get t k
-
-pub entry_same : (t : Table) (k : ℕ) (e : Option Object) → k < length t → entry (slice_set t k e) k ≡ e
-entry_same t k e k_in = entry-get (slice_set t k e) k ∙ get_or-set_same t k e None k_in
-
-pub entry_other : (t : Table) (k j : ℕ) (e : Option Object) → j ≢ k → entry (slice_set t k e) j ≡ entry t j
-entry_other t k j e other = entry-get (slice_set t k e) j ∙ (get_or-set_other t k j e None other ∙ sym (entry-get t j))
-
--- a place that has an object is given another one
-changed-set : (t : Table) (k : ℕ) (o p : Object) → entry t k ≡ Some o → changed t k p ≡ slice_set t k (Some p)
-changed-set [] k o p e = cc
-changed-set (None ∷ t) zero o p e = cc
-changed-set (Some a ∷ t) zero o p e = refl
-changed-set (None ∷ t) (suc k) o p e = ap (λ (u : Table). None ∷ u) (changed-set t k o p e)
-changed-set (Some a ∷ t) (suc k) o p e = ap (λ (u : Table). Some a ∷ u) (changed-set t k o p e)
-
-pub total_more : (weight : Object → ℕ) (t : Table) (k : ℕ) (o : Object) → k < length t → entry t k ≡ None
-    → total_used weight (slice_set t k (Some o)) ≡ total_used weight t + weight o
-total_more weight [] k o k_in e = absurd (omega arith)
-total_more weight (None ∷ t) zero o k_in e = omega arith
-total_more weight (Some a ∷ t) zero o k_in e = cc
-total_more weight (None ∷ t) (suc k) o k_in e = total_more weight t k o (omega arith) e
-total_more weight (Some a ∷ t) (suc k) o k_in e = let d = total_more weight t k o (omega arith) e in omega arith
+use Rattle.st_model.proofs.Entries.{entry-set_same, changed-set}
 
 -- VIEWS
-
-pub free_at : (v : View) (x : Value) (k : ℕ) → x ≡ Ref k → entry v.objects k ≡ None → is_live v.objects x ≡ false
-unfolding is_live
-free_at v x k e free = rw (e, free) refl
 
 -- where an object was put it is
 module _ (v w : View) (k : ℕ) (o : Object) (inside : k < length v.objects) (p : Puts v w k o) where
   pub put_entry : entry w.objects k ≡ Some o
   unfolding with_object
-  put_entry = rw p.objects (entry_same v.objects k (Some o) inside)
+  put_entry = rw p.objects (entry-set_same v.objects k (Some o) inside)
 
   pub put_live : (x : Value) → x ≡ Ref k → is_live w.objects x ≡ true
   unfolding is_live

@@ -1,5 +1,5 @@
 -- The placing of the first objects goes on.
-use Rattle.std.proofs.Common.{◌≡◌, ◌≢◌, ℕ, zero, suc, ◌+◌, ◌*◌, ◌/◌, ◌<◌, ◌≤◌, ◌⊎◌, Bool, true, false, ◌∷◌, List, length, replicate, get_or, drop, Option, Some, None, is_some, refl, sym, subst, ap, ◌∙◌, inl, inr, arith}
+use Rattle.std.proofs.Common.{◌≡◌, ◌≢◌, ℕ, suc, ◌+◌, ◌*◌, ◌/◌, ◌<◌, ◌≤◌, ◌⊎◌, Bool, true, false, ◌∷◌, List, length, get_or, drop, Option, Some, None, is_some, refl, sym, subst, ap, ◌∙◌, inl, inr, arith}
 use Rattle.std.specs.Prelude.{slice_set, slice_get, nat_le, ◌&&◌, codes}
 use Rattle.std.specs.List.{position}
 use Rattle.std.proofs.lemmas.Bool.{cases_lt, cases_eq, le-leb, both_ways}
@@ -29,7 +29,8 @@ use Rattle.st_first_objects.specs.declared.unmade.Unmade.{Unmade}
 use Rattle.st_first_objects.specs.declared.unmade.Unmade.TheVariants.{NoRoom, OutOfMemory}
 use Rattle.st_first_objects.proofs.Lists.{drop_got}
 use Rattle.st_first_objects.proofs.Places.{same_turn, place_within, value_of_half}
-use Rattle.st_first_objects.proofs.Tables.{entry_same, entry_other, total_more}
+use Rattle.st_model.proofs.Entries.{entry-set_same, entry-set_other, total_used-set}
+use Rattle.st_model.proofs.LoadingLemmas.{entry-none, total_used-none}
 
 -- NO CLASS IS THAT OF METHODS
 
@@ -155,11 +156,11 @@ module _ (p : Plan) (begun v : View) (used i : ℕ) (is : IsBegun p begun) (u : 
         held = puts.held ∙ u.held;
         head = puts.head ∙ u.head;
         places = ap length put_in ∙ length-set v.objects (place i) (Some (object p x)) ∙ u.places;
-        entries = (let t = ap (total_used one) put_in ∙ total_more one v.objects (place i) (object p x) inside free in let e = u.entries in omega arith);
-        words = (let t = ap (total_used words_of) put_in ∙ total_more words_of v.objects (place i) (object p x) inside free in let e = u.words in omega arith);
+        entries = (let t = ap (total_used one) put_in ∙ total_used-set one v.objects (place i) (object p x) inside free in let e = u.entries in omega arith);
+        words = (let t = ap (total_used words_of) put_in ∙ total_used-set words_of v.objects (place i) (object p x) inside free in let e = u.words in omega arith);
         most = omega arith;
         free = (λ j le lt. ap (λ t. entry t (place j)) put_in
-            ∙ entry_other v.objects (place i) (place j) (Some (object p x)) (λ e. let q = same_turn j i e in absurd (omega arith)) ∙ u.free j (omega arith) lt);
+            ∙ entry-set_other v.objects (place i) (place j) (Some (object p x)) (λ e. let q = same_turn j i e in absurd (omega arith)) ∙ u.free j (omega arith) lt);
         live = (λ j lt. by_turn j (cases_lt j i) lt put_in inside);
         objects = (λ k o e. by_place k o (cases_eq k (place i)) (sym (ap (λ t. entry t k) put_in) ∙ e) inside);
       }
@@ -167,27 +168,18 @@ module _ (p : Plan) (begun v : View) (used i : ℕ) (is : IsBegun p begun) (u : 
       by_turn : (j : ℕ) → ((j < i) ⊎ (i ≤ j)) → j < i + 1 → w.objects ≡ slice_set v.objects (place i) (Some (object p x)) → place i < length v.objects → is_some (entry w.objects (place j)) ≡ true
       by_turn j (inl less) lt put_in inside =
           ap (λ t. is_some (entry t (place j))) put_in
-          ∙ ap is_some (entry_other v.objects (place i) (place j) (Some (object p x)) (λ e. let q = same_turn j i e in absurd (omega arith))) ∙ u.live j less
+          ∙ ap is_some (entry-set_other v.objects (place i) (place j) (Some (object p x)) (λ e. let q = same_turn j i e in absurd (omega arith))) ∙ u.live j less
       by_turn j (inr ge) lt put_in inside =
           let same : i ≡ j = omega arith in
-          subst (λ n. is_some (entry w.objects (place n)) ≡ true) same (ap (λ t. is_some (entry t (place i))) put_in ∙ ap is_some (entry_same v.objects (place i) (Some (object p x)) inside))
+          subst (λ n. is_some (entry w.objects (place n)) ≡ true) same (ap (λ t. is_some (entry t (place i))) put_in ∙ ap is_some (entry-set_same v.objects (place i) (Some (object p x)) inside))
 
       by_place : (k : ℕ) (o : Object) → ((k ≡ place i) ⊎ (k ≢ place i)) → entry (slice_set v.objects (place i) (Some (object p x))) k ≡ Some o → place i < length v.objects → (y : Thing) × (o ≡ object p y)
       by_place k o (inl same) e inside =
-          let there : entry (slice_set v.objects (place i) (Some (object p x))) k ≡ Some (object p x) = ap (entry (slice_set v.objects (place i) (Some (object p x)))) same ∙ entry_same v.objects (place i) (Some (object p x)) inside in
+          let there : entry (slice_set v.objects (place i) (Some (object p x))) k ≡ Some (object p x) = ap (entry (slice_set v.objects (place i) (Some (object p x)))) same ∙ entry-set_same v.objects (place i) (Some (object p x)) inside in
           (x, (let s : o ≡ object p x = cc in s))
-      by_place k o (inr other) e inside = u.objects k o (sym (entry_other v.objects (place i) k (Some (object p x)) other) ∙ e)
+      by_place k o (inr other) e inside = u.objects k o (sym (entry-set_other v.objects (place i) k (Some (object p x)) other) ∙ e)
 
 -- FROM THE FIRST TO THE LAST
-
-none_at : (n k : ℕ) → entry (replicate n None) k ≡ None
-none_at zero k = refl
-none_at (suc n) zero = refl
-none_at (suc n) (suc k) = none_at n k
-
-total_none : (weight : Object → ℕ) (n : ℕ) → total_used weight (replicate n None) ≡ 0
-total_none weight zero = refl
-total_none weight (suc n) = total_none weight n
 
 pub begins : (p : Plan) (v : View) → IsBegun p v → Underway p v v 0 0
 begins p v is =
@@ -198,12 +190,12 @@ begins p v is =
       held = refl;
       head = refl;
       places = ap length is.objects ∙ length-replicate 32768 nothing;
-      entries = ap (total_used one) is.objects ∙ total_none one 32768;
-      words = ap (total_used words_of) is.objects ∙ total_none words_of 32768;
+      entries = ap (total_used one) is.objects ∙ total_used-none one 32768;
+      words = ap (total_used words_of) is.objects ∙ total_used-none words_of 32768;
       most = omega arith;
-      free = (λ j le lt. ap (λ t. entry t (place j)) is.objects ∙ none_at 32768 (place j));
+      free = (λ j le lt. ap (λ t. entry t (place j)) is.objects ∙ entry-none 32768 (place j));
       live = (λ j lt. absurd (omega arith));
-      objects = (λ k o e. let n = sym (ap (λ t. entry t k) is.objects ∙ none_at 32768 k) ∙ e in absurd cc);
+      objects = (λ k o e. let n = sym (ap (λ t. entry t k) is.objects ∙ entry-none 32768 k) ∙ e in absurd cc);
     }
 
 pub object_is : (p : Plan) (x : Thing) (c : Content) → c ≡ content p x → object_in p.order.things c ≡ object p x

@@ -7,45 +7,23 @@ use Rattle.st_model.specs.declared.dead.Dead.TheVariants as dead
 use Rattle.st_model.specs.declared.kind.Kind.{Kind}
 use Rattle.st_model.specs.declared.kind.Kind.TheVariants as kind
 use Rattle.st_model.specs.Values.{Value, Small, Ref}
-use Rattle.st_model.specs.Objects.{Object, is_pointers, has_bytes, first_unit, size_of, object_with_unit}
-use Rattle.st_model.specs.Machine.{ObjectMemory, State, Transition, Died, Went, Step, answer, die, after, ◌>>=◌, ◌>>◌}
+use Rattle.st_model.specs.Objects.{Object, has_bytes, first_unit, size_of, object_with_unit}
+use Rattle.st_model.specs.Machine.{ObjectMemory, State, Died, Went, Step, answer, die, after, ◌>>=◌, ◌>>◌}
 use Rattle.st_model.specs.Table.{Table, entry, changed, IsTabular}
 use Rattle.st_model.specs.Steps.{found, object_named, object, check, or_die, fetch_size, fetch_byte, store_byte, store_bytes}
 use Rattle.st_model.specs.Deeds.{changed_object, changed_by, byte_stored, bytes_stored, over}
 use Rattle.st_model.proofs.TableLemmas.{changed-some}
 use Rattle.st_model.proofs.Leaving.{byte-left, byte-unleft}
-
-changed-again : (t : Table) (n : ℕ) (a b : Object) → changed (changed t n a) n b ≡ changed t n b
-changed-again [] n a b = refl
-changed-again (None ∷ t) zero a b = refl
-changed-again (Some o ∷ t) zero a b = refl
-changed-again (None ∷ t) (suc n) a b = ap (λ u. None ∷ u) (changed-again t n a b)
-changed-again (Some o ∷ t) (suc n) a b = ap (λ u. Some o ∷ u) (changed-again t n a b)
-
-changed-same : (t : Table) (n : ℕ) (o : Object) → entry t n ≡ Some o → changed t n o ≡ t
-changed-same [] n o e = cc
-changed-same (None ∷ t) zero o e = refl
-changed-same (Some a ∷ t) zero o e = let q : a ≡ o = cc in ap (λ b. Some b ∷ t) (sym q)
-changed-same (None ∷ t) (suc n) o e = ap (λ u. None ∷ u) (changed-same t n o e)
-changed-same (Some a ∷ t) (suc n) o e = ap (λ u. Some a ∷ u) (changed-same t n o e)
+use Rattle.st_model.proofs.KindTests.{bytes_pointers}
+use Rattle.st_model.proofs.Entries.{changed-again}
+use Rattle.st_model.proofs.Resting.{changed-itself}
+use Rattle.st_model.proofs.Runs.{get-past}
+use Rattle.st_memory.proofs.Keeping.{got_below}
 
 pub got : {A : Type 0} (xs : List A) (i : ℕ) → i < length xs → (x : A) × (slice_get xs i ≡ Some x)
 got [] i l = absurd (omega arith)
 got (y ∷ xs) zero l = (y, refl)
 got (y ∷ xs) (suc i) l = got xs i (omega arith)
-
-pub got_below : {A : Type 0} (xs : List A) (i : ℕ) (x : A) → slice_get xs i ≡ Some x → i < length xs
-got_below [] i x e = cc
-got_below (y ∷ xs) zero x e = omega arith
-got_below (y ∷ xs) (suc i) x e = let h = got_below xs i x e in omega (arith, h)
-
-pub got_past : {A : Type 0} (xs : List A) (i : ℕ) → length xs ≤ i → slice_get xs i ≡ None
-got_past [] i l = refl
-got_past (y ∷ xs) zero l = absurd (omega arith)
-got_past (y ∷ xs) (suc i) l = got_past xs i (omega arith)
-
-pub died : {A B : Type 0} (a k : Dead) → (let x : Transition (State Table) A = Died a in x ≡ Died k) → (let x : Transition (State Table) B = Died a in x ≡ Died k)
-died a k e = let q : a ≡ k = cc in ap (λ c. Died c) q
 
 -- where a byte is stored, kind, fields and the number of units stay
 kept : {A : Type 0} (f : Object → A) (b : Bool) (p o : Object) → f p ≡ f o → f (if b then p else o) ≡ f o
@@ -69,14 +47,8 @@ pub record HasByte (t : Table) (n i : ℕ) (o : Object) : Type 0 where
   pub low : first_unit o ≤ i
   pub high : i < first_unit o + length o.units
 
-pub no_pointers : (k : Kind) → has_bytes k ≡ true → is_pointers k ≡ false
-no_pointers kind.Pointers e = cc
-no_pointers kind.Words e = cc
-no_pointers kind.Bytes e = refl
-no_pointers kind.Method e = refl
-
 pub size_with_bytes : (o : Object) → has_bytes o.kind ≡ true → size_of o ≡ first_unit o + length o.units
-size_with_bytes o e = rw (no_pointers o.kind e) refl
+size_with_bytes o e = rw (bytes_pointers o.kind e) refl
 
 pub below : (x y : ℕ) → (x < y) ⊎ (y ≤ x)
 below x y = grind arith
@@ -123,7 +95,7 @@ module _ (m : ObjectMemory Table) (tabular : IsTabular m) where
   unfolding fetch_byte object object_named ◌>>=◌ ◌>>◌ after found answer check or_die die
   past n i s o e k low high =
       let r : m.read s.memory n ≡ Some o = read_is s.memory n ∙ e in
-      let x = got_past o.units (i - first_unit o) (omega (arith, low, high)) in
+      let x = get-past o.units (i - first_unit o) (omega (arith, low, high)) in
       let l : nat_le (first_unit o) i ≡ true = grind (arith, nat_tests) in
       rw (r, k, l, x) refl
 
@@ -159,7 +131,7 @@ module _ (m : ObjectMemory Table) (tabular : IsTabular m) where
   -- bytes that the object has
   stored_all : (n i : ℕ) (bs : List ℕ) (s : State Table) (o : Object) → entry s.memory n ≡ Some o → has_bytes o.kind ≡ true → first_unit o ≤ i → i + length bs ≤ first_unit o + length o.units
       → (store_bytes m (Ref n) i bs).run s ≡ Went tt (record s { memory = changed s.memory n (bytes_stored i bs o) })
-  stored_all n i [] s o e k low high = stored_none (Ref n) i s ∙ ap (λ (t : Table). Went tt (record s { memory = t })) (sym (changed-same s.memory n o e))
+  stored_all n i [] s o e k low high = stored_none (Ref n) i s ∙ ap (λ (t : Table). Went tt (record s { memory = t })) (sym (changed-itself s.memory n o e))
   stored_all n i (b ∷ bs) s o e k low high =
       let p = byte_stored i b o in
       let h : HasByte s.memory n i o = record { is = e; bytes = k; low = low; high = omega (arith, high) } in

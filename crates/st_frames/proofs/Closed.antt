@@ -1,34 +1,23 @@
 -- What a memory says of itself makes the state that it shows closed.
-use Rattle.std.proofs.Common.{◌≡◌, ℕ, suc, List, [], ◌∷◌, ◌++◌, Option, Some, None, true, refl, is_some, subst}
+use Rattle.std.proofs.Common.{◌≡◌, ℕ, suc, List, [], ◌∷◌, ◌++◌, Option, Some, None, true, refl, subst}
 use Rattle.std.specs.Prelude.{◌-◌, length, replicate, slice_index_or}
 use Rattle.st_model.specs.Values.{Value, Small, Ref, value, AllLive, IsLive}
-use Rattle.st_model.specs.Objects.{Object, nil, place_of}
+use Rattle.st_model.specs.Objects.{nil, place_of}
 use Rattle.st_model.specs.declared.page.PageObject.TheVariants.{NilObject}
 use Rattle.st_model.specs.declared.place.RootPlace.TheVariants as place
 use Rattle.st_model.specs.Machine.{Registers, Devices, World, table_root, head_roots, device_roots, empty_world}
-use Rattle.st_model.specs.Table.{Table, entry}
+use Rattle.st_model.specs.Table.{Table}
 use Rattle.st_model.specs.Show.{IsUsed, IsClosed}
 use Rattle.st_model.specs.Start.{idle_registers, idle_state}
 use Rattle.st_model.specs.View.{View, is_live, IsKnown, IsComplete, IsWhole}
 use Rattle.st_frames.specs.declared.frame.Frame.{Frame}
 use Rattle.st_frames.specs.Shown.{shown, registers_of, with_registers, filled, IsReady}
 use Rattle.st_frames.proofs.Known.{known_active, known_home, known_method, known_receiver}
-
-some_used : (x : Option Object) → is_some x ≡ true → (o : Object) × x ≡ Some o
-some_used None e = cc
-some_used (Some o) e = (o, refl)
-
-used : (t : Table) (n : ℕ) → is_live t (Ref n) ≡ true → IsUsed t n
-unfolding is_live
-used t n e = some_used (entry t n) e
+use Rattle.st_model.proofs.WholeLemmas.{live_used as used, known_live}
 
 live_used : (t : Table) (x : Value) → is_live t x ≡ true → IsLive (IsUsed t) x
 live_used t (Small n) e = tt
 live_used t (Ref n) e = used t n e
-
-known_live : (t : Table) (x : Value) → IsKnown t x → IsLive (IsUsed t) x
-known_live t (Small n) k = tt
-known_live t (Ref n) k = used t n (k refl)
 
 both_live : (live : ℕ → Type 0) (xs ys : List Value) → AllLive live xs → AllLive live ys → AllLive live (xs ++ ys)
 both_live live [] ys h k = k

@@ -5,11 +5,11 @@ use Rattle.std.proofs.lemmas.Bool.Decides.{nat_tests}
 use Rattle.std.proofs.Math.Nat.{pow-le-pow_right}
 use Rattle.st_model.specs.Primitives.{bytes_within}
 
-one_byte : (more left : ℕ) (b : Bool) → nat_lt left 256 ≡ b → left < 256 → (if b then left ∷ [] else left % 256 ∷ bytes_within more (left / 256)) ≡ left ∷ []
+pub one_byte : (more left : ℕ) (b : Bool) → nat_lt left 256 ≡ b → left < 256 → (if b then left ∷ [] else left % 256 ∷ bytes_within more (left / 256)) ≡ left ∷ []
 one_byte more left true e l = refl
 one_byte more left false e l = absurd (grind (arith, nat_tests))
 
-more_bytes : (more left : ℕ) (b : Bool) → nat_lt left 256 ≡ b → 256 ≤ left → (if b then left ∷ [] else left % 256 ∷ bytes_within more (left / 256)) ≡ left % 256 ∷ bytes_within more (left / 256)
+pub more_bytes : (more left : ℕ) (b : Bool) → nat_lt left 256 ≡ b → 256 ≤ left → (if b then left ∷ [] else left % 256 ∷ bytes_within more (left / 256)) ≡ left % 256 ∷ bytes_within more (left / 256)
 more_bytes more left true e l = absurd (grind (arith, nat_tests))
 more_bytes more left false e l = refl
 

@@ -1,7 +1,6 @@
 -- Steps one after the other, as the calls of a row.
-use Rattle.std.proofs.Common.{◌≡◌, true, refl, sym, ap, arith}
-use Rattle.std.specs.Prelude.{ℤ, pos, negsuc, ◌+ℤ◌, ◌≤ℤ◌, int_le}
-use Rattle.std.proofs.lemmas.Int.{ints}
+use Rattle.std.proofs.Common.{◌≡◌, true, refl, sym, ap}
+use Rattle.std.specs.Prelude.{ℤ, pos, ◌+ℤ◌, ◌≤ℤ◌, int_le}
 use Rattle.st_model.specs.declared.dead.Dead.TheVariants as dead
 use Rattle.st_model.specs.declared.page.PageObject.{PageObject}
 use Rattle.st_model.specs.Values.{Ref, word}
@@ -12,6 +11,7 @@ use Rattle.st_model.specs.Table.{Table, IsTabular}
 use Rattle.st_model.proofs.Runs.{tests, run-set_ip, run-then, run-next, after-went, after-died, run-answer, run-die, run-passed, run-failed}
 use Rattle.st_frames.specs.declared.registers.Registers.{Registers as Words}
 use Rattle.st_frames.specs.Rows.{row_state, registers_in}
+use Rattle.st_model.proofs.IntegerTests.{le_true}
 
 pub row-memory : (t : Table) (a : Head) (r : Words) → (row_state t a r).memory ≡ t
 unfolding row_state
@@ -64,12 +64,6 @@ pub ruleset rows = (row-memory, row-head, row-stored, row-active, row-home, row-
 pub ruleset checks = (tests, row-memory, row-head, row-stored, row-active, row-home, row-method, row-receiver, row-ip, row-sp, run-then, run-next, after-went, after-died, run-answer, run-die)
 
 pub ruleset jumps = (row-ip, run-passed, run-failed, run-then, run-next, after-went, after-died)
-
-le_true : (a b : ℤ) → a ≤ℤ b → int_le a b ≡ true
-le_true (pos a) (pos b) l = grind (arith, ints, l)
-le_true (pos a) (negsuc b) l = grind (arith, ints, l)
-le_true (negsuc a) (pos b) l = grind (arith, ints, l)
-le_true (negsuc a) (negsuc b) l = grind (arith, ints, l)
 
 pub jump-went : (t : Table) (a : Head) (r : Words) (d i : ℤ) → i ≡ r.ip +ℤ d → pos 0 ≤ℤ i → i ≤ℤ pos 16382
     → (jump d).run (row_state t a r) ≡ Went tt (record (row_state t a r) { registers = record (registers_in r) { ip = i } })

@@ -4,8 +4,7 @@ use Rattle.std.proofs.lemmas.Bool.Decides.{nat_tests}
 use Rattle.std.specs.Prelude.{◌&&◌, if◌then◌else◌, ◌/◌, ◌%◌, ◌==◌}
 use Rattle.st_model.specs.declared.word.Word.{Word}
 use Rattle.st_model.specs.Values.{Value, Small, Ref, is_small, word, value_of}
-use Rattle.st_model.specs.declared.dead.Dead.TheVariants as dead
-use Rattle.st_model.specs.Machine.{ObjectMemory, Registers, Head, State, Died, Went, is_there}
+use Rattle.st_model.specs.Machine.{ObjectMemory, Registers, Head, State, Went, is_there}
 use Rattle.st_model.specs.Steps.{fetch_field, registers_set, set_registers, are_there}
 use Rattle.st_model.specs.Contexts.{home_by}
 use Rattle.st_model.specs.Table.{Table}
@@ -32,22 +31,12 @@ unfolding registers_set row_state
 set_by t a r q true w e = λ i. Went tt (record { memory = t; registers = registers_in q; world = sym w i; head = a })
 set_by t a r q false w e = cc
 
-unset_by : (t : Table) (a : Head) (r : Words) (f : Fetched) (b : Bool) → b ≡ false → registers_set (fetched_in f) (row_state t a r) b ≡ Died dead.Kind
-unfolding registers_set
-unset_by t a r f true e = cc
-unset_by t a r f false e = refl
-
 pub registers-set : (m : ObjectMemory Table) (t : Table) (a : Head) (r q : Words) (f : Fetched) → registers_in q ≡ fetched_in f → q.world.now ≡ r.world.now → are_there m t (fetched_in f) ≡ true
     → (set_registers m (fetched_in f)).run (row_state t a r) ≡ Went tt (row_state t a q)
 unfolding set_registers row_state
 registers-set m t a r q f same w e =
     subst (λ (x : Registers). registers_set x (row_state t a r) (are_there m t x) ≡ Went tt (row_state t a q)) same
     (set_by t a r q (are_there m t (registers_in q)) w (ap (λ (x : Registers). are_there m t x) same ∙ e))
-
-pub registers-unset : (m : ObjectMemory Table) (t : Table) (a : Head) (r : Words) (f : Fetched) → are_there m t (fetched_in f) ≡ false
-    → (set_registers m (fetched_in f)).run (row_state t a r) ≡ Died dead.Kind
-unfolding set_registers row_state
-registers-unset m t a r f e = unset_by t a r f (are_there m t (fetched_in f)) e
 
 -- SmallIntegers that are there have 15 bits
 
@@ -100,4 +89,4 @@ module _ (m : ObjectMemory Table) (t : Table) (f : Fetched) (e : are_there m t (
   pub receiver-narrow : IsNarrow f.receiver
   receiver-narrow = narrow m t f.receiver (receiver-there m t (fetched_in f) e)
 
-pub ruleset sets = (registers-set, registers-unset)
+pub ruleset sets = (registers-set)

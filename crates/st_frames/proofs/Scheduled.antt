@@ -1,16 +1,15 @@
 -- Registers that are fetched from the scheduled context.
-use Rattle.std.proofs.Common.{◌≡◌, Ok, Err, refl, sym, subst, Bool, true, false}
+use Rattle.std.proofs.Common.{◌≡◌, Ok, Err, refl, sym, subst, true}
 use Rattle.std.specs.Prelude.{ℕ, ◌-ℤ◌, ◌+ℤ◌, ℤ, pos, negsuc, Result}
 use Rattle.st_model.specs.declared.dead.Dead.{Dead}
-use Rattle.st_model.specs.declared.dead.Dead.TheVariants as dead
 use Rattle.st_model.specs.declared.word.Word.{Word}
 use Rattle.st_model.specs.declared.page.PageObject.TheVariants.{SchedulerAssociation}
 use Rattle.st_model.specs.Values.{Value, Small, Ref, word}
-use Rattle.st_model.specs.Machine.{Registers, State, Died, Went, answer, ◌>>=◌}
+use Rattle.st_model.specs.Machine.{Registers, Went, answer, ◌>>=◌}
 use Rattle.st_model.specs.Contexts.{home_by, home_of, stack_place, fetch_stack_pointer, context_registers, fetch_context_registers, scheduled_context, fetch_scheduled_registers}
-use Rattle.st_model.specs.Table.{Table, table, bounded_table}
-use Rattle.st_model.specs.Steps.{are_there, fetch_integer, integer_or_die, set_registers, registers_set}
-use Rattle.st_model.specs.Calls.{Reads}
+use Rattle.st_model.specs.Table.{table, bounded_table}
+use Rattle.st_model.specs.Steps.{are_there, fetch_integer, integer_or_die, set_registers}
+use Rattle.st_model.specs.Calls.{Reads, itself}
 use Rattle.st_model.specs.View.{View}
 use Rattle.st_model.proofs.Runs.{run-then, after-went, after-died, run-set_registers}
 use Rattle.st_model.proofs.Tabular.{of_page-as, fetch_field-as, count_fields-as}
@@ -70,24 +69,6 @@ module _ (v u : View) where
   of_table : (c : Value) (x : Result Frame Dead) → FetchesFrame (fetch_context_registers bounded_table c) v x u → FetchesFrame (fetch_context_registers table c) v x u
   of_table c x h = subst (λ step. FetchesFrame step v x u) (fetch-same c) h
 
-  no_registers : (c : Value) (cause : Dead) → Reads (context_registers bounded_table c) fetched_in v.objects (Err cause) → FetchesFrame (fetch_context_registers bounded_table c) v (Err cause) u
-  unfolding fetch_context_registers
-  no_registers c cause k = λ r w. simp (run-then, k (with_registers v r w) refl, after-died) refl
-
-  unset : (q : Registers) (s : State Table) (b : Bool) → b ≡ false → registers_set q s b ≡ Died dead.Kind
-  unfolding registers_set
-  unset q s true e = cc
-  unset q s false e = refl
-
-  unset_at : (q : Registers) (s : State Table) → are_there bounded_table s.memory q ≡ false → (set_registers bounded_table q).run s ≡ Died dead.Kind
-  unfolding set_registers
-  unset_at q s e = unset q s (are_there bounded_table s.memory q) e
-
-  not_there : (c : Value) (q : Fetched) → Reads (context_registers bounded_table c) fetched_in v.objects (Ok q)
-      → are_there bounded_table v.objects (fetched_in q) ≡ false → FetchesFrame (fetch_context_registers bounded_table c) v (Err dead.Kind) u
-  unfolding fetch_context_registers
-  not_there c q k e = λ r w. simp (run-then, k (with_registers v r w) refl, after-went, unset_at (fetched_in q) (with_registers v r w) e) refl
-
   all_there : (c : Value) (q : Fetched) (f : Frame) → Reads (context_registers bounded_table c) fetched_in v.objects (Ok q)
       → are_there bounded_table v.objects (fetched_in q) ≡ true → registers_of f ≡ fetched_in q → u.objects ≡ v.objects → u.head ≡ v.head
       → FetchesFrame (fetch_context_registers bounded_table c) v (Ok f) u
@@ -96,12 +77,8 @@ module _ (v u : View) where
       simp (run-then, k (with_registers v r w) refl, after-went, run-set_registers bounded_table (fetched_in q) (with_registers v r w) e)
       (λ i. Went tt (record { memory = sym o i; registers = sym same i; world = w; head = sym a i }))
 
-  pub dead-registers : (c : Value) (cause : Dead) → Reads (context_registers bounded_table c) fetched_in v.objects (Err cause) → FetchesFrame (fetch_context_registers table c) v (Err cause) u
-  dead-registers c cause k = of_table c (Err cause) (no_registers c cause k)
-
-  pub dead-there : (c : Value) (q : Fetched) → Reads (context_registers bounded_table c) fetched_in v.objects (Ok q)
-      → are_there bounded_table v.objects (fetched_in q) ≡ false → FetchesFrame (fetch_context_registers table c) v (Err dead.Kind) u
-  dead-there c q k e = of_table c (Err dead.Kind) (not_there c q k e)
+  pub dead-fetched : (c : Value) (cause : Dead) → Reads (fetch_context_registers bounded_table c) itself v.objects (Err cause) → FetchesFrame (fetch_context_registers table c) v (Err cause) u
+  dead-fetched c cause k = of_table c (Err cause) (λ r w. k (with_registers v r w) refl)
 
   pub fetched-frame : (c : Value) (q : Fetched) (f : Frame) → Reads (context_registers bounded_table c) fetched_in v.objects (Ok q)
       → are_there bounded_table v.objects (fetched_in q) ≡ true → registers_of f ≡ fetched_in q → u.objects ≡ v.objects → u.head ≡ v.head

@@ -26,26 +26,6 @@ pops-more m (suc n) s d = let f : suc n - 1 ≡ n = omega arith in rw f refl
 
 pub ruleset pops = (pops-none, pops-more)
 
-bits_small : (b : Bool) (n : ℕ) (s : State Table) → is_small (if b then Small n else Ref n) ≡ true → (bits_or_die (if b then Small n else Ref n)).run s ≡ Went n s
-unfolding bits_or_die answer
-bits_small true n s e = refl
-bits_small false n s e = cc
-
-bits_large : (b : Bool) (n : ℕ) (s : State Table) → is_small (if b then Small n else Ref n) ≡ false → (bits_or_die (if b then Small n else Ref n)).run s ≡ Died dead.NotSmall
-unfolding bits_or_die die
-bits_large true n s e = cc
-bits_large false n s e = refl
-
-pub bits-small : (w : ℕ) (s : State Table) → is_small (value_of w) ≡ true → (bits_or_die (value_of w)).run s ≡ Went (w / 2) s
-unfolding value_of
-bits-small w s e = bits_small (w % 2 == 1) (w / 2) s e
-
-pub bits-large : (w : ℕ) (s : State Table) → is_small (value_of w) ≡ false → (bits_or_die (value_of w)).run s ≡ Died dead.NotSmall
-unfolding value_of
-bits-large w s e = bits_large (w % 2 == 1) (w / 2) s e
-
-pub ruleset bits = (bits-small, bits-large)
-
 -- what a header counts, of the bits of its word
 pub counts-bits : (n : ℕ) → literal_count (Small n) ≡ n % 64
 counts-bits n = refl

@@ -1,12 +1,13 @@
-ghost use Rattle.std.specs.Prelude.{◌≡◌, ◌<◌, ◌≤◌, ◌+◌, ◌≤ℤ◌, pos, negsuc, ◌+ℤ◌, IfOk};
+ghost use Rattle.std.specs.Prelude.{◌≡◌, ◌<◌, ◌≤◌, ◌+◌, pos, ◌+ℤ◌, true, Ok};
 ghost use Rattle.st_model.specs.Values.{word, small_integer};
 ghost use Rattle.st_model.specs.Steps.{set_registers, are_there};
-ghost use Rattle.st_model.specs.Contexts.{home_by, home_of, stack_place, fetch_stack_pointer, context_registers, fetch_context_registers, scheduled_context, store_context_registers, switch};
+ghost use Rattle.st_model.specs.Contexts.{home_by, home_of, fetch_context_registers, scheduled_context, store_context_registers, switch};
 ghost use Rattle.st_model.specs.Calls.{Reads, itself};
 ghost use Rattle.st_frames.specs.Rows.{fetched_in, RowMoves, RowDoes, Takes};
 
 use crate::fetched::Fetched;
-use crate::fetching::{fetch_integer, page};
+use crate::fetching::page;
+use crate::reading::read_registers;
 use crate::registers::Registers;
 use crate::words::{small, small_integer};
 use st_memory::Objects;
@@ -33,70 +34,14 @@ pub fn home_of<O: Objects>(m: &O, context: Word) -> Result<Word, Dead>
     home_by(m, context, method)
 }
 
-/// The stack pointer of a context, from 5 to its last field and at most 16388.
-#[tactic(auto, using(st_model::proofs::Runs::runs), unfolding(st_model::specs::Contexts::fetch_stack_pointer, st_model::specs::Contexts::stack_place))]
-fn fetch_stack_pointer<O: Objects>(m: &O, context: Word) -> Result<u32, Dead>
-    ensures place { Reads (fetch_stack_pointer O.names (word context)) itself (O.table m.now) result }
-    ensures low { IfOk result (λ n. 5 ≤ n) }
-    ensures high { IfOk result (λ n. n ≤ 16388) }
-{
-    let stored = fetch_integer(m, context, 2)?;
-    if stored < -5 {
-        return Err(Dead::Sp);
-    }
-    let sp = (stored + 5) as u32;
-    let fields = m.count_fields(context)?;
-    if sp < 5 {
-        return Err(Dead::Sp);
-    }
-    if 16388 < sp {
-        return Err(Dead::Sp);
-    }
-    if fields <= sp {
-        return Err(Dead::Sp);
-    }
-    Ok(sp)
-}
-
-/// The registers that a context gives.
-#[tactic(auto, using(st_model::proofs::Runs::runs), unfolding(st_model::specs::Contexts::context_registers))]
-pub fn read_registers<O: Objects>(m: &O, context: Word) -> Result<Fetched, Dead>
-    ensures { Reads (context_registers O.names (word context)) fetched_in (O.table m.now) result }
-{
-    let home = home_of(m, context)?;
-    let method = m.fetch_field(home, 3)?;
-    let receiver = m.fetch_field(home, 5)?;
-    let ip = fetch_integer(m, context, 1)?;
-    let sp = fetch_stack_pointer(m, context)?;
-    Ok(Fetched {
-        active: context,
-        home,
-        method,
-        receiver,
-        ip: ip - 1,
-        sp,
-    })
-}
-
-/// Whether all of them are there.
-pub fn are_there<O: Objects>(m: &O, new: &Fetched) -> bool
-    ensures { result ≡ are_there O.names (O.table m.now) (fetched_in new.now) }
-{
-    m.is_there(new.active)
-        && m.is_there(new.home)
-        && m.is_there(new.method)
-        && m.is_there(new.receiver)
-}
-
-/// Sets all registers, each of which must be there.
+/// Sets all registers, each of which is there.
+#[inline(always)]
 #[tactic(auto, using(crate::proofs::Homes::sets))]
-fn set_registers<O: Objects>(m: &O, r: &mut Registers, new: &Fetched) -> Result<(), Dead>
+fn set_registers<O: Objects>(_m: &O, r: &mut Registers, new: &Fetched)
+    requires { are_there O.names (O.table _m.now) (fetched_in new.now) ≡ true }
     ensures does { RowMoves O.Objects.own (set_registers O.names (fetched_in new.now))
-        itself m.now r.old result r.new }
+        itself _m.now r.old (Ok result) r.new }
 {
-    if !are_there(m, new) {
-        return Err(Dead::Kind);
-    }
     *r = Registers {
         active: new.active,
         home: new.home,
@@ -106,7 +51,6 @@ fn set_registers<O: Objects>(m: &O, r: &mut Registers, new: &Fetched) -> Result<
         sp: new.sp,
         world: r.world,
     };
-    Ok(())
 }
 
 /// Fetches the registers from a context, which becomes the active one.
@@ -120,7 +64,8 @@ pub fn fetch_context_registers<O: Objects>(
         itself m.now r.old result r.new }
 {
     let new = read_registers(m, context)?;
-    set_registers(m, r, &new)
+    set_registers(m, r, &new);
+    Ok(())
 }
 
 /// The context of the scheduler's active process.

@@ -20,7 +20,7 @@ pub fn page<O: Objects>(m: &O, object: PageObject) -> Word
 
 /// The integer that a word must be.
 #[tactic(auto, using(crate::proofs::SameWords::integers))]
-fn integer_or_die(x: Word) -> Result<i32, Dead>
+pub fn integer_or_die(x: Word) -> Result<i32, Dead>
     ensures does { (s : State Table) → Does (integer_or_die (word x)) itself s result s }
     ensures low { IfOk result (λ n. negsuc 16383 ≤ℤ n) }
     ensures high { IfOk result (λ n. n ≤ℤ pos 16383) }

@@ -8,12 +8,13 @@ ghost use Rattle.st_model.specs.View.{IsKnown};
 ghost use Rattle.st_frames.specs.Rows.{registers_in, fetched_in};
 ghost use Rattle.st_frames.specs.Shown.{IsFrame, IsFrameOf, StaysFrame, FetchesFrame, registers_of};
 
-use crate::context::{are_there, read_registers, read_scheduled_context};
+use crate::context::read_scheduled_context;
 use crate::fetched::Fetched;
 use crate::frame::Frame;
+use crate::reading::read_registers;
 use crate::registers::Registers;
 use crate::world::World;
-use st_memory::{Memory, live_value};
+use st_memory::Memory;
 use st_model::{Dead, Oop, RootPlace, Word};
 
 /// The registers, as the row of a bytecode works on them.
@@ -34,19 +35,18 @@ pub fn load<'a, M: Memory>(m: &M, f: &Frame, w: &'a World) -> Registers<'a>
 }
 
 /// The pointer of a word that is there.
-#[tactic(auto)]
-fn pointer<M: Memory>(m: &M, w: Word) -> Oop
-    requires { is_there table (M.view m.now).objects (word w) ≡ true }
+#[inline(always)]
+#[tactic(auto, using(crate::proofs::There::pointers))]
+fn pointer<M: Memory>(_m: &M, w: Word) -> Oop
+    requires { is_there table (M.view _m.now).objects (word w) ≡ true }
     ensures same { value result ≡ word w }
-    ensures known { IsKnown (M.view m.now).objects (value result) }
+    ensures known { IsKnown (M.view _m.now).objects (value result) }
 {
-    match live_value(m, w) {
-        Some(o) => o,
-        None => Oop::NIL,
-    }
+    Oop(w.0 as u16)
 }
 
 /// Holds the registers at their places.
+#[inline(always)]
 fn hold_frame<M: Memory>(m: &mut M, f: &Frame)
     requires { IsFrameOf (M.view m.old).objects f.now }
     ensures objects { (M.view m.new).objects ≡ (M.view m.old).objects }
@@ -112,9 +112,6 @@ fn fetch_word<M: Memory>(m: &mut M, context: Word) -> Result<Frame, Dead>
     ensures err { OnErr result ((M.view m.new).held ≡ (M.view m.old).held) }
 {
     let new = read_registers(m, context)?;
-    if !are_there(m, &new) {
-        return Err(Dead::Kind);
-    }
     Ok(hold_fetched(m, &new))
 }
 

@@ -15,6 +15,7 @@ mod frame_stack;
 mod holding;
 mod large;
 mod numbers;
+mod reading;
 mod registers;
 mod stack;
 mod words;

@@ -38,7 +38,7 @@ pub fn check_bytes<O: Objects>(m: &O, r: &Registers, v: Word) -> Result<(), Dead
 }
 
 /// The bits of a SmallInteger.
-#[tactic(auto, using(crate::proofs::Tries::bits))]
+#[tactic(auto, using(st_model::proofs::SmallBits::bits))]
 pub fn bits_or_die<O: Objects>(m: &O, r: &Registers, v: Word) -> Result<u32, Dead>
     ensures does { RowReads O.Objects.own (bits_or_die (word v)) itself m.now r.now result }
     ensures small { IfOk result (λ n. n < 2 ^ 31) }

@@ -1,6 +1,6 @@
 -- What is read of expressions: names with assignments, and a cascade.
 use Rattle.std.proofs.Common.{◌≡◌, ℕ, ◌<◌, ◌≤◌, Bool, true, false, ◌||◌, ◌&&◌, List, [], ◌∷◌, ◌++◌, inl, inr, length, Ok, Err, refl, sym, ap, ◌∙◌, subst, arith}
-use Rattle.std.proofs.lemmas.Bool.{cases_Bool, and_parts, and_from}
+use Rattle.std.proofs.lemmas.Bool.{cases_Bool, and_parts, and_from, and_right, or_from}
 use Rattle.st_scan.specs.Views.{NameView, ExpressionView}
 use Rattle.st_scan.specs.Views as views
 use Rattle.st_grammar.specs.declared.leaf.Leaf.{Leaf}
@@ -14,7 +14,7 @@ use Rattle.st_grammar.specs.Faults.{height, highest}
 use Rattle.st_grammar.proofs.Heights.{IsBalanced, balanced_nil, behind_balanced}
 use Rattle.st_grammar.proofs.KindSets.{apart, within, neutral, are_apart}
 use Rattle.st_grammar.proofs.Balanced.{expression_balanced, one_and}
-use Rattle.st_grammar.proofs.Readers.{Alike, Reads, Told, ToldOk, Reason, or_left, or_right, or_neither, is_nil}
+use Rattle.st_grammar.proofs.Readers.{Alike, Reads, Told, ToldOk, Reason, or_left, or_right, is_nil}
 use Rattle.st_grammar.proofs.Expressions.{Inner, FitExpression}
 use Rattle.st_grammar.proofs.Cascades.{FitCascade, tail_goes, message_goes, messages_last, cascade_goes, cascade_reads}
 
@@ -41,10 +41,6 @@ first_behind f l x us e = ap (first f) e
 no_name : (x : Leaf) (us : List Leaf) → among names x ≡ false → first_target (x ∷ us) ≡ false
 no_name x us e = rw e refl
 
-no_second : (a b : Bool) → b ≡ false → (a && b) ≡ false
-no_second true b e = e
-no_second false b e = refl
-
 no_assignment : (x : Leaf) (us : List Leaf) → first (among assignment) us ≡ false → first_target (x ∷ us) ≡ false
 no_assignment x us e = ap (λ (b : Bool). among names x && b) e ∙ none (among names x)
   where
@@ -62,10 +58,10 @@ goes_cascade text c (x ∷ l) e = or_left (cascade_goes text c x) _ e
 
 -- no cascade begins with a name and an assignment
 cascade_no_target : (text : List ℕ) (c : Cascade) (l : List Leaf) → first (λ x. cascade_goes text c x || (is_bare c && among assignment x)) l ≡ false → first_target (cascade_text c ++ l) ≡ false
-cascade_no_target text (cascade (keyworded (binary (unary (name o) (k ∷ ns)) os) ks) ms) l e = no_second (among names o.leaf) (among assignment k.leaf) (apart names assignment refl k.leaf k.fits)
-cascade_no_target text (cascade (keyworded (binary (unary (name o) []) (operation p u os)) ks) ms) l e = no_second (among names o.leaf) (among assignment p.leaf) (apart operators assignment refl p.leaf p.fits)
-cascade_no_target text (cascade (keyworded (binary (unary (name o) []) no_operations) (part k b ks)) ms) l e = no_second (among names o.leaf) (among assignment k.leaf) (apart keywords assignment refl k.leaf k.fits)
-cascade_no_target text (cascade (keyworded (binary (unary (name o) []) no_operations) no_parts) (message s k ms)) l e = no_second (among names o.leaf) (among assignment s.leaf) (apart (Semicolon ∷ []) assignment refl s.leaf s.fits)
+cascade_no_target text (cascade (keyworded (binary (unary (name o) (k ∷ ns)) os) ks) ms) l e = and_right (among names o.leaf) (among assignment k.leaf) (apart names assignment refl k.leaf k.fits)
+cascade_no_target text (cascade (keyworded (binary (unary (name o) []) (operation p u os)) ks) ms) l e = and_right (among names o.leaf) (among assignment p.leaf) (apart operators assignment refl p.leaf p.fits)
+cascade_no_target text (cascade (keyworded (binary (unary (name o) []) no_operations) (part k b ks)) ms) l e = and_right (among names o.leaf) (among assignment k.leaf) (apart keywords assignment refl k.leaf k.fits)
+cascade_no_target text (cascade (keyworded (binary (unary (name o) []) no_operations) no_parts) (message s k ms)) l e = and_right (among names o.leaf) (among assignment s.leaf) (apart (Semicolon ∷ []) assignment refl s.leaf s.fits)
 cascade_no_target text (cascade (keyworded (binary (unary (name o) []) no_operations) no_parts) no_messages) l e = no_assignment o.leaf l (goes_not text (cascade (keyworded (binary (unary (name o) []) no_operations) no_parts) no_messages) l e refl)
 cascade_no_target text (cascade (keyworded (binary (unary (literal (constant o)) ns) os) ks) ms) l e = rw (apart constants names refl o.leaf o.fits) refl
 cascade_no_target text (cascade (keyworded (binary (unary (literal (array o es c)) ns) os) ks) ms) l e = rw (apart (Opening ∷ []) names refl o.leaf o.fits) refl
@@ -149,8 +145,8 @@ module _ (text : List ℕ) where
     bare_stops c ts [] parts e s = refl
     bare_stops (cascade (keyworded (binary (unary (name o) []) no_operations) no_parts) no_messages) ts (x ∷ rest) parts e s =
         let no : (among names o.leaf && among assignment x) ≡ false = ap first_target (sym parts) ∙ e in
-        or_neither _ _ s (subst (λ (b : Bool). (b && among assignment x) ≡ false) o.fits no)
-    bare_stops c ts (x ∷ rest) parts e s = or_neither (cascade_goes text c x) _ s (not_bare c ts (x ∷ rest) parts e)
+        or_from _ _ s (subst (λ (b : Bool). (b && among assignment x) ≡ false) o.fits no)
+    bare_stops c ts (x ∷ rest) parts e s = or_from (cascade_goes text c x) _ s (not_bare c ts (x ∷ rest) parts e)
       where
         not_bare : (c : Cascade) (ts rest : List Leaf) → ts ≡ cascade_text c ++ rest → first_target ts ≡ false → (is_bare c && first (among assignment) rest) ≡ false
         not_bare (cascade (keyworded (binary (unary (name o) []) no_operations) no_parts) no_messages) ts rest parts e =
@@ -249,17 +245,17 @@ module _ (text : List ℕ) where
   message_not : (k : Message) (x : Leaf) → IsForeign x → message_goes text k x ≡ false
   message_not (unary_message k) x f = refl
   message_not (binary_message o u) x f = f.name
-  message_not (keyword_message k b ks) x f = or_neither (among keywords x) _ f.keyword (or_neither (among operators x) _ f.operator f.name)
+  message_not (keyword_message k b ks) x f = or_from (among keywords x) _ f.keyword (or_from (among operators x) _ f.operator f.name)
 
   last_not : (ms : Messages) (x : Leaf) → IsForeign x → messages_last text ms x ≡ false
   last_not no_messages x f = refl
-  last_not (message s k ms) x f = or_neither (messages_last text ms x) _ (last_not ms x f) (no_second (is_nil (messages_text ms)) (message_goes text k x) (message_not k x f))
+  last_not (message s k ms) x f = or_from (messages_last text ms x) _ (last_not ms x f) (and_right (is_nil (messages_text ms)) (message_goes text k x) (message_not k x f))
 
   tail_not : (x : Leaf) → IsForeign x → tail_goes x ≡ false
-  tail_not x f = or_neither (among keywords x) _ f.keyword (or_neither (among operators x) _ f.operator f.name)
+  tail_not x f = or_from (among keywords x) _ f.keyword (or_from (among operators x) _ f.operator f.name)
 
   sent_not : (ms : Messages) (x : Leaf) → IsForeign x → ((among (Semicolon ∷ []) x || messages_last text ms x) || (is_nil (messages_text ms) && tail_goes x)) ≡ false
-  sent_not ms x f = or_neither (among (Semicolon ∷ []) x || messages_last text ms x) _ (or_neither (among (Semicolon ∷ []) x) _ f.semicolon (last_not ms x f)) (no_second (is_nil (messages_text ms)) (tail_goes x) (tail_not x f))
+  sent_not ms x f = or_from (among (Semicolon ∷ []) x || messages_last text ms x) _ (or_from (among (Semicolon ∷ []) x) _ f.semicolon (last_not ms x f)) (and_right (is_nil (messages_text ms)) (tail_goes x) (tail_not x f))
 
   cascade_not : (c : Cascade) (x : Leaf) → IsForeign x → cascade_goes text c x ≡ false
   cascade_not (cascade (keyworded (binary (unary p []) no_operations) no_parts) ms) x f = f.message
@@ -268,4 +264,4 @@ module _ (text : List ℕ) where
   cascade_not (cascade (keyworded (binary (unary p (n ∷ ns)) os) ks) ms) x f = sent_not ms x f
 
   pub expression_not : (e : Expression) (x : Leaf) → IsForeign x → expression_goes text e x ≡ false
-  expression_not (expression ts c) x f = or_neither (cascade_goes text c x) _ (cascade_not c x f) (no_second (is_bare c) (among assignment x) f.assign)
+  expression_not (expression ts c) x f = or_from (cascade_goes text c x) _ (cascade_not c x f) (and_right (is_bare c) (among assignment x) f.assign)

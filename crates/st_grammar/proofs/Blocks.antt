@@ -1,7 +1,7 @@
 -- What is read of blocks, and of everything in brackets.
 use Rattle.std.proofs.Common.{◌≡◌, ℕ, zero, suc, ◌≤◌, Bool, true, false, ◌||◌, ◌&&◌, List, [], ◌∷◌, ◌++◌, ◌⊎◌, inl, inr, Ok, refl, sym, ap, ◌∙◌, append_assoc, arith}
 use Rattle.std.proofs.lemmas.List.{append-nil}
-use Rattle.st_scan.specs.Views.{NameView, ExpressionView, StatementsView}
+use Rattle.st_scan.specs.Views.{NameView, ExpressionView}
 use Rattle.st_scan.specs.Views as views
 use Rattle.st_grammar.specs.declared.leaf.Leaf.{Leaf}
 use Rattle.st_grammar.specs.declared.leaf.Kind.{Kind}
@@ -12,13 +12,14 @@ use Rattle.st_grammar.specs.Trees.{name_at, parameters_tree, block_tree, express
 use Rattle.st_grammar.specs.Reading.{Read, ◌>>=◌, first, token_at, primary_starts, statement_starts, array_at, expression_at, statements_at, parameters_step, parameters_at, argument_body_at, argument_block_at, plain_block_at, block_at, bracket_at, block_primary_at, group_primary_at}
 use Rattle.st_grammar.proofs.KindSets.{apart, within, neutral, sample, one_name}
 use Rattle.st_grammar.proofs.Balanced.{parameters_balanced, block_balanced, expression_balanced}
-use Rattle.st_grammar.proofs.Readers.{Reads, nothing, first_nothing, is_nil, mapped, renamed, token_reads, both, either, anyway, pure, text_both, goes_both, text_either, tree_either, goes_either, or_neither}
+use Rattle.st_grammar.proofs.Readers.{Reads, nothing, first_nothing, is_nil, mapped, renamed, token_reads, both, either, anyway, pure, text_both, goes_both, text_either, tree_either, goes_either}
 use Rattle.st_grammar.proofs.Repeats.{IsRepeat, IsMore, repeated}
 use Rattle.st_grammar.proofs.Bracketed.{bracket_zero_zero, bracket_zero_suc, bracket_suc_suc}
 use Rattle.st_grammar.proofs.Lists.{and_false, or_false}
 use Rattle.st_grammar.proofs.Expressions.{Inner, FitBlock, FitExpression, BlockBracket, GroupBracket, block_bracket_text, group_bracket_text}
 use Rattle.st_grammar.proofs.Assignments.{expression_goes, expression_reads, expression_not, foreign, IsForeign}
 use Rattle.st_grammar.proofs.Bodies.{FitStatements, statements_goes, statements_last, stays, statements_reads, one_expression, expression_begins, into_statements}
+use Rattle.std.proofs.lemmas.Bool.{and_right, or_from}
 
 abbrev colon : List Kind
 colon = Colon ∷ []
@@ -41,10 +42,6 @@ returning = Return ∷ []
 -- what an expression's leaves begin with
 first_is : (text : List ℕ) (e : Expression) (l : List Leaf) (x : Leaf) (us k : List Leaf) → l ≡ expression_text e ++ k → l ≡ x ∷ us → among statement_starts x ≡ true
 first_is text e l x us k parts is = into_statements text (x ∷ us) (ap (first (among primary_starts)) (sym is ∙ parts) ∙ expression_begins text e k)
-
-and_none : (a b : Bool) → b ≡ false → (a && b) ≡ false
-and_none true b e = e
-and_none false b e = refl
 
 -- what closes a bracket
 record IsOutside (x : Leaf) : Type 0 where
@@ -75,13 +72,13 @@ closes_block_outside x e = record {
 module _ (text : List ℕ) where
   last_not : (ss : Statements) (x : Leaf) → IsOutside x → statements_last text ss x ≡ false
   last_not no_statements x o = refl
-  last_not (last e) x o = or_neither (among (Period ∷ []) x) _ o.period (expression_not text e x o.alien)
+  last_not (last e) x o = or_from (among (Period ∷ []) x) _ o.period (expression_not text e x o.alien)
   last_not (next e p ss) x o = last_not ss x o
-  last_not (returned r e) x o = or_neither (among (Period ∷ []) x) _ o.period (expression_not text e x o.alien)
+  last_not (returned r e) x o = or_from (among (Period ∷ []) x) _ o.period (expression_not text e x o.alien)
   last_not (returned_ended r e p) x o = refl
 
   statements_not : (ss : Statements) (x : Leaf) → IsOutside x → statements_goes text ss x ≡ false
-  statements_not ss x o = or_neither (stays ss true && among statement_starts x) _ (and_none (stays ss true) _ o.start) (last_not ss x o)
+  statements_not ss x o = or_from (stays ss true && among statement_starts x) _ (and_right (stays ss true) _ o.start) (last_not ss x o)
 
   abbrev with_parameter : Parameter → List NameView → List NameView
   with_parameter p ns = ns ++ name_at text p.name.leaf ∷ []
@@ -202,22 +199,22 @@ module _ (text : List ℕ) where
   not_colon ss x us e = apart statement_starts colon refl x (statement_begins ss.0 x us e)
 
   body_not : (b : ArgumentBody) (x : Leaf) → IsOutside x → body_goes b x ≡ false
-  body_not (inl b) x o = or_neither (statements_goes text b.1.0 x) _ (statements_not b.1.0 x o) (and_none (is_nil (statements_text b.1.0)) false refl)
+  body_not (inl b) x o = or_from (statements_goes text b.1.0 x) _ (statements_not b.1.0 x o) (and_right (is_nil (statements_text b.1.0)) false refl)
   body_not (inr u) x o = o.bar
 
   block_ends : (b : FitBlock text) (x : Leaf) → among (CloseBlock ∷ []) x ≡ true → block_goes b x ≡ false
   unfolding block_sum_goes
-  block_ends (plain_block ss, f) x e = let o = closes_block_outside x e in or_neither (statements_goes text ss x) _ (statements_not ss x o) (and_none (is_nil (statements_text ss)) _ o.colon)
+  block_ends (plain_block ss, f) x e = let o = closes_block_outside x e in or_from (statements_goes text ss x) _ (statements_not ss x o) (and_right (is_nil (statements_text ss)) _ o.colon)
   block_ends (full_block p ps b ss, f) x e =
       let o = closes_block_outside x e in
-      or_neither (body_goes (inl (b, (ss, f))) x || (is_nil (body_text (inl (b, (ss, f)))) && among colon x)) _
-      (or_neither (body_goes (inl (b, (ss, f))) x) _ (body_not (inl (b, (ss, f))) x o) (and_none (is_nil (body_text (inl (b, (ss, f))))) _ o.colon))
-      (and_none (is_nil (parameters_text ps ++ body_text (inl (b, (ss, f))))) false refl)
+      or_from (body_goes (inl (b, (ss, f))) x || (is_nil (body_text (inl (b, (ss, f)))) && among colon x)) _
+      (or_from (body_goes (inl (b, (ss, f))) x) _ (body_not (inl (b, (ss, f))) x o) (and_right (is_nil (body_text (inl (b, (ss, f))))) _ o.colon))
+      (and_right (is_nil (parameters_text ps ++ body_text (inl (b, (ss, f))))) false refl)
   block_ends (empty_block p ps, f) x e =
       let o = closes_block_outside x e in
-      or_neither (body_goes (inr tt) x || (is_nil (body_text (inr tt)) && among colon x)) _
-      (or_neither (body_goes (inr tt) x) _ (body_not (inr tt) x o) (and_none (is_nil (body_text (inr tt))) _ o.colon))
-      (and_none (is_nil (parameters_text ps ++ body_text (inr tt))) false refl)
+      or_from (body_goes (inr tt) x || (is_nil (body_text (inr tt)) && among colon x)) _
+      (or_from (body_goes (inr tt) x) _ (body_not (inr tt) x o) (and_right (is_nil (body_text (inr tt))) _ o.colon))
+      (and_right (is_nil (parameters_text ps ++ body_text (inr tt))) false refl)
 
   between_parameters : (b : ArgumentBody) (l : List Leaf) → first (among colon) l ≡ false → first (among colon) (body_text b ++ l) ≡ false
   between_parameters (inl b) l e = apart bar colon refl b.0.leaf b.0.fits

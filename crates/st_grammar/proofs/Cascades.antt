@@ -1,7 +1,7 @@
 -- What is read of keyword expressions, messages and cascades.
 use Rattle.std.proofs.Common.{◌≡◌, ℕ, ◌<◌, Bool, true, false, ◌||◌, ◌&&◌, List, [], ◌∷◌, ◌++◌, ◌⊎◌, inl, inr, length, Ok, refl, sym, ap, ◌∙◌, append_assoc, length-append, arith}
 use Rattle.std.proofs.lemmas.List.{append-nil}
-use Rattle.std.proofs.lemmas.Bool.{cases_Bool}
+use Rattle.std.proofs.lemmas.Bool.{cases_Bool, or_from}
 use Rattle.st_scan.specs.Views.{is_super, NameView, ExpressionView, ExpressionsView, with_expression, with_sent}
 use Rattle.st_scan.specs.Views as views
 use Rattle.st_grammar.specs.declared.leaf.Leaf.{Leaf}
@@ -17,7 +17,6 @@ use Rattle.st_grammar.proofs.Balanced.{parts_balanced, messages_balanced}
 use Rattle.st_grammar.proofs.Readers.{Reads, nothing, first_nothing, is_nil, mapped, renamed, token_reads, both, either, anyway, nonempty, pure, tested, text_both, goes_both, text_either, tree_either, goes_either, or_left}
 use Rattle.st_grammar.proofs.Repeats.{IsRepeat, IsMore, repeated}
 use Rattle.st_grammar.proofs.Lists.{and_false, or_false, or_and_false}
-use Rattle.st_grammar.proofs.Literals.{or_none}
 use Rattle.st_grammar.proofs.Expressions.{Inner, FitPrimary, FitUnary, FitBinary, FitOperations, one_unary, primary_some, primary_reads, names_reads, unary_reads, binary_reads, operations_reads, operations_last, operations_goes, operations_no_name, binary_goes, or_assoc}
 
 abbrev pub joined_expressions : ExpressionsView → ExpressionsView → ExpressionsView
@@ -94,7 +93,7 @@ module _ (text : List ℕ) where
   no_more_parts s = parts_equal (s.selector ++ []) s.selector (joined_expressions s.arguments views.no_expressions) s.arguments (append-nil s.selector) (joined_none s.arguments)
 
   binary_goes_not : (x : Leaf) → among keywords x ≡ true → binary_goes text x ≡ false
-  binary_goes_not x e = or_none (among operators x) (among names x) (apart keywords operators refl x e) (apart keywords names refl x e)
+  binary_goes_not x e = or_from (among operators x) (among names x) (apart keywords operators refl x e) (apart keywords names refl x e)
 
   parts_repeat : IsRepeat (λ (t : PartsView). among keywords) (λ (k : PartPair). k.0.leaf ∷ binary_text k.1.0) with_part (λ k. binary_goes text) (λ t ks. PartsFit text ks) parts_text with_parts parts_last
   parts_repeat = record {
@@ -172,12 +171,12 @@ module _ (text : List ℕ) where
 
   operations_last_not : (os : Operations) (x : Leaf) → among names x ≡ false → operations_last text os x ≡ false
   operations_last_not no_operations x e = refl
-  operations_last_not (operation o u os) x e = or_none (operations_last text os x) _ (operations_last_not os x e) (ap (λ (b : Bool). is_nil (operations_text os) && b) e ∙ and_false (is_nil (operations_text os)))
+  operations_last_not (operation o u os) x e = or_from (operations_last text os x) _ (operations_last_not os x e) (ap (λ (b : Bool). is_nil (operations_text os) && b) e ∙ and_false (is_nil (operations_text os)))
 
   -- a keyword ends operations and names
   between_parts : (os : FitOperations text) (ks : FitParts) (l : List Leaf) → first (ops_goes os) l ≡ false → first (ops_goes os) (parts_text ks.0 ++ l) ≡ false
   between_parts os (no_parts, g) l e = e
-  between_parts os (part k b ks, g) l e = or_none (among operators k.leaf) _ (apart keywords operators refl k.leaf k.fits) (operations_last_not os.0 k.leaf (apart keywords names refl k.leaf k.fits))
+  between_parts os (part k b ks, g) l e = or_from (among operators k.leaf) _ (apart keywords operators refl k.leaf k.fits) (operations_last_not os.0 k.leaf (apart keywords names refl k.leaf k.fits))
 
   parts_no_name : (ks : Parts) (l : List Leaf) → first (among names) l ≡ false → first (among names) (parts_text ks ++ l) ≡ false
   parts_no_name no_parts l e = e
@@ -303,7 +302,7 @@ module _ (text : List ℕ) where
   message_ends : (k : Message) (x : Leaf) → among semicolon x ≡ true → message_goes k x ≡ false
   message_ends (unary_message k) x e = refl
   message_ends (binary_message o u) x e = apart semicolon names refl x e
-  message_ends (keyword_message k b ks) x e = or_none (among keywords x) _ (apart semicolon keywords refl x e) (or_none (among operators x) _ (apart semicolon operators refl x e) (apart semicolon names refl x e))
+  message_ends (keyword_message k b ks) x e = or_from (among keywords x) _ (apart semicolon keywords refl x e) (or_from (among operators x) _ (apart semicolon operators refl x e) (apart semicolon names refl x e))
 
   messages_repeat : IsRepeat (λ (t : ExpressionView). among semicolon) (λ (c : CascadePair). c.0.leaf ∷ message_text c.1.0) (λ c t. with_one text t c.1.0) (λ c. message_goes c.1.0) (λ t ms. MessagesFit text ms) messages_text (λ ms t. after_messages text t ms) messages_last
   messages_repeat = record {

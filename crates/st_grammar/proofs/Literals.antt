@@ -15,7 +15,8 @@ use Rattle.st_grammar.proofs.Balanced.{elements_balanced}
 use Rattle.st_grammar.proofs.Readers.{Reads, nothing, first_nothing, is_nil, mapped, renamed, token_reads, both, either, anyway, text_both, goes_both, text_either, tree_either, goes_either}
 use Rattle.st_grammar.proofs.Repeats.{IsRepeat, IsMore, repeated}
 use Rattle.st_grammar.proofs.Bracketed.{bracket_zero_zero, bracket_zero_suc, bracket_suc_suc}
-use Rattle.st_grammar.proofs.Lists.{and_false, or_false, or_and_false, ones_reads}
+use Rattle.st_grammar.proofs.Lists.{or_false, or_and_false, ones_reads}
+use Rattle.std.proofs.lemmas.Bool.{and_right, or_from}
 
 -- ELEMENTS ONE BEHIND ANOTHER
 
@@ -46,16 +47,9 @@ element_ends (plain o) x ks a e = refl
 element_ends (keyword_symbol k js) x ks a e = apart ks (Joined ∷ []) a x e
 element_ends (nested o es c) x ks a e = refl
 
-pub or_none : (a b : Bool) → a ≡ false → b ≡ false → (a || b) ≡ false
-or_none true b e f = absurd cc
-or_none false b e f = f
-
-and_none : (a b : Bool) → b ≡ false → (a && b) ≡ false
-and_none a b e = ap (λ (c : Bool). a && c) e ∙ and_false a
-
 elements_end : (es : Elements) (x : Leaf) → among (Close ∷ []) x ≡ true → elements_last es x ≡ false
 elements_end no_elements x e = refl
-elements_end (element f es) x e = or_none (elements_last es x) _ (elements_end es x e) (and_none (is_nil (elements_text es)) _ (element_ends f x (Close ∷ []) refl e))
+elements_end (element f es) x e = or_from (elements_last es x) _ (elements_end es x e) (and_right (is_nil (elements_text es)) _ (element_ends f x (Close ∷ []) refl e))
 
 element_begins : (e : Element) (k : List Leaf) → first (among element_starts) (element_text e ++ k) ≡ true
 element_begins (plain o) k = within plain_elements element_starts refl o.leaf o.fits
@@ -231,7 +225,7 @@ module _ (text : List ℕ) where
     closing x e = (apart (Close ∷ []) openings refl x e, within (Close ∷ []) closings refl x e)
 
     body_ends : (l : Elements × Unit {0}) (x : Leaf) → among (Close ∷ []) x ≡ true → (among element_starts x || elements_last l.0 x) ≡ false
-    body_ends l x e = or_none (among element_starts x) _ (apart (Close ∷ []) element_starts refl x e) (elements_end l.0 x e)
+    body_ends l x e = or_from (among element_starts x) _ (apart (Close ∷ []) element_starts refl x e) (elements_end l.0 x e)
 
     abbrev Pair : Type 0
     Pair = One ks × (Elements × Unit {0}) × One (Close ∷ [])

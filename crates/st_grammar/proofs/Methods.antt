@@ -12,12 +12,13 @@ use Rattle.st_grammar.specs.Trees.{bytes, name_at, names_of, number_of, keyword_
 use Rattle.st_grammar.specs.Reading.{◌>>=◌, first, token_at, statement_starts, PatternView, OptionsView, array_at, bracket_at, statements_at, pattern_step, keyword_names_at, unary_pattern_at, binary_pattern_at, keyword_pattern_at, pattern_at, name_step, name_list_at, temporaries_at, primitive_at, temporaries_first_at, primitive_first_at, options_at, method_at}
 use Rattle.st_grammar.proofs.KindSets.{apart, neutral, sample, one_name, one_operator, one_keyword}
 use Rattle.st_grammar.proofs.Balanced.{keyword_names_balanced}
-use Rattle.st_grammar.proofs.Readers.{Reads, nothing, first_nothing, is_nil, mapped, renamed, token_reads, both, either, anyway, pure, weaker, text_both, goes_both, text_either, tree_either, goes_either, or_neither}
+use Rattle.st_grammar.proofs.Readers.{Reads, nothing, first_nothing, is_nil, mapped, renamed, token_reads, both, either, anyway, pure, weaker, text_both, goes_both, text_either, tree_either, goes_either}
 use Rattle.st_grammar.proofs.Repeats.{IsRepeat, IsMore, repeated}
 use Rattle.st_grammar.proofs.Lists.{and_false, or_false, or_and_false, ones_reads}
 use Rattle.st_grammar.proofs.Expressions.{Inner}
 use Rattle.st_grammar.proofs.Bodies.{FitStatements, statements_goes, statements_reads}
 use Rattle.st_grammar.proofs.Blocks.{statement_begins}
+use Rattle.std.proofs.lemmas.Bool.{or_from}
 
 abbrev bar : List Kind
 bar = Bar ∷ []
@@ -338,7 +339,7 @@ module _ (text : List ℕ) where
   between_options o ss l e = go (statements_text ss.0) refl
     where
       not_start : (o : Options) (x : Leaf) → among statement_starts x ≡ true → options_goes o x ≡ false
-      not_start no_options x s = or_neither (among less x) (among bar x) (apart statement_starts less refl x s) (apart statement_starts bar refl x s)
+      not_start no_options x s = or_from (among less x) (among bar x) (apart statement_starts less refl x s) (apart statement_starts bar refl x s)
       not_start (with_temporaries t) x s = apart statement_starts less refl x s
       not_start (with_primitive p) x s = apart statement_starts bar refl x s
       not_start (temporaries_first t p) x s = refl

@@ -1,7 +1,7 @@
 -- What a reader does by the phrases that it reads, and how readers are put together.
 use Rattle.std.proofs.Common.{◌≡◌, ℕ, ◌+◌, ◌<◌, ◌≤◌, Bool, true, false, cond, ◌||◌, ◌&&◌, List, [], ◌∷◌, ◌++◌, ◌⊎◌, inl, inr, length, Ok, Err, refl, sym, ap, ◌∙◌, subst, append_assoc, arith}
 use Rattle.std.proofs.lemmas.List.{append-nil}
-use Rattle.std.proofs.lemmas.Bool.{cases_Bool}
+use Rattle.std.proofs.lemmas.Bool.{cases_Bool, or_from as or_neither}
 use Rattle.st_scan.specs.declared.fault.Cause.{Cause}
 use Rattle.st_scan.specs.declared.fault.Cause.TheVariants.{Expected, Deep}
 use Rattle.st_grammar.specs.declared.leaf.Leaf.{Leaf}
@@ -430,10 +430,6 @@ or_left false b e = refl
 pub or_right : (a b : Bool) → (a || b) ≡ false → b ≡ false
 or_right true b e = absurd cc
 or_right false b e = e
-
-pub or_neither : (a b : Bool) → a ≡ false → b ≡ false → (a || b) ≡ false
-or_neither true b e f = absurd cc
-or_neither false b e f = f
 
 pub first_into : (f g : Leaf → Bool) (l : List Leaf) → ((x : Leaf) → f x ≡ true → g x ≡ true) → first f l ≡ true → first g l ≡ true
 first_into f g [] into e = absurd cc

@@ -7,7 +7,8 @@ use Rattle.st_grammar.specs.Reading.{Stop, Read, stop, ◌>>=◌, first, many}
 use Rattle.st_grammar.specs.Faults.{highest}
 use Rattle.st_grammar.proofs.Heights.{IsBalanced, behind_balanced}
 use Rattle.st_grammar.proofs.Loops.{many_stop, many_step}
-use Rattle.st_grammar.proofs.Readers.{Alike, first_alike, alike_behind, first_same, ToldOk, ToldErr, Told, Reads, IsDeep, Reason, is_nil, or_left, or_right, or_neither}
+use Rattle.st_grammar.proofs.Readers.{Alike, first_alike, alike_behind, first_same, ToldOk, ToldErr, Told, Reads, IsDeep, Reason, is_nil, or_left, or_right}
+use Rattle.std.proofs.lemmas.Bool.{or_from}
 
 module _ {A P L : Type 0} (looks : A → Leaf → Bool) (text : P → List Leaf) (after : P → A → A) (goes : P → Leaf → Bool) (Valid : A → L → Type 0) (texts : L → List Leaf) (afters : L → A → A) (last : L → Leaf → Bool) where
   -- a list that is a phrase and another list
@@ -84,7 +85,7 @@ module _ {A P L : Type 0} {looks : A → Leaf → Bool} {text : P → List Leaf}
     where
       stops : (ts : List Leaf) → first (looks a) ts ≡ false → first (goes_on a R.nil) ts ≡ false
       stops [] e = refl
-      stops (x ∷ ts) e = or_neither (looks (afters R.nil a) x) (last R.nil x) (ap (λ (b : A). looks b x) (R.nil_is a) ∙ e) (R.nil_last x)
+      stops (x ∷ ts) e = or_from (looks (afters R.nil a) x) (last R.nil x) (ap (λ (b : A). looks b x) (R.nil_is a) ∙ e) (R.nil_last x)
 
   first_leaf : (f : Leaf → Bool) (ts : List Leaf) → first f ts ≡ true → (x : Leaf) × (f x ≡ true)
   first_leaf f [] e = absurd cc
@@ -108,8 +109,8 @@ module _ {A P L : Type 0} {looks : A → Leaf → Bool} {text : P → List Leaf}
       stops : (rest : List Leaf) (l : L) → Valid (after t.p a) l → afters (R.cons t.p l) a ≡ afters l x.0 → l ≡ l → first (goes_on x.0 l) rest ≡ false → first (goes t.p) (texts l ++ rest) ≡ false → first (goes_on a (R.cons t.p l)) rest ≡ false
       stops [] l v is same e f = refl
       stops (z ∷ rest) l v is same e f =
-          or_neither (looks (afters (R.cons t.p l) a) z) (last (R.cons t.p l) z) (ap (λ (b : A). looks b z) is ∙ or_left (looks (afters l x.0) z) _ e)
-          (R.cons_last a t.p l z v ∙ or_neither (last l z) _ (or_right (looks (afters l x.0) z) _ e) (behind (texts l) f))
+          or_from (looks (afters (R.cons t.p l) a) z) (last (R.cons t.p l) z) (ap (λ (b : A). looks b z) is ∙ or_left (looks (afters l x.0) z) _ e)
+          (R.cons_last a t.p l z v ∙ or_from (last l z) _ (or_right (looks (afters l x.0) z) _ e) (behind (texts l) f))
         where
           behind : (us : List Leaf) → first (goes t.p) (us ++ z ∷ rest) ≡ false → (is_nil us && goes t.p z) ≡ false
           behind [] f = f
@@ -212,7 +213,7 @@ module _ {A P L : Type 0} {looks : A → Leaf → Bool} {text : P → List Leaf}
   rest_stop : (a : A) (l : L) (rest : List Leaf) (i : IsMore looks text after goes Valid texts afters last a l) → first (goes_on a l) rest ≡ false → first (goes_on (after i.p a) i.rest) rest ≡ false
   rest_stop a l [] i e = refl
   rest_stop a l (x ∷ rest) i e =
-      or_neither (looks (afters i.rest (after i.p a)) x) (last i.rest x) (ap (λ (b : A). looks b x) (sym i.is) ∙ or_left (looks (afters l a) x) _ e) (or_left (last i.rest x) _ (sym (i.last_is x) ∙ or_right (looks (afters l a) x) _ e))
+      or_from (looks (afters i.rest (after i.p a)) x) (last i.rest x) (ap (λ (b : A). looks b x) (sym i.is) ∙ or_left (looks (afters l a) x) _ e) (or_left (last i.rest x) _ (sym (i.last_is x) ∙ or_right (looks (afters l a) x) _ e))
 
   -- the first phrase ends before the rest
   phrase_stop : (a : A) (l : L) (rest us : List Leaf) (i : IsMore looks text after goes Valid texts afters last a l) → us ≡ texts i.rest → first (goes_on a l) rest ≡ false → first (goes i.p) (us ++ rest) ≡ false

@@ -41,7 +41,7 @@ sound_without all k sound q s h = elim (set_cases all k None q s h) [
   | inr e ↦ sound q s e
 ]
 
-changed-set : (t : Table) (i : ℕ) (a o : Object) → entry t i ≡ Some a → changed t i o ≡ set t i (Some o)
+pub changed-set : (t : Table) (i : ℕ) (a o : Object) → entry t i ≡ Some a → changed t i o ≡ set t i (Some o)
 changed-set [] i a o e = cc
 changed-set (None ∷ t) zero a o e = cc
 changed-set (Some b ∷ t) zero a o e = refl
@@ -119,7 +119,7 @@ total_words all sound = total_objects words_of stored_words all (λ k s is. word
 pub total_one : (all : List (Option Stored)) → total_used one (objects_in all) ≡ total one_stored all
 total_one all = total_objects one one_stored all (λ k s is. refl)
 
-none_of : {A : Type 0} (x : Option A) → is_some x ≡ false → x ≡ None
+pub none_of : {A : Type 0} (x : Option A) → is_some x ≡ false → x ≡ None
 none_of None h = refl
 none_of (Some a) h = cc
 

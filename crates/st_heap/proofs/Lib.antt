@@ -9,6 +9,8 @@ pub mod Stretches
 pub mod Forming
 pub mod Fresh
 mod StoredLaying
+mod Placed
+pub mod Linking
 pub mod Living
 pub mod Changing
 pub mod Placing

@@ -5,6 +5,7 @@ ghost use Rattle.st_table.specs.Entries.{place};
 ghost use Rattle.st_heap.specs.Stored.{IsUnused, used_of};
 ghost use Rattle.st_heap.specs.Stores.{stored_of, capacity_of};
 ghost use Rattle.st_heap.specs.Forms.{object_from, IsSound};
+ghost use Rattle.st_heap.specs.Links.{SameOtherLinks};
 
 use crate::store::Store;
 use st_model::{Kind, Oop};
@@ -116,6 +117,7 @@ impl Form {
         ensures stored { stored_of store.new
             ≡ slice_set (stored_of store.old) (place at) (Some (new_stored self.now)) }
         ensures capacity { capacity_of store.new ≡ capacity_of store.old }
+        ensures links { SameOtherLinks store.old store.new (place at) }
     {
         let mut words = [Oop::NIL.0; MOST];
         words[0] = self.words as u16;
@@ -132,6 +134,7 @@ impl Form {
         ensures stored { stored_of store.new
             ≡ slice_set (stored_of store.old) (place at) (Some (new_stored self.now)) }
         ensures capacity { capacity_of store.new ≡ capacity_of store.old }
+        ensures links { SameOtherLinks store.old store.new (place at) }
     {
         if self.is_short() {
             self.store_fields(store, at);

@@ -1,4 +1,4 @@
-ghost use Rattle.std.specs.Prelude.{◌≡◌, ◌≢◌, ◌<◌, ◌≤◌, ◌+◌, ◌-◌, ◌/◌, ◌%◌, ℕ, length, take, drop, true, false, Some, None, IfSome, IfNone, IfOk, slice_get, slice_set};
+ghost use Rattle.std.specs.Prelude.{◌≡◌, ◌≢◌, ◌<◌, ◌≤◌, ◌+◌, ◌-◌, ◌/◌, ◌%◌, ℕ, length, take, drop, true, false, Some, None, is_some, IfSome, IfNone, IfOk, slice_get, slice_set};
 ghost use Rattle.st_model.specs.declared.oop.Oop.{Oop as Pointer};
 ghost use Rattle.st_model.specs.Values.{value, Ref, is_small};
 ghost use Rattle.st_model.specs.Objects.{first_unit, is_words, one, size_of, with_units, words_of};
@@ -25,6 +25,8 @@ pub struct Objects {
 
 impl Objects {
     ghost use Rattle.st_heap.specs.Tables.{objects_of, room_of};
+    ghost use Rattle.st_heap.specs.Places.{SamePlaces, SameOtherPlaces, Stands};
+    ghost use Rattle.st_heap.specs.Links.{next_of, before_of, SameLinks, SameOtherLinks, WithNext, WithBefore};
 
     /// No objects, and room for so many words.
     pub fn new(alloc: Global, words: u32) -> Result<Objects, AllocError>
@@ -106,6 +108,54 @@ impl Objects {
         Oop(self.store.word(o, 2 + at))
     }
 
+    /// The place at which an object's block stands.
+    pub fn place_of(&self, o: Oop) -> u32
+        requires { is_live (objects_of self.now) (value o) ≡ true }
+        ensures { Stands self.now (value o) result }
+    {
+        self.store.place_of(o)
+    }
+
+    /// Field `at` of an object whose block stands at a place.
+    pub fn placed_field(&self, o: Oop, stand: u32, at: u32) -> Oop
+        requires live { is_live (objects_of self.now) (value o) ≡ true }
+        requires place { Stands self.now (value o) stand }
+        requires range { at < length (object_of (objects_of self.now) (value o)).fields }
+        ensures { slice_get (object_of (objects_of self.now) (value o)).fields at ≡ Some (value result) }
+    {
+        Oop(self.store.placed_word(o, stand, 2 + at))
+    }
+
+    /// Byte `at` of an object of kind Bytes or Method whose block stands at a place; of a Method, whose header and literals count,
+    /// from the first bytecode on.
+    pub fn placed_byte(&self, o: Oop, stand: u32, at: u32) -> u16
+        requires live { is_live (objects_of self.now) (value o) ≡ true }
+        requires place { Stands self.now (value o) stand }
+        requires kind { is_words (object_of (objects_of self.now) (value o)).kind ≡ false }
+        requires above { first_unit (object_of (objects_of self.now) (value o)) ≤ at }
+        requires range { let object = object_of (objects_of self.now) (value o) in
+            at < first_unit object + length object.units }
+        ensures { let object = object_of (objects_of self.now) (value o) in
+            slice_get object.units (at - first_unit object) ≡ Some result }
+    {
+        let word = self.store.placed_word(o, stand, 2 + at / 2);
+        if at % 2 == 0 { word / 256 } else { word % 256 }
+    }
+
+    /// Stores v in field `at` of an object whose block stands at a place; in a Method's header only what counts the same literals.
+    pub fn set_placed_field(&mut self, o: Oop, stand: u32, at: u32, v: Oop)
+        requires live { is_live (objects_of self.old) (value o) ≡ true }
+        requires place { Stands self.old (value o) stand }
+        requires range { at < length (object_of (objects_of self.old) (value o)).fields }
+        requires header { IsHeader (object_of (objects_of self.old) (value o)) at (value v) }
+        ensures objects { objects_of self.new ≡ with_stored (objects_of self.old) (value o) at (value v) }
+        ensures room { room_of self.new ≡ room_of self.old }
+        ensures links { SameLinks self.old.store self.new.store }
+        ensures places { SamePlaces self.old.store self.new.store }
+    {
+        self.store.set_placed_word(o, stand, 2 + at, v.0);
+    }
+
     /// Word `at` of an object of kind Words.
     pub fn word(&self, o: Oop, at: u32) -> u16
         requires live { is_live (objects_of self.now) (value o) ≡ true }
@@ -137,6 +187,8 @@ impl Objects {
         requires header { IsHeader (object_of (objects_of self.old) (value o)) at (value v) }
         ensures objects { objects_of self.new ≡ with_stored (objects_of self.old) (value o) at (value v) }
         ensures room { room_of self.new ≡ room_of self.old }
+        ensures links { SameLinks self.old.store self.new.store }
+        ensures places { SamePlaces self.old.store self.new.store }
     {
         self.store.set_word(o, 2 + at, v.0);
     }
@@ -148,6 +200,7 @@ impl Objects {
         requires range { at < size_of (object_of (objects_of self.old) (value o)) }
         ensures objects { objects_of self.new ≡ with_unit (objects_of self.old) (value o) at v }
         ensures room { room_of self.new ≡ room_of self.old }
+        ensures links { SameLinks self.old.store self.new.store }
     {
         self.store.set_word(o, 2 + at, v);
     }
@@ -163,6 +216,7 @@ impl Objects {
         ensures objects { let first = first_unit (object_of (objects_of self.old) (value o)) in
             objects_of self.new ≡ with_unit (objects_of self.old) (value o) (at - first) v }
         ensures room { room_of self.new ≡ room_of self.old }
+        ensures links { SameLinks self.old.store self.new.store }
     {
         let half = 2 + at / 2;
         let word = with_byte(self.store.word(o, half), at, u16::from(v));
@@ -189,6 +243,7 @@ impl Objects {
             let units = with_run object.units at words.now in
             objects_of self.new ≡ changed (objects_of self.old) (place o) (with_units object units) }
         ensures room { room_of self.new ≡ room_of self.old }
+        ensures links { SameLinks self.old.store self.new.store }
     {
         self.store.write(o, 2 + at, words);
     }
@@ -219,6 +274,7 @@ impl Objects {
             let units = with_run object.units (at - first_unit object) bytes.now in
             objects_of self.new ≡ changed (objects_of self.old) (place o) (with_units object units) }
         ensures room { room_of self.new ≡ room_of self.old }
+        ensures links { SameLinks self.old.store self.new.store }
     {
         self.store.write_bytes(o, at, bytes);
     }
@@ -229,6 +285,7 @@ impl Objects {
         requires second { is_live (objects_of self.old) (value b) ≡ true }
         ensures objects { objects_of self.new ≡ with_exchanged (objects_of self.old) (value a) (value b) }
         ensures room { room_of self.new ≡ room_of self.old }
+        ensures links { SameLinks self.old.store self.new.store }
     {
         self.store.exchange(a, b);
     }
@@ -238,9 +295,49 @@ impl Objects {
         requires { is_live (objects_of self.old) (value o) ≡ true }
         ensures objects { objects_of self.new ≡ slice_set (objects_of self.old) (place o) None }
         ensures room { room_of self.new ≡ room_of self.old }
+        ensures places { SameOtherPlaces self.old.store self.new.store (place o) }
+        ensures links { SameOtherLinks self.old.store self.new.store (place o) }
     {
         let words = u32::from(self.store.word(o, 0));
         self.store.free(o, words);
+    }
+
+    /// The pointer of what follows an object in the list that it is in, or 0.
+    pub fn next(&self, o: Oop) -> Oop
+        requires { is_live (objects_of self.now) (value o) ≡ true }
+        ensures { place result ≡ next_of self.now.store (place o) }
+    {
+        self.store.next(o)
+    }
+
+    /// The pointer of what stands before it there, or 0.
+    pub fn before(&self, o: Oop) -> Oop
+        requires { is_live (objects_of self.now) (value o) ≡ true }
+        ensures { place result ≡ before_of self.now.store (place o) }
+    {
+        self.store.before(o)
+    }
+
+    /// Has another follow the object at the place of a pointer.
+    pub fn set_next(&mut self, o: Oop, next: Oop)
+        requires { is_some (entry (objects_of self.old) (place o)) ≡ true }
+        ensures objects { objects_of self.new ≡ objects_of self.old }
+        ensures room { room_of self.new ≡ room_of self.old }
+        ensures links { WithNext self.old.store self.new.store (place o) (place next) }
+        ensures places { SamePlaces self.old.store self.new.store }
+    {
+        self.store.set_next(o, next);
+    }
+
+    /// Has another stand before it.
+    pub fn set_before(&mut self, o: Oop, before: Oop)
+        requires { is_some (entry (objects_of self.old) (place o)) ≡ true }
+        ensures objects { objects_of self.new ≡ objects_of self.old }
+        ensures room { room_of self.new ≡ room_of self.old }
+        ensures links { WithBefore self.old.store self.new.store (place o) (place before) }
+        ensures places { SamePlaces self.old.store self.new.store }
+    {
+        self.store.set_before(o, before);
     }
 
     /// A new object at a free pointer, with fields of nil, units of 0 and, in a Method, its literal count.
@@ -255,6 +352,7 @@ impl Objects {
         ensures objects { let new = fresh (class.0 / 2) kind size literals in
             objects_of self.new ≡ with_object (objects_of self.old) (value at) new }
         ensures room { room_of self.new ≡ room_of self.old }
+        ensures links { SameOtherLinks self.old.store self.new.store (place at) }
     {
         let form = Form::new(class, kind, size, literals);
         form.store(&mut self.store, at);
@@ -280,6 +378,7 @@ impl Objects {
         ensures objects { let new = fresh (class.0 / 2) kind size literals in
             objects_of self.new ≡ placed (objects_of self.old) new }
         ensures room { room_of self.new ≡ room_of self.old }
+        ensures links { SameOtherLinks self.old.store self.new.store (place result) }
     {
         let at = self.least_free();
         self.place(at, class, kind, size, literals);

@@ -29,6 +29,8 @@ pub struct Store {
 
 impl Store {
     ghost use Rattle.st_heap.specs.Stores.{stored_of, capacity_of};
+    ghost use Rattle.st_heap.specs.Places.{place_at, SamePlaces, SameOtherPlaces};
+    ghost use Rattle.st_heap.specs.Links.{next_of, before_of, SameLinks, SameOtherLinks, WithNext, WithBefore};
 
     /// Nothing stored, and so many words for it.
     pub fn new(alloc: Global, words: u32) -> Result<Store, AllocError>
@@ -70,6 +72,38 @@ impl Store {
         self.table.entry(o).odd
     }
 
+    /// The place of its block.
+    pub fn place_of(&self, o: Oop) -> u32
+        requires { HasStored (stored_of self.now) o }
+        ensures { place_at self.now (place o) ≡ Some result }
+    {
+        self.table.entry(o).at
+    }
+
+    /// Word i of its block, which stands at a place.
+    pub fn placed_word(&self, _o: Oop, at: u32, i: u32) -> u16
+        requires there { HasStored (stored_of self.now) _o }
+        requires place { place_at self.now (place _o) ≡ Some at }
+        requires range { i < length (stored (stored_of self.now) (place _o)).cells }
+        ensures { result ≡ slice_index (stored (stored_of self.now) (place _o)).cells i }
+    {
+        self.heap.word(at + i)
+    }
+
+    /// Writes word i of its block, which stands at a place.
+    pub fn set_placed_word(&mut self, _o: Oop, at: u32, i: u32, w: u16)
+        requires there { HasStored (stored_of self.old) _o }
+        requires place { place_at self.old (place _o) ≡ Some at }
+        requires range { i < length (stored (stored_of self.old) (place _o)).cells }
+        ensures stored { let all = stored_of self.old in
+            stored_of self.new ≡ slice_set all (place _o) (Some (with_cell (stored all (place _o)) i w)) }
+        ensures capacity { capacity_of self.new ≡ capacity_of self.old }
+        ensures links { SameLinks self.old self.new }
+        ensures places { SamePlaces self.old self.new }
+    {
+        self.heap.set_word(at + i, w);
+    }
+
     /// Word i of its block.
     pub fn word(&self, o: Oop, i: u32) -> u16
         requires there { HasStored (stored_of self.now) o }
@@ -87,6 +121,8 @@ impl Store {
         ensures stored { let all = stored_of self.old in
             stored_of self.new ≡ slice_set all (place o) (Some (with_cell (stored all (place o)) i w)) }
         ensures capacity { capacity_of self.new ≡ capacity_of self.old }
+        ensures places { SamePlaces self.old self.new }
+        ensures links { SameLinks self.old self.new }
     {
         let at = self.table.entry(o).at;
         self.heap.set_word(at + i, w);
@@ -110,6 +146,7 @@ impl Store {
             stored_of self.new
             ≡ slice_set all (place o) (Some (with_cells s (with_run s.cells i words.now))) }
         ensures capacity { capacity_of self.new ≡ capacity_of self.old }
+        ensures links { SameLinks self.old self.new }
     {
         let at = self.table.entry(o).at;
         self.heap.write(at + i, words);
@@ -136,6 +173,7 @@ impl Store {
             stored_of self.new
             ≡ slice_set all (place o) (Some (with_cells s (with_bytes s.cells 2 first bytes.now))) }
         ensures capacity { capacity_of self.new ≡ capacity_of self.old }
+        ensures links { SameLinks self.old self.new }
     {
         let at = self.table.entry(o).at;
         self.heap.write_bytes(at + 2, first, bytes);
@@ -148,6 +186,7 @@ impl Store {
         requires room { (used_of (stored_of self.old)).words + n ≤ capacity_of self.old }
         ensures stored { Takes (stored_of self.old) (stored_of self.new) (place o) kind odd n }
         ensures capacity { capacity_of self.new ≡ capacity_of self.old }
+        ensures links { SameOtherLinks self.old self.new (place o) }
     {
         let at = self.heap.take(&mut self.table, o, n);
         let entry = Entry {
@@ -170,6 +209,8 @@ impl Store {
         requires size { n ≡ length (stored (stored_of self.old) (place o)).cells }
         ensures stored { stored_of self.new ≡ slice_set (stored_of self.old) (place o) None }
         ensures capacity { capacity_of self.new ≡ capacity_of self.old }
+        ensures places { SameOtherPlaces self.old self.new (place o) }
+        ensures links { SameOtherLinks self.old self.new (place o) }
     {
         let at = self.table.entry(o).at;
         self.heap.give(at, n);
@@ -186,6 +227,7 @@ impl Store {
         requires second { HasStored (stored_of self.old) b }
         ensures stored { stored_of self.new ≡ exchanged_stored (stored_of self.old) (place a) (place b) }
         ensures capacity { capacity_of self.new ≡ capacity_of self.old }
+        ensures links { SameLinks self.old self.new }
     {
         let first = self.table.entry(a);
         let second = self.table.entry(b);
@@ -208,6 +250,44 @@ impl Store {
                 ..second
             },
         );
+    }
+
+    /// The pointer of what follows an object in the list that it is in, or 0.
+    pub fn next(&self, o: Oop) -> Oop
+        requires { HasStored (stored_of self.now) o }
+        ensures { place result ≡ next_of self.now (place o) }
+    {
+        self.table.entry(o).next
+    }
+
+    /// The pointer of what stands before it there, or 0.
+    pub fn before(&self, o: Oop) -> Oop
+        requires { HasStored (stored_of self.now) o }
+        ensures { place result ≡ before_of self.now (place o) }
+    {
+        self.table.entry(o).before
+    }
+
+    /// Has another follow what is stored at the place of a pointer.
+    pub fn set_next(&mut self, o: Oop, next: Oop)
+        requires { is_some (slot (stored_of self.old) (place o)) ≡ true }
+        ensures stored { stored_of self.new ≡ stored_of self.old }
+        ensures capacity { capacity_of self.new ≡ capacity_of self.old }
+        ensures links { WithNext self.old self.new (place o) (place next) }
+        ensures places { SamePlaces self.old self.new }
+    {
+        self.table.set_next(o, next);
+    }
+
+    /// Has another stand before it.
+    pub fn set_before(&mut self, o: Oop, before: Oop)
+        requires { is_some (slot (stored_of self.old) (place o)) ≡ true }
+        ensures stored { stored_of self.new ≡ stored_of self.old }
+        ensures capacity { capacity_of self.new ≡ capacity_of self.old }
+        ensures links { WithBefore self.old self.new (place o) (place before) }
+        ensures places { SamePlaces self.old self.new }
+    {
+        self.table.set_before(o, before);
     }
 
     /// The least pointer under which nothing is stored.

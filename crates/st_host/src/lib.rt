@@ -3,6 +3,7 @@
 #![tactic(auto)]
 
 mod dir;
+mod file_fault;
 mod guard;
 mod host;
 mod log;
@@ -17,6 +18,7 @@ mod stdin;
 mod writes;
 
 pub use dir::DirHost;
+pub use file_fault::FileFault;
 pub use guard::Refusal;
 pub use host::{Host, HostFault, SayFault};
 pub use memory::MemHost;

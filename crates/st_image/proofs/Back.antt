@@ -18,7 +18,7 @@ use Rattle.st_writer.proofs.Placing.{head_back}
 use Rattle.st_writer.proofs.Entries.{head_of}
 use Rattle.st_writer.proofs.Rows.{clean, objects_back, view_head_back}
 
-own_head : (bytes : List ℕ) → head_over no_values bytes ≡ image_head bytes
+pub own_head : (bytes : List ℕ) → head_over no_values bytes ≡ image_head bytes
 unfolding head_over
 own_head bytes = refl
 

@@ -1,5 +1,5 @@
 -- The objects of an image refer to nothing but what is there.
-use Rattle.std.proofs.Common.{◌≡◌, ◌≢◌, ℕ, zero, suc, ◌+◌, ◌-◌, ◌*◌, ◌/◌, ◌%◌, ◌<◌, ◌≤◌, ◌⊎◌, Bool, true, false, cond, ◌&&◌, ◌||◌, ◌==◌, nat_lt, List, replicate, get_or, arith, refl, sym, subst, ap, ◌∙◌, inl, inr, Option, Some, None, is_some}
+use Rattle.std.proofs.Common.{◌≡◌, ◌≢◌, ℕ, zero, suc, ◌+◌, ◌-◌, ◌*◌, ◌/◌, ◌%◌, ◌<◌, ◌≤◌, ◌⊎◌, Bool, true, false, cond, ◌&&◌, ◌||◌, ◌==◌, nat_lt, List, get_or, arith, refl, sym, subst, ap, ◌∙◌, inl, inr, Option, Some, None, is_some}
 use Rattle.std.specs.Prelude.{nat_le}
 use Rattle.std.proofs.lemmas.Bool.{cases_lt, cases_eq, both_ways, cases_Bool, and_from, or_left, or_right, lt-ltb, le-leb, eq-eqb, ne_eqb, eqb-false, not-false}
 use Rattle.std.proofs.lemmas.List.{length-replicate}
@@ -23,19 +23,15 @@ use Rattle.st_image.specs.Loads.{IsSound, IsEmpty}
 use Rattle.st_image.proofs.FaultRows.{beyond, named, named_even, named_used, used_below_end}
 use Rattle.st_image.proofs.Shapes.{kind_method}
 use Rattle.st_image.proofs.Clean.{clean_sound, clean_field, clean_page, clean_globals, clean_symbols}
-use Rattle.st_image.proofs.Tables.{entry-get}
 use Rattle.st_image.proofs.Entries.{entry_used, entry_free}
+use Rattle.st_model.proofs.Entries.{entry-get}
+use Rattle.st_model.proofs.LoadingLemmas.{entry-none}
 
 -- TABLES
 
-none_at : (n k : ℕ) → entry (replicate n None) k ≡ None
-none_at zero k = refl
-none_at (suc n) zero = refl
-none_at (suc n) (suc k) = none_at n k
-
 pub empty_is_empty : (head : Head) → IsEmpty (empty_view head).objects
 unfolding empty_view
-empty_is_empty head = let nothing : Option Object = None in record { places = length-replicate 32768 nothing; free = none_at 32768 }
+empty_is_empty head = let nothing : Option Object = None in record { places = length-replicate 32768 nothing; free = entry-none 32768 }
 
 pub empty-head : (head : Head) → (empty_view head).head ≡ head
 unfolding empty_view

@@ -22,7 +22,8 @@ use Rattle.st_image.proofs.FaultRows.{beyond}
 use Rattle.st_image.proofs.Overlaps.{AreSpans, span_used, spans_within, share_from}
 use Rattle.st_image.proofs.Shapes.{words_of_parts, words_fit_size}
 use Rattle.st_image.proofs.Clean.{clean_inside, clean_apart, clean_sound, clean_capacity}
-use Rattle.st_image.proofs.Tables.{entry-get, entry-set_same, entry-set_other, total_used-set, total_used-none}
+use Rattle.st_image.proofs.Tables.{total_used-none}
+use Rattle.st_model.proofs.Entries.{entry-get, entry-set_same, entry-set_other, total_used-set}
 
 -- the spans of the entries, as a list
 abbrev pub all_spans : ImageHead → List ℕ → List Span

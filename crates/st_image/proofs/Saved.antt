@@ -1,7 +1,6 @@
 -- What was saved can start: the registers can be fetched again from what saving leaves.
-use Rattle.std.proofs.Common.{◌≡◌, ◌∙◌, ◌⊎◌, inl, inr, ℕ, suc, ◌<◌, List, [], ◌∷◌, length, Some, Bool, true, false, refl, sym, ap, subst, arith}
+use Rattle.std.proofs.Common.{◌≡◌, ◌∙◌, ◌⊎◌, inl, inr, ℕ, suc, ◌<◌, List, [], ◌∷◌, length, Some, Bool, true, false, refl, sym, ap, subst}
 use Rattle.std.specs.Prelude.{IsTrue, ◌==◌, ◌&&◌, if◌then◌else◌}
-use Rattle.std.proofs.lemmas.Bool.Decides.{nat_tests}
 use Rattle.st_model.specs.declared.head.ImageHead.{ImageHead}
 use Rattle.st_model.specs.declared.page.PageObject.TheVariants.{SchedulerAssociation}
 use Rattle.st_model.specs.Values.{Value}
@@ -29,22 +28,12 @@ use Rattle.st_frames.specs.Shown.{shown}
 use Rattle.st_image.specs.Back.{CanStart}
 use Rattle.st_image.specs.Reading.{IsStart}
 use Rattle.st_image.proofs.Fetching.{AlsoGoes, goes_fetch}
+use Rattle.st_model.proofs.Reclaiming.{one_or_set, set_within, one_within}
 
 -- what is kept and a root is in the largest set that supports itself
 
 abbrev with_one : (ℕ → Bool) → ℕ → ℕ → Bool
 with_one set n k = if k == n then true else set k
-
-one_or_set : (set : ℕ → Bool) (n k : ℕ) (b : Bool) → (k == n) ≡ b → IsTrue (if b then true else set k) → (k ≡ n) ⊎ IsTrue (set k)
-one_or_set set n k true e h = inl (grind (arith, nat_tests))
-one_or_set set n k false e h = inr h
-
-set_within : (set : ℕ → Bool) (n k : ℕ) (b : Bool) → IsTrue (set k) → IsTrue (if b then true else set k)
-set_within set n k true h = refl
-set_within set n k false h = h
-
-one_within : (set : ℕ → Bool) (n : ℕ) → IsTrue (with_one set n n)
-one_within set n = let e : (n == n) ≡ true = grind (arith, nat_tests) in rw e refl
 
 root_within : {H : Type 0} (m : ObjectMemory H) (h : H) (roots : List Value) (set : ℕ → Bool) (n : ℕ) → IsSettled m h roots set → IsTrue (m.kept h n) → IsRoot m h roots n
     → IsTrue (set n)

@@ -4,7 +4,7 @@ use Rattle.std.specs.Prelude.{if◌then◌else◌, slice_set, unwrap_or, nat_le,
 use Rattle.std.proofs.lemmas.Bool.Decides.{nat_tests}
 use Rattle.st_model.specs.declared.kind.Kind.{Kind}
 use Rattle.st_model.specs.declared.kind.Kind.TheVariants as kind
-use Rattle.st_model.specs.Values.{Value, Small, Ref, is_small}
+use Rattle.st_model.specs.Values.{Value, Small, Ref}
 use Rattle.st_model.specs.Objects.{Object, is_pointers, is_words, has_bytes, first_unit, size_of, with_field, object_with_unit}
 use Rattle.st_model.specs.Machine.{is_there}
 use Rattle.st_model.specs.Primitives.{bytes_within}
@@ -12,20 +12,19 @@ use Rattle.st_model.specs.Table.{Table, table, entry, changed}
 use Rattle.st_model.specs.View.{is_live, object_of, with_unit, with_stored, nothing}
 use Rattle.st_model.specs.Deeds.{changed_object, changed_by, word_stored, byte_stored, bytes_stored}
 use Rattle.st_model.proofs.TableLemmas.{changed-some}
+use Rattle.st_model.proofs.KindTests.{bytes_pointers, bytes_words, words_pointers}
+use Rattle.st_model.proofs.Entries.{changed-again}
+use Rattle.st_model.proofs.Resting.{changed-itself}
+use Rattle.st_memory.proofs.Wide.{small_not_live}
 
 -- an object that is there, or isn't
-
-pub small_gone : (t : Table) (v : Value) → is_small v ≡ true → is_live t v ≡ false
-unfolding is_live
-small_gone t (Small n) e = refl
-small_gone t (Ref n) e = cc
 
 pub absent_gone : (t : Table) (v : Value) → is_there table t v ≡ false → is_live t v ≡ false
 unfolding is_live
 absent_gone t (Small n) e = refl
 absent_gone t (Ref n) e = e
 
-pub ruleset named_objects = (small_gone, absent_gone)
+pub ruleset named_objects = (small_not_live, absent_gone)
 
 -- what isn't there isn't changed
 
@@ -40,16 +39,9 @@ gone_stays f t (Ref n) e = sym (gone_at f t n (entry t n) e)
 
 -- nor an object that a change leaves
 
-changed_same : (t : Table) (n : ℕ) (o : Object) → entry t n ≡ Some o → changed t n o ≡ t
-changed_same [] n o e = cc
-changed_same (None ∷ t) zero o e = cc
-changed_same (Some a ∷ t) zero o e = let q : a ≡ o = cc in ap (λ x. Some x ∷ t) (sym q)
-changed_same (None ∷ t) (suc n) o e = ap (λ u. None ∷ u) (changed_same t n o e)
-changed_same (Some a ∷ t) (suc n) o e = ap (λ u. Some a ∷ u) (changed_same t n o e)
-
 left_at : (f : Object → Object) (t : Table) (n : ℕ) (e : Option Object) → entry t n ≡ e → f (unwrap_or e nothing) ≡ unwrap_or e nothing → changed_object f t n e ≡ t
 left_at f t n None e k = refl
-left_at f t n (Some o) e k = ap (changed t n) k ∙ changed_same t n o e
+left_at f t n (Some o) e k = ap (changed t n) k ∙ changed-itself t n o e
 
 pub left_stays : (f : Object → Object) (t : Table) (v : Value) → f (object_of t v) ≡ object_of t v → t ≡ changed_by f t v
 unfolding object_of
@@ -74,16 +66,9 @@ field_becomes f t (Ref n) i x e k = sym (becomes_at f t n (entry t n) e ∙ ap (
 
 -- one change after another
 
-changed_again : (t : Table) (n : ℕ) (a b : Object) → changed (changed t n a) n b ≡ changed t n b
-changed_again [] n a b = refl
-changed_again (None ∷ t) zero a b = refl
-changed_again (Some o ∷ t) zero a b = refl
-changed_again (None ∷ t) (suc n) a b = ap (λ u. None ∷ u) (changed_again t n a b)
-changed_again (Some o ∷ t) (suc n) a b = ap (λ u. Some o ∷ u) (changed_again t n a b)
-
 again_at : (f g : Object → Object) (t : Table) (n : ℕ) (e : Option Object) → entry t n ≡ e → changed_object g (changed_object f t n e) n (entry (changed_object f t n e) n) ≡ changed_object (λ o. g (f o)) t n e
 again_at f g t n None e = ap (changed_object g t n) e
-again_at f g t n (Some o) e = ap (changed_object g (changed t n (f o)) n) (changed-some t n (f o) o e) ∙ changed_again t n (f o) (g (f o))
+again_at f g t n (Some o) e = ap (changed_object g (changed t n (f o)) n) (changed-some t n (f o) o e) ∙ changed-again t n (f o) (g (f o))
 
 pub by_both : (f g : Object → Object) (t : Table) (v : Value) → changed_by g (changed_by f t v) v ≡ changed_by (λ o. g (f o)) t v
 by_both f g t (Small n) = refl
@@ -109,24 +94,6 @@ and_false false = refl
 sized : (o : Object) → is_pointers o.kind ≡ false → size_of o ≡ first_unit o + length o.units
 sized o e = rw e refl
 
-words_not : (k : Kind) → is_words k ≡ true → is_pointers k ≡ false
-words_not kind.Pointers e = cc
-words_not kind.Words e = refl
-words_not kind.Bytes e = refl
-words_not kind.Method e = refl
-
-bytes_not : (k : Kind) → has_bytes k ≡ true → is_pointers k ≡ false
-bytes_not kind.Pointers e = cc
-bytes_not kind.Words e = refl
-bytes_not kind.Bytes e = refl
-bytes_not kind.Method e = refl
-
-pub bytes_no_words : (k : Kind) → has_bytes k ≡ true → is_words k ≡ false
-bytes_no_words kind.Pointers e = refl
-bytes_no_words kind.Words e = cc
-bytes_no_words kind.Bytes e = refl
-bytes_no_words kind.Method e = refl
-
 -- words
 
 module _ (t : Table) (v : Value) (i x : ℕ) where
@@ -139,7 +106,7 @@ module _ (t : Table) (v : Value) (i x : ℕ) where
   pub word_past : is_words (object_of t v).kind ≡ true → length (object_of t v).fields ≡ 0 → size_of (object_of t v) ≤ i → t ≡ changed_by (word_stored i x) t v
   word_past k none l =
       let o = object_of t v in
-      let s = sized o (words_not o.kind k) in
+      let s = sized o (words_pointers o.kind k) in
       left_stays (word_stored i x) t v (rw k (unit_past o i x (omega (arith, s, l))))
 
 pub ruleset words = (gone_stays, word_here, word_elsewhere, word_past)
@@ -163,11 +130,11 @@ module _ (t : Table) (v : Value) (i x : ℕ) where
   pub byte_past : has_bytes (object_of t v).kind ≡ true → first_unit (object_of t v) ≤ i → size_of (object_of t v) ≤ i → t ≡ changed_by (byte_stored i x) t v
   byte_past k f l =
       let o = object_of t v in
-      let s = sized o (bytes_not o.kind k) in
+      let s = sized o (bytes_pointers o.kind k) in
       let r : nat_le (first_unit o) i ≡ true = grind (arith, nat_tests) in
       left_stays (byte_stored i x) t v (rw (k, r) (unit_past o (i - first_unit o) x (omega (arith, s, l))))
 
-pub ruleset bytes = (gone_stays, byte_here, byte_elsewhere, byte_before, byte_past, bytes_no_words)
+pub ruleset bytes = (gone_stays, byte_here, byte_elsewhere, byte_before, byte_past, bytes_words)
 
 -- the bytes of a number
 

@@ -10,25 +10,22 @@ use Rattle.st_model.specs.Table.{Table, table}
 use Rattle.st_model.specs.View.{is_live, object_of, with_stored}
 use Rattle.st_model.specs.Deeds.{changed_by, counts_literals, header_stored, literal_stored}
 use Rattle.st_input.proofs.Done.{gone_stays, left_stays, field_becomes, field_past, and_false}
+use Rattle.st_model.proofs.SettledIs.{bool_cases}
 
-live_or_not : (b : Bool) → (b ≡ true) ⊎ (b ≡ false)
-live_or_not true = inl refl
-live_or_not false = inr refl
-
-if_same : (b : Bool) (o : Object) → (if b then o else o) ≡ o
+pub if_same : (b : Bool) (o : Object) → (if b then o else o) ≡ o
 if_same true o = refl
 if_same false o = refl
 
 -- where there is no Method
 module _ (t : Table) (v : Value) (none : is_live t v ≡ true → is_method (object_of t v).kind ≡ false) where
   pub no_header : (x : Value) → t ≡ changed_by (header_stored x) t v
-  no_header x = elim (live_or_not (is_live t v)) [
+  no_header x = elim (bool_cases (is_live t v)) [
     | inl live ↦ left_stays (header_stored x) t v (rw (none live) refl)
     | inr gone ↦ gone_stays (header_stored x) t v gone
   ]
 
   pub no_literal : (i : ℕ) (x : Value) (known : Bool) → t ≡ changed_by (literal_stored i x known) t v
-  no_literal i x known = elim (live_or_not (is_live t v)) [
+  no_literal i x known = elim (bool_cases (is_live t v)) [
     | inl live ↦ left_stays (literal_stored i x known) t v (rw (none live) refl)
     | inr gone ↦ gone_stays (literal_stored i x known) t v gone
   ]

@@ -5,20 +5,19 @@ use Rattle.std.proofs.lemmas.Bool.Decides.{nat_tests}
 use Rattle.st_model.specs.declared.kind.Kind.{Kind}
 use Rattle.st_model.specs.declared.kind.Kind.TheVariants as kind
 use Rattle.st_model.specs.Values.{Value, Small, Ref}
-use Rattle.st_model.specs.Objects.{Object, is_pointers, is_bytes, has_bytes, holds_fields, first_unit, size_of, with_units}
+use Rattle.st_model.specs.Objects.{Object, is_bytes, has_bytes, first_unit, size_of, with_units}
 use Rattle.st_model.specs.Table.{Table, entry, changed}
 use Rattle.st_model.specs.View.{View, IsWhole, is_live, object_of, nothing}
 use Rattle.st_model.specs.Deeds.{changed_object, changed_by, byte_stored, bytes_stored, bytes_replaced, bytes_of_object, bytes_from}
 use Rattle.st_memory.specs.Copied.{HasBytes, laid, with_units_in, with_bytes_of}
 use Rattle.st_memory.proofs.Bodies.{no_fields}
 use Rattle.st_input.proofs.Done.{gone_stays, left_stays}
+use Rattle.st_model.proofs.KindTests.{text_fields, text_pointers}
+use Rattle.st_model.proofs.SettledIs.{bool_cases}
+use Rattle.st_memory.proofs.Stretches.{nothing_laid}
+use Rattle.st_input.proofs.Headers.{if_same}
 
 -- lists
-
-nothing_laid : (to : ℕ) (us : List ℕ) → laid to [] us ≡ us
-nothing_laid zero us = refl
-nothing_laid (suc to) [] = refl
-nothing_laid (suc to) (u ∷ us) = ap (λ q. u ∷ q) (nothing_laid to us)
 
 laid_set : (to : ℕ) (b : ℕ) (bs us : List ℕ) → laid (suc to) bs (slice_set us to b) ≡ laid to (b ∷ bs) us
 laid_set zero b bs [] = refl
@@ -84,18 +83,6 @@ bytes_laid o k f i (b ∷ bs) =
         let z : i - first_unit o ≡ i = omega (arith, f) in
         rw (bytes_has o.kind k, r, z) refl
 
-fields_not : (k : Kind) → is_bytes k ≡ true → holds_fields k ≡ false
-fields_not kind.Pointers e = cc
-fields_not kind.Words e = cc
-fields_not kind.Bytes e = refl
-fields_not kind.Method e = cc
-
-pointers_not : (k : Kind) → is_bytes k ≡ true → is_pointers k ≡ false
-pointers_not kind.Pointers e = cc
-pointers_not kind.Words e = refl
-pointers_not kind.Bytes e = refl
-pointers_not kind.Method e = refl
-
 becomes_at : (f : Object → Object) (t : Table) (n : ℕ) (e : Option Object) → is_some e ≡ true → changed_object f t n e ≡ changed t n (f (unwrap_or e nothing))
 becomes_at f t n None e = cc
 becomes_at f t n (Some o) e = refl
@@ -126,17 +113,9 @@ none_from t (Ref k) i n h = none_at i n (entry t k) h
 stays_if : (i : ℕ) (bs : List ℕ) (o : Object) → is_bytes o.kind ≡ false → bytes_replaced i bs o ≡ o
 stays_if i bs o k = rw k refl
 
-live_or_not : (b : Bool) → (b ≡ true) ⊎ (b ≡ false)
-live_or_not true = inl refl
-live_or_not false = inr refl
-
-if_same : (b : Bool) (o : Object) → (if b then o else o) ≡ o
-if_same true o = refl
-if_same false o = refl
-
 -- of what isn't of kind Bytes nothing becomes of another
 pub no_target : (t : Table) (v : Value) (i : ℕ) (bs : List ℕ) → (is_live t v ≡ true → is_bytes (object_of t v).kind ≡ false) → t ≡ changed_by (bytes_replaced i bs) t v
-no_target t v i bs h = elim (live_or_not (is_live t v)) [
+no_target t v i bs h = elim (bool_cases (is_live t v)) [
   | inl live ↦ left_stays (bytes_replaced i bs) t v (stays_if i bs (object_of t v) (h live))
   | inr gone ↦ gone_stays (bytes_replaced i bs) t v gone
 ]
@@ -148,10 +127,10 @@ no_source t v s to from n h =
 module _ {w : View} (whole : IsWhole w) (v s : Value) (to from n m : ℕ) (live_v : is_live w.objects v ≡ true) (live_s : is_live w.objects s ≡ true) (kind_v : is_bytes (object_of w.objects v).kind ≡ true) (kind_s : is_bytes (object_of w.objects s).kind ≡ true)
     (least : m ≡ min (min n (size_of (object_of w.objects v) - to)) (size_of (object_of w.objects s) - from)) where
   first_of : (x : Value) → is_live w.objects x ≡ true → is_bytes (object_of w.objects x).kind ≡ true → first_unit (object_of w.objects x) ≡ 0
-  first_of x live k = let f = no_fields x whole live (fields_not (object_of w.objects x).kind k) in omega (arith, f)
+  first_of x live k = let f = no_fields x whole live (text_fields (object_of w.objects x).kind k) in omega (arith, f)
 
   size_is : (x : Value) → is_live w.objects x ≡ true → is_bytes (object_of w.objects x).kind ≡ true → size_of (object_of w.objects x) ≡ length (object_of w.objects x).units
-  size_is x live k = rw (pointers_not (object_of w.objects x).kind k) (let f = first_of x live k in omega (arith, f))
+  size_is x live k = rw (text_pointers (object_of w.objects x).kind k) (let f = first_of x live k in omega (arith, f))
 
   pub has_source : 0 < m → HasBytes w.objects s from m
   has_source l = record { live = live_s; kind = kind_s; bytes = let e = size_is s live_s kind_s in grind (arith, least, e, l) }

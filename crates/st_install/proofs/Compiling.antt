@@ -10,7 +10,7 @@ use Rattle.st_model.specs.View.{View, IsWhole}
 use Rattle.st_frames.specs.declared.frame.Frame.{Frame}
 use Rattle.st_frames.specs.Shown.{IsFrame, IsReady, shown}
 use Rattle.st_frames.proofs.Closed.{is_closed}
-use Rattle.st_install.proofs.SettledShown.{settled_same}
+use Rattle.st_frames.proofs.Settled.{settled_same}
 use Rattle.st_chunk.specs.Definitions.{Definition}
 use Rattle.st_install.specs.Carried.{Installs}
 use Rattle.st_install.specs.Goes.{IsReadyFor}

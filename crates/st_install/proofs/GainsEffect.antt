@@ -24,11 +24,12 @@ use Rattle.st_install.proofs.GoesInstalling.{IsSoundTarget, IsSoundPlan, IsGrown
 use Rattle.st_install.proofs.GoesReading.{IsField}
 use Rattle.st_install.proofs.GoesPlanning.{same_object}
 use Rattle.std.proofs.lemmas.Option.{slice_get-get_or, slice_get_within}
-use Rattle.st_install.proofs.GainsPlaces.{ending_by, IsAbsent, is_place, held, false_other}
+use Rattle.st_install.proofs.GainsPlaces.{ending_by, IsAbsent, is_place, held}
 use Rattle.st_install.proofs.GainsRefilling.{get_set_same, Finds, FindsAll, Moving, none_moved, half_kept, refill_moves}
 use Rattle.st_install.proofs.GainsStoring.{replaces_kept, replaces_it, replaces_other, IsNoTarget, Spares, store_all_spares, AdoptsAs, adopt_exactly, Added, add_adds}
 use Rattle.st_install.proofs.GainsPlanning.{IsSymbolTarget, AreSymbolTargets, IsNext}
 use Rattle.st_install.proofs.GainsClass.{ClassWith}
+use Rattle.st_model.proofs.SameValues.{other_value}
 
 -- a search in other fields finds what it found, and nothing else
 pub record FindsSame (half : ℕ) (fs ms gs ns : List Value) (x : Value) : Type 0 where
@@ -217,7 +218,7 @@ module _ (head : Head) (t : Table) (p : Plan) (sound : IsSoundPlan t p) (associa
 
         module _ (z : Table) (h : Moves z) where
           still_absent : (x : Value) → x ≢ nil → IsAbsent sound.dictionary.object.fields x → IsAbsent h.refilling.dictionary.fields x
-          still_absent x d a = h.moved.only x d (λ j l. false_other (at_place sound.dictionary.object.fields j) x (a j))
+          still_absent x d a = h.moved.only x d (λ j l. other_value (at_place sound.dictionary.object.fields j) x (a j))
 
           moved_same : (x : Value) → is_there bounded_table t x ≡ true → x ≢ nil
               → FindsSame (half_of t x) sound.dictionary.object.fields sound.dictionary.array.fields h.refilling.dictionary.fields h.refilling.array.fields x

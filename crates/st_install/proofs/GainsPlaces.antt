@@ -9,14 +9,9 @@ use Rattle.st_model.specs.Steps.{same_value}
 use Rattle.st_model.specs.Table.{Table}
 use Rattle.st_install.specs.Dictionaries.{Ending, Holds, Vacant, Nowhere}
 use Rattle.st_install.proofs.GoesSeeking.{at_place, ends_with, ending_among, ending_from, ending_for, half_of, start_within}
+use Rattle.st_model.proofs.SameValues.{value_same}
 
 -- VALUES
-
-pub same_equal : (v w : Value) → same_value v w ≡ true → v ≡ w
-same_equal (Small a) (Small b) e = let q : a ≡ b = grind (arith, nat_tests) in ap (λ n. Small n) q
-same_equal (Small a) (Ref b) e = cc
-same_equal (Ref a) (Small b) e = cc
-same_equal (Ref a) (Ref b) e = let q : a ≡ b = grind (arith, nat_tests) in ap (λ n. Ref n) q
 
 pub same_itself : (v : Value) → same_value v v ≡ true
 same_itself (Small a) = grind (arith, nat_tests)
@@ -26,11 +21,8 @@ pub other_false : (v w : Value) → v ≢ w → same_value v w ≡ false
 other_false v w d = by_case (same_value v w) refl
   where
     by_case : (b : Bool) → same_value v w ≡ b → same_value v w ≡ false
-    by_case true e = absurd (d (same_equal v w e))
+    by_case true e = absurd (d (value_same v w e))
     by_case false e = e
-
-pub false_other : (v w : Value) → same_value v w ≡ false → v ≢ w
-false_other v w e q = let f : same_value v w ≡ true = ap (λ x. same_value v x) (sym q) ∙ same_itself v in cc
 
 -- ENDINGS
 
@@ -216,7 +208,7 @@ module _ (fs : List Value) (i : ℕ) (x : Value) (l : 2 + i < length fs) (half :
 -- what stands where a search ends
 module _ (fs : List Value) (x : Value) where
   step_at : (k j : ℕ) (a b : Bool) (e : Ending) → same_value (at_place fs k) x ≡ a → ends_with k a b e ≡ Holds j → (e ≡ Holds j → at_place fs j ≡ x) → at_place fs j ≡ x
-  step_at k j true b e q h g = ap (λ n. at_place fs n) (sym (same_holds k j h)) ∙ same_equal (at_place fs k) x q
+  step_at k j true b e q h g = ap (λ n. at_place fs n) (sym (same_holds k j h)) ∙ value_same (at_place fs k) x q
   step_at k j false true e q h g = absurd (no_vacant k j h)
   step_at k j false false e q h g = g h
 
@@ -235,7 +227,7 @@ module _ (fs : List Value) (x : Value) where
 
   step_empty : (k j : ℕ) (a b : Bool) (e : Ending) → same_value (at_place fs k) nil ≡ b → ends_with k a b e ≡ Vacant j → (e ≡ Vacant j → at_place fs j ≡ nil) → at_place fs j ≡ nil
   step_empty k j true b e q h g = absurd (no_holds k j h)
-  step_empty k j false true e q h g = ap (λ n. at_place fs n) (sym (same_vacant k j h)) ∙ same_equal (at_place fs k) nil q
+  step_empty k j false true e q h g = ap (λ n. at_place fs n) (sym (same_vacant k j h)) ∙ value_same (at_place fs k) nil q
   step_empty k j false false e q h g = g h
 
   empty_among : (k left j : ℕ) (e : Ending) → ending_among fs x k left e ≡ Vacant j → (e ≡ Vacant j → at_place fs j ≡ nil) → at_place fs j ≡ nil
@@ -276,7 +268,7 @@ found_below fs x (suc n) = or_here (same_value (at_place fs n) x) refl (found_be
     or_here : (b : Bool) → same_value (at_place fs n) x ≡ b → ((j : ℕ) × (at_place fs j ≡ x)) ⊎ ((j : ℕ) → j < n → same_value (at_place fs j) x ≡ false)
         → ((j : ℕ) × (at_place fs j ≡ x)) ⊎ ((j : ℕ) → j < suc n → same_value (at_place fs j) x ≡ false)
     or_here b e (inl h) = inl h
-    or_here true e (inr h) = inl (n, same_equal (at_place fs n) x e)
+    or_here true e (inr h) = inl (n, value_same (at_place fs n) x e)
     or_here false e (inr h) = inr (λ j l. elim (last_or_before j l) [
       | inl q ↦ ap (λ i. same_value (at_place fs i) x) (sym q) ∙ e
       | inr q ↦ h j q

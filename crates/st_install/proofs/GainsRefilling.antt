@@ -13,7 +13,8 @@ use Rattle.st_install.specs.Dictionaries.{Ending, Holds, Vacant, Nowhere, count_
 use Rattle.st_install.proofs.Goes.{object_at, IsKept, there_kept, Goes, Tells, next_goes, read_goes, answer_goes, tells_page, tells_field}
 use Rattle.st_install.proofs.GoesSeeking.{at_place, half_of, ending_for, bounded_reads, tells_places, tells_seek, IsWithin, ending_within, NoneVacant, nowhere_full, none_counted}
 use Rattle.st_install.proofs.GoesRefilling.{get_set_other, not_vacant, Refilling, passes, put_exactly, put_leaves}
-use Rattle.st_install.proofs.GainsPlaces.{same_equal, false_other, same_holds, IsAbsent, still_absent, ending_by, keeps, moves, held}
+use Rattle.st_install.proofs.GainsPlaces.{same_holds, IsAbsent, still_absent, ending_by, keeps, moves, held}
+use Rattle.st_model.proofs.SameValues.{other_value, value_same}
 
 pub get_set_same : {A : Type 0} (xs : List A) (i : ℕ) (x : A) → i < length xs → slice_get (slice_set xs i x) i ≡ Some x
 get_set_same [] i x l = absurd (omega (arith, l))
@@ -57,7 +58,7 @@ module _ (t : Table) (olds old_methods : List Value) (all : FindsAll t olds) whe
       nil_other x d = by_case (same_value nil x) refl
         where
           by_case : (b : Bool) → same_value nil x ≡ b → same_value nil x ≡ false
-          by_case true e = absurd (d (sym (same_equal nil x e)))
+          by_case true e = absurd (d (sym (value_same nil x e)))
           by_case false e = e
 
   pub nil_moved : (k : ℕ) (fs ms : List Value) → at_place olds k ≡ nil → Moved t olds old_methods k fs ms → Moved t olds old_methods (suc k) fs ms
@@ -182,14 +183,14 @@ module _ (head : Head) (t : Table) (new methods tally : Value) (places : ℕ) (a
         → Goes head (refill_unless bounded_table old new k x b) u (λ c w. Next w)
     unfolding refill_unless passes
     unless_moves x true r s th l m =
-        answer_goes head u _ tt (record { refilling = passes head t new methods tally places apart k u h.refilling; moved = nil_moved t o.fields a.fields all k _ _ (sym s ∙ same_equal x nil r) h.moved })
+        answer_goes head u _ tt (record { refilling = passes head t new methods tally places apart k u h.refilling; moved = nil_moved t o.fields a.fields all k _ _ (sym s ∙ value_same x nil r) h.moved })
     unless_moves x false r s th l m =
         let n : k < length a.fields = omega (arith, l, enough) in
         let g = slice_get-get_or a.fields k nil n in
         read_goes head u _ (fetch_field bounded_table old 1) _ olds (tells_old 1 olds to_olds)
         (read_goes head u _ (fetch_field bounded_table olds k) _ (get_or a.fields k nil) (tells_olds k (get_or a.fields k nil) g)
         (read_goes head u _ (of_page bounded_table NilObject) _ nil (tells_page u NilObject)
-        (seek_moves x (get_or a.fields k nil) s (false_other x nil r) g th (olds_there k (get_or a.fields k nil) g) m)))
+        (seek_moves x (get_or a.fields k nil) s (other_value x nil r) g th (olds_there k (get_or a.fields k nil) g) m)))
 
     place_moves : k < length o.fields - 2 → k < places → Goes head (refill_from bounded_table old new k) u (λ c w. Next w)
     unfolding refill_from

@@ -139,7 +139,7 @@ abbrev pub CanMake : Table → List NewObject → Type 0
 CanMake t [] = Unit {0}
 CanMake t (o ∷ os) = IsClassFor t o.kind o.class × IsShaped o.kind o × CanMake t os
 
-placed_stands : (t : Table) (o : Object) (v : Value) (a : Object) → object_at t v ≡ Some a → object_at (placed t o) v ≡ Some a
+pub placed_stands : (t : Table) (o : Object) (v : Value) (a : Object) → object_at t v ≡ Some a → object_at (placed t o) v ≡ Some a
 placed_stands t o (Small n) a e = cc
 placed_stands t o (Ref n) a e = placed-other t n o (λ q. let f : entry t n ≡ None = ap (entry t) q ∙ first_free-none t in cc) ∙ e
 

@@ -16,6 +16,7 @@ use Rattle.st_model.specs.Primitives.{bits_or_die}
 use Rattle.st_model.specs.Table.{Table, entry, table, bounded_table}
 use Rattle.st_install.proofs.Goes.{object_at}
 use Rattle.st_install.proofs.GoesMaking.{IsClassFor}
+use Rattle.st_model.proofs.KindTests.{no_method}
 
 -- where it goes it leaves the state as it was, and this is so of its answer
 pub record Gives {A : Type 0} (s : State Table) (m : Step Table A) (Q : A → Type 0) : Type 0 where
@@ -175,12 +176,6 @@ ref_class t k m h e = record { there = h; kind = λ n q. e ∙ ap (λ i. i == pl
   where
     same_name : (m n : ℕ) → Ref m ≡ Ref n → m ≡ n
     same_name m n q = cc
-
-no_method : (k : Kind) → is_pointers k ≡ true → is_method k ≡ false
-no_method kind.Pointers e = refl
-no_method kind.Words e = refl
-no_method kind.Bytes e = refl
-no_method kind.Method e = sym e
 
 module _ (s : State Table) (sound : IsSoundTable s.memory) where
   -- a class of the page

@@ -7,7 +7,7 @@ use Rattle.st_model.specs.declared.oop.Oop.{Oop}
 use Rattle.st_model.specs.declared.kind.Kind.{Kind}
 use Rattle.st_model.specs.declared.kind.Kind.TheVariants as kind
 use Rattle.st_model.specs.Values.{Value, Small, Ref, value}
-use Rattle.st_model.specs.Objects.{Object, nil, is_pointers, is_words, is_method, has_bytes, first_unit, size_of}
+use Rattle.st_model.specs.Objects.{Object, nil, is_pointers, is_method, has_bytes, first_unit, size_of}
 use Rattle.st_model.specs.Formed.{IsHeader}
 use Rattle.st_model.specs.Machine.{State, Transition, Died, Went, Step, after, answer, die, ◌>>=◌, ◌>>◌, empty_world, is_there}
 use Rattle.st_model.specs.Steps.{object, object_named, found, check, or_die, fetch_field, store_field, store_method_field, store_byte, set_field, store_at, stored_at}
@@ -16,6 +16,7 @@ use Rattle.st_model.specs.Calls.{Reads}
 use Rattle.st_model.specs.View.{View, IsKnown, Has, is_live, object_of, nothing, with_stored, with_unit}
 use Rattle.st_model.proofs.Runs.{run-then, run-next, after-went, run-live, run-passed, run-some, run-set_field, run-store_byte}
 use Rattle.st_install.specs.Carried.{HasGone, Goes, Becomes, KeepsFields}
+use Rattle.st_model.proofs.KindTests.{bytes_pointers}
 
 -- ONE STEP AND THE NEXT
 
@@ -313,18 +314,6 @@ byte_stored (Ref n) i b s h = let e = byte_to (entry s.memory n) i _ s h in reco
 
 pub byte_takes : (v : View) (x : Value) (i b : ℕ) → Goes (store_byte table x i b) v → TakesByte v.objects x i
 byte_takes v x i b h = byte_stored x i b (state_of v) (h.gone (state_of v) refl refl)
-
-pub bytes_words : (k : Kind) → has_bytes k ≡ true → is_words k ≡ false
-bytes_words kind.Pointers e = refl
-bytes_words kind.Words e = cc
-bytes_words kind.Bytes e = refl
-bytes_words kind.Method e = refl
-
-bytes_pointers : (k : Kind) → has_bytes k ≡ true → is_pointers k ≡ false
-bytes_pointers kind.Pointers e = cc
-bytes_pointers kind.Words e = refl
-bytes_pointers kind.Bytes e = refl
-bytes_pointers kind.Method e = refl
 
 pub byte_range : (t : Table) (x : Value) (i : ℕ) → TakesByte t x i → i < size_of (object_of t x)
 byte_range t x i h = let r = h.range in let a = h.above in rw (bytes_pointers (object_of t x).kind h.kind) (omega (arith, r, a))

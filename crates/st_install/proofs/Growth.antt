@@ -107,7 +107,7 @@ dictionary_parts tally methods n vacant e = ap (λ ps. There (value tally) ∷ p
 
 -- GROWTH
 
-array_class : value (record { 0 = 16 }) ≡ Ref (place_of ArrayClass)
+pub array_class : value (record { 0 = 16 }) ≡ Ref (place_of ArrayClass)
 unfolding value_of
 array_class = refl
 

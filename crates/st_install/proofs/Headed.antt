@@ -16,6 +16,7 @@ use Rattle.st_code.specs.Methods.{PartsView, passes, simple, simple_flag, has_va
 use Rattle.st_code.specs.Faults.{method_fault}
 use Rattle.st_install.specs.Goes.{IsHeaded}
 use Rattle.st_install.proofs.SameHeaders.{code_header}
+use Rattle.st_grammar.proofs.Readers.{or_right}
 
 -- NO FAULT
 
@@ -29,10 +30,6 @@ not_wrong false cause e = refl
 
 at_most : (n m : ℕ) → nat_lt n m ≡ false → m ≤ n
 at_most n m e = grind (arith, nat_tests)
-
-second_false : (x y : Bool) → (x || y) ≡ false → y ≡ false
-second_false true y e = cc
-second_false false y e = e
 
 -- FLAG
 
@@ -59,7 +56,7 @@ flag_by false true k s h = let few = h refl in record { most = omega (arith, few
 flag_by false false k s h = simple_by s
 
 flag_is : (m : MethodView) (s : Option Simple) → IsFlag (flag_of m s) s
-flag_is m s = flag_by (is_some m.primitive || nat_lt 4 (length m.arguments)) (has_variables m) (length m.arguments) s (λ e. at_most 4 (length m.arguments) (second_false (is_some m.primitive) (nat_lt 4 (length m.arguments)) e))
+flag_is m s = flag_by (is_some m.primitive || nat_lt 4 (length m.arguments)) (has_variables m) (length m.arguments) s (λ e. at_most 4 (length m.arguments) (or_right (is_some m.primitive) (nat_lt 4 (length m.arguments)) e))
 
 -- COUNT
 

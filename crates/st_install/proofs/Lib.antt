@@ -64,7 +64,6 @@ pub mod Planned
 pub mod Readying
 pub mod Smalls
 pub mod Joining
-mod SettledShown
 pub mod Compiling
 mod DefinitionOpened
 pub mod Exits

@@ -8,7 +8,7 @@ use Rattle.st_model.specs.declared.kind.Kind.{Kind}
 use Rattle.st_model.specs.declared.kind.Kind.TheVariants as kind
 use Rattle.st_model.specs.declared.oop.Oop.{Oop}
 use Rattle.st_model.specs.declared.page.PageObject.TheVariants.{MethodClass}
-use Rattle.st_model.specs.Values.{Value, Small, Ref, value, value_of}
+use Rattle.st_model.specs.Values.{Value, Small, Ref, value}
 use Rattle.st_model.specs.Objects.{Object, nil, is_words, is_method, place_of, words_of, one}
 use Rattle.st_model.specs.Formed.{fresh, IsMakeable, literals_of}
 use Rattle.st_model.specs.Machine.{has_room, State, Transition, Died, Went, Step, after, answer, die, ◌>>=◌}
@@ -18,8 +18,6 @@ use Rattle.st_model.specs.View.{View, is_live, object_of, nothing, fits, demand_
 use Rattle.st_model.proofs.TableLemmas.{first_free-none, placed-first, placed-other}
 use Rattle.st_model.proofs.Making.{total_used-placed, live_placed, live_new}
 use Rattle.st_memory.proofs.Fresh.{words_pointers, words_bytes, words_method}
-use Rattle.st_model.proofs.Pointers.{value_of-even}
-use Rattle.st_memory.proofs.Bodies.{live_small}
 use Rattle.st_install.specs.declared.plan.NewObject.{NewObject as CodeObject}
 use Rattle.st_install.specs.Plans.{Part, There, Made, NewObject, words_of_new, words_of_all, demand_of_all}
 use Rattle.st_install.specs.Carried.{HasGone, Goes, Becomes, Makes, IsPlannable, IsShaped, AreShaped}
@@ -30,6 +28,8 @@ use Rattle.st_install.specs.Readies.{objects_of}
 use Rattle.st_install.specs.Readies.{object_of as planned_of}
 use Rattle.st_install.proofs.Going.{gone_first, same_state, state_of}
 use Rattle.st_install.proofs.Filled.{drop_next, drop_past}
+use Rattle.st_memory.proofs.Wide.{named_word}
+use Rattle.st_scope.proofs.Lineages.{behind_none}
 
 -- ONE OBJECT
 
@@ -177,10 +177,6 @@ module _ (o : NewObject) (p : IsPlannable o) (v : View) (c : ℕ) where
       room = room_rest;
     }
 
--- a live object's pointer names half of its word
-pub named_word : (t : Table) (w : ℕ) → is_live t (value_of w) ≡ true → value_of w ≡ Ref (w / 2)
-named_word t w live = value_of-even w (live_small t (value_of w) live)
-
 made_runs : (o : Object) (s : State Table) (a b : Bool) → a ≡ true → b ≡ true → made bounded_table o s a b ≡ Went (Ref (first_free s.memory)) (record s { memory = placed s.memory o })
 unfolding made
 made_runs o s true true e f = refl
@@ -230,11 +226,6 @@ pub record LeftMakes (os : List CodeObject) (i : ℕ) (ms : List Oop) (v w : Vie
   pub live : AllByRecursion (λ x. is_live w.objects x ≡ true) (values (take i ms))
   pub shaped : AreShaped w.objects (values (take i ms)) (objects_of os)
   pub room : fits w (demand_of_all (objects_of (drop i os))) ≡ true
-
-behind_none : (x : Transition (State Table) (List Value)) → x ≡ behind [] x
-unfolding after
-behind_none (Died k) = refl
-behind_none (Went vs s) = refl
 
 pub none_made : (os : List CodeObject) (ms : List Oop) (v : View) → length ms ≡ length os → fits v (demand_of_all (objects_of os)) ≡ true → LeftMakes os 0 ms v v
 none_made os ms v each room = record {

@@ -5,6 +5,7 @@ use Rattle.std.proofs.lemmas.Bool.Decides.{nat_tests}
 use Rattle.std.proofs.lemmas.List.{append_assoc}
 use Rattle.st_model.specs.Values.{Small, Ref, value_of}
 use Rattle.st_model.specs.Primitives.{bytes_within}
+use Rattle.st_frames.proofs.Counted.{one_byte, more_bytes}
 
 odd_if : (n w : ℕ) (b : Bool) → (w % 2 == 1) ≡ b → w ≡ 2 * n + 1 → (if b then Small (w / 2) else Ref (w / 2)) ≡ Small n
 odd_if n w true e q = let z : w / 2 ≡ n = omega (arith, q) in ap Small z
@@ -36,16 +37,8 @@ pub record LeftBytes (size : ℕ) (bytes : List ℕ) (left : ℕ) : Type 0 where
 pub bytes_begin : (size : ℕ) (bytes : List ℕ) → size < byte_limit 15 → bytes ≡ [] → LeftBytes size bytes size
 bytes_begin size bytes l q = record { more = 15; small = l; same = ap (λ xs. xs ++ bytes_within 16 size) (sym q) }
 
-one_byte : (more left : ℕ) (b : Bool) → nat_lt left 256 ≡ b → left < 256 → (if b then left ∷ [] else left % 256 ∷ bytes_within more (left / 256)) ≡ left ∷ []
-one_byte more left true e l = refl
-one_byte more left false e l = absurd (grind (arith, nat_tests))
-
 pub bytes_end : (size : ℕ) (bytes : List ℕ) (left : ℕ) → left < 256 → LeftBytes size bytes left → bytes ++ left ∷ [] ≡ bytes_within 16 size
 bytes_end size bytes left l h = ap (λ xs. bytes ++ xs) (sym (one_byte h.more left (nat_lt left 256) refl l)) ∙ sym h.same
-
-more_bytes : (more left : ℕ) (b : Bool) → nat_lt left 256 ≡ b → 256 ≤ left → (if b then left ∷ [] else left % 256 ∷ bytes_within more (left / 256)) ≡ left % 256 ∷ bytes_within more (left / 256)
-more_bytes more left true e l = absurd (grind (arith, nat_tests))
-more_bytes more left false e l = refl
 
 fewer : (left p : ℕ) → left < 256 * p → left / 256 < p
 fewer left p l = omega arith

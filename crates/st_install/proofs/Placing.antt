@@ -7,7 +7,7 @@ use Rattle.std.proofs.Math.Seq.{set-append_seam, get_or-append_seam}
 use Rattle.std.proofs.Math.ListN.{get_or-map}
 use Rattle.st_model.specs.declared.dead.Dead.{Dead}
 use Rattle.st_model.specs.declared.page.PageObject.TheVariants.{ArrayClass}
-use Rattle.st_model.specs.Values.{Ref, value, value_of}
+use Rattle.st_model.specs.Values.{Ref, value}
 use Rattle.st_model.specs.Objects.{place_of}
 use Rattle.st_model.specs.Machine.{State, Transition, Died, Went, Step, after, answer, ◌>>=◌}
 use Rattle.st_model.specs.Table.{Table, table}
@@ -30,6 +30,7 @@ use Rattle.st_install.specs.Literals.{Placed, PlacedAll, then_placed, none_place
 use Rattle.st_install.specs.Readies.{part_of, parts_of, object_of, objects_of}
 use Rattle.st_install.specs.Told.{TellsSingle, Places, PlacesAll, single_placed, IsSingle, part_placed, owner_step, named_of, IsPlaced, ArePlaced, literal_step, literals_step, array_step}
 use Rattle.st_install.specs.declared.single.Single.{Single}
+use Rattle.st_install.proofs.Growth.{array_class}
 
 -- ONE LITERAL
 
@@ -192,10 +193,6 @@ module _ (named : List (Vec ℕ × CodePart)) (o : Owner) (t : Table) (ls : List
             array_run (named_of named) (owner_step o) ls (length old) (record { parts = parts_of fields.items; objects = e.added }) s (ap (λ k. (literals_step named o k ls).run s) (sym next_is) ∙ e.tells s f)
             ∙ ap (λ q. Went (record { part = q; objects = pointers_object (Ref (place_of ArrayClass)) (parts_of fields.items) ∷ e.added }) s) (sym made);
       }
-
-array_class : value (record { 0 = 16 }) ≡ Ref (place_of ArrayClass)
-unfolding value_of
-array_class = refl
 
 pub empty_array : (x : CodeObject) (fs : List CodePart) → object_of x ≡ pointers_object (value (record { 0 = 16 })) (parts_of fs) → fs ≡ [] → object_of x ≡ pointers_object (Ref (place_of ArrayClass)) []
 empty_array x fs e q = e ∙ ap (λ v. pointers_object v (parts_of fs)) array_class ∙ ap (λ ps. pointers_object (Ref (place_of ArrayClass)) (parts_of ps)) q

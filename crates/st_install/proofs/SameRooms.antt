@@ -21,6 +21,7 @@ use Rattle.st_install.specs.Installing.{size_by, literals_by, make_new, make_all
 use Rattle.st_install.specs.SamePlans.{renamed_part, renamed_parts, renamed_objects, renamed_stores, renamed_plan, IsLivePart, AllLiveParts, AllLiveObjects, AllLiveStores, IsLivePlan}
 use Rattle.st_install.proofs.SameParts.{IsFormedNew, AllFormed}
 use Rattle.st_install.proofs.SameFilling.{fill_and_store-same}
+use Rattle.std.proofs.lemmas.Bool.{and_from}
 
 -- THE WORDS OF A NEW OBJECT are no more than planned
 
@@ -42,16 +43,13 @@ pub record Fits (t : Table) (a : Head) (os : List NewObject) : Type 0 where
   pub entries : total_used one t + length os ≤ a.entries
   pub words : total_used words_of t + words_of_all os ≤ a.words
 
-both_true : (b c : Bool) → b ≡ true → c ≡ true → (b && c) ≡ true
-both_true b c e f = rw (e, f) refl
-
 room_for : (t : Table) (a : Head) (o : NewObject) (os : List NewObject) (x : Object) → Fits t a (o ∷ os) → words_of x ≤ words_of_new o → has_room bounded_table a t x ≡ true
 room_for t a o os x f l =
     let e = f.entries in
     let w = f.words in
     let p : nat_le (total_used one t + 1) a.entries ≡ true = grind (arith, nat_tests) in
     let q : nat_le (total_used words_of t + words_of x) a.words ≡ true = grind (arith, nat_tests) in
-    both_true _ _ p q
+    and_from _ _ p q
 
 fits_after : (t : Table) (a : Head) (o : NewObject) (os : List NewObject) (x : Object) → Fits t a (o ∷ os) → words_of x ≤ words_of_new o → Fits (placed t x) a os
 fits_after t a o os x f l =

@@ -4,7 +4,7 @@ use Rattle.std.specs.Prelude.{◌/◌, is_some, find, option_map, bytes_eq, if�
 use Rattle.std.specs.Global.{Vec}
 use Rattle.std.specs.Ordering.{is_eq, nat_cmp}
 use Rattle.std.specs.Map.{lookup}
-use Rattle.std.specs.Cmp.Lexicographic.{slice_cmp, bytes_decides}
+use Rattle.std.specs.Cmp.Lexicographic.{slice_cmp}
 use Rattle.std.proofs.lemmas.Map.Text.{is_eq-slice_cmp}
 use Rattle.st_model.specs.declared.dead.Dead.{Dead}
 use Rattle.st_model.specs.declared.dead.Dead.TheVariants as dead
@@ -22,6 +22,7 @@ use Rattle.st_install.specs.Literals.{as_it_is, place_pointer, place_owner}
 use Rattle.st_install.specs.Readies.{part_of}
 use Rattle.st_install.specs.Told.{named_of}
 use Rattle.st_install.proofs.Numbers.{even_value}
+use Rattle.st_emit.proofs.NamePlaces.{same_text}
 
 -- POINTERS
 
@@ -66,9 +67,6 @@ noted entries text = lookup (λ k. bytes_eq text k.items) entries
 
 pub noted_text : (entries : List (Vec ℕ × CodePart)) (text : List ℕ) → lookup (λ q. is_eq (slice_cmp nat_cmp text q.items)) entries ≡ noted entries text
 noted_text entries text = λ t. lookup (λ q. is_eq-slice_cmp text q.items t) entries
-
-pub same_text : (a b : List ℕ) → bytes_eq a b ≡ true → a ≡ b
-same_text a b h = (bytes_decides a b).0 h
 
 turned : (a b : List ℕ) → bytes_eq a b ≡ true → bytes_eq b a ≡ true
 turned a b h = let e = same_text a b h in subst (λ x. bytes_eq x a ≡ true) e (subst (λ x. bytes_eq a x ≡ true) (sym e) h)

@@ -4,11 +4,10 @@ use Rattle.std.specs.Prelude.{◌*◌, max, replicate, slice_set, option_map, fi
 use Rattle.std.specs.Global.{Vec}
 use Rattle.std.specs.List.{position_or_len}
 use Rattle.std.specs.declared.cmp.Ordering.{Ordering}
-use Rattle.std.specs.Ordering.{is_eq, nat_cmp}
+use Rattle.std.specs.Ordering.{nat_cmp}
 use Rattle.std.specs.BTreeMap.{BTreeMap, UpdatesBy}
 use Rattle.std.specs.Cmp.Lexicographic.{slice_cmp}
 use Rattle.std.proofs.lemmas.List.{append_assoc, append-nil, map-append, map-set, length-map, length-append, at_drop_more, drop_all, take_all}
-use Rattle.std.proofs.lemmas.Map.Text.{is_eq-slice_cmp}
 use Rattle.st_model.specs.declared.dead.Dead.{Dead}
 use Rattle.st_model.specs.declared.oop.Oop.{Oop}
 use Rattle.st_model.specs.declared.page.PageObject.TheVariants.{ArrayClass, SymbolClass}
@@ -36,16 +35,14 @@ use Rattle.st_scope.specs.Texts.{found}
 use Rattle.st_install.specs.Readies.{part_of, parts_of, object_of, objects_of, store_of, stores_of}
 use Rattle.st_install.specs.Told.{named_of}
 use Rattle.st_install.specs.Naming.{nil, all_fields, AreFields, IsNamed, Becomes, with_named, in_field, grown_with, in_array, with_made, Names, TellsFields, TellsNaming, TellsNames, naming}
-use Rattle.st_install.proofs.Singles.{noted, same_text, symbol_noted}
-use Rattle.st_install.proofs.Growth.{parts_of_nil}
+use Rattle.st_install.proofs.Singles.{noted, symbol_noted}
+use Rattle.st_install.proofs.Growth.{parts_of_nil, array_class}
+use Rattle.st_emit.proofs.NamePlaces.{same_text, decides}
 
 -- NOTING
 
 abbrev by_items : Vec ℕ → Vec ℕ → Ordering
 by_items x y = slice_cmp nat_cmp x.items y.items
-
-decides : (a b : Vec ℕ) → is_eq (by_items a b) ≡ bytes_eq a.items b.items
-decides a b = is_eq-slice_cmp a.items b.items
 
 -- one more behind the others
 abbrev or_last : Option Part → Option Part → Option Part
@@ -139,10 +136,6 @@ becomes_stored old new k p a b c d e s h = record {
 size_fits : (n : ℕ) → n + 1 ≤ max 16 (2 * n)
 size_fits zero = omega arith
 size_fits (suc n) = omega arith
-
-array_class : value (record { 0 = 16 }) ≡ Ref (place_of ArrayClass)
-unfolding value_of
-array_class = refl
 
 grown_parts : (xs : List CodePart) (p : CodePart) (size : ℕ) → size ≡ grown_size (length xs) → parts_of (take size (xs ++ p ∷ []) ++ replicate (size - length (xs ++ p ∷ [])) (part.There (record { 0 = 2 }))) ≡ grown_with (part_of p) (parts_of xs)
 grown_parts xs p size e =

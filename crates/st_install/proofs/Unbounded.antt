@@ -4,16 +4,16 @@ use Rattle.std.specs.Prelude.{bit_and, get_or}
 use Rattle.st_model.specs.declared.kind.Kind.{Kind}
 use Rattle.st_model.specs.declared.kind.Kind.TheVariants as kind
 use Rattle.st_model.specs.declared.page.PageObject.TheVariants.{NilObject}
-use Rattle.st_model.specs.Values.{Value, Small, Ref}
+use Rattle.st_model.specs.Values.{Value}
 use Rattle.st_model.specs.Machine.{Step, answer, ◌>>=◌, ◌>>◌}
 use Rattle.st_model.specs.Steps.{same_value, store_fields, store_bytes}
-use Rattle.st_model.specs.Lookup.{half_word}
 use Rattle.st_model.specs.Table.{Table, table, bounded_table}
 use Rattle.st_model.proofs.Tabular.{of_page-as, fetch_field-as, count_fields-as, store_field-as, store_method_field-as, store_byte-as}
 use Rattle.st_memory.specs.Tabular.{bounded_tabular}
 use Rattle.st_install.specs.Plans.{NewObject, Store, Plan}
 use Rattle.st_install.specs.Dictionaries.{Ending, Holds, Vacant, Nowhere, ends_at, seek_at, seek_among, seek_from, count_places, seek, place_of_selector, put_method, put_at, refill_unless, refill_from, refill_among, refill, raised_tally}
 use Rattle.st_install.specs.Installing.{part_value, part_values, store_method_fields, fill_method, fill_by, fill_all, store_all, target, Placing, find_place, adopt, add_at, store_planned, fill_and_store}
+use Rattle.st_memory.proofs.Unbounded.{half_bounded}
 
 store_fields-same : (v : Value) (to : ℕ) (xs : List Value) → store_fields bounded_table v to xs ≡ store_fields table v to xs
 unfolding store_fields
@@ -52,11 +52,6 @@ module _ (nil : Value) (made : List Value) where
 
 -- PLACES
 
-half_word-same : (v : Value) → half_word bounded_table v ≡ half_word table v
-unfolding half_word
-half_word-same (Small n) = refl
-half_word-same (Ref n) = refl
-
 seek_at-same : (d x : Value) (k : ℕ) (rest : Step Table Ending) → seek_at bounded_table d x k rest ≡ seek_at table d x k rest
 unfolding seek_at
 seek_at-same d x k rest = λ i. fetch_field-as bounded_tabular d (2 + k) i >>= (λ s. of_page-as bounded_tabular NilObject i >>= (λ nil. ends_at k (same_value s x) (same_value s nil) rest))
@@ -76,7 +71,7 @@ count_places-same d = λ i. count_fields-as bounded_tabular d i >>= (λ n. answe
 
 seek-same : (d x s : Value) → seek bounded_table d x s ≡ seek table d x s
 unfolding seek
-seek-same d x s = λ i. count_places-same d i >>= (λ places. half_word-same s i >>= (λ half. seek_from-same d x places (bit_and half (places - 1)) i))
+seek-same d x s = λ i. count_places-same d i >>= (λ places. half_bounded s i >>= (λ half. seek_from-same d x places (bit_and half (places - 1)) i))
 
 -- DICTIONARIES
 

@@ -5,6 +5,7 @@ use Rattle.std.proofs.lemmas.Bool.Decides.{nat_tests}
 use Rattle.st_model.specs.declared.oop.Oop.{Oop}
 use Rattle.st_model.specs.Values.{Small, Ref, value_of, value}
 use Rattle.st_model.specs.Steps.{same_value}
+use Rattle.st_scope.proofs.Lineages.{is_nil, is_other}
 
 decide : (w : ℕ) (c d : Bool) → (w == 2) ≡ c → (w / 2 == 1) ≡ d → (w % 2 == 1) ≡ false → c ≡ d
 decide w true true a b e = refl
@@ -20,21 +21,5 @@ nil_if w false c e q = decide w c (w / 2 == 1) q refl e
 pub vacant_there : (o : Oop) → (o.0 == 2) ≡ same_value (value o) (Ref 1)
 unfolding value_of
 vacant_there o = nil_if o.0 (o.0 % 2 == 1) (o.0 == 2) refl refl
-
-is_if : (w : ℕ) (b : Bool) → (w % 2 == 1) ≡ b → w ≡ 2 → same_value (if b then Small (w / 2) else Ref (w / 2)) (Ref 1) ≡ true
-is_if w true e q = let z : w % 2 ≡ 1 = grind (arith, nat_tests) in absurd (omega (arith, z, q))
-is_if w false e q = let z : w / 2 ≡ 1 = omega (arith, q) in rw z refl
-
-other_if : (w : ℕ) (b : Bool) → (w % 2 == 1) ≡ b → w ≢ 2 → same_value (if b then Small (w / 2) else Ref (w / 2)) (Ref 1) ≡ false
-other_if w true e q = refl
-other_if w false e q = let z : w % 2 ≢ 1 = grind (arith, nat_tests) in let n : w / 2 ≢ 1 = λ h. q (omega (arith, z, h)) in grind (arith, nat_tests)
-
-pub is_nil : (o : Oop) → o.0 ≡ 2 → same_value (value o) (Ref 1) ≡ true
-unfolding value_of
-is_nil o q = is_if o.0 (o.0 % 2 == 1) refl q
-
-pub is_other : (o : Oop) → o.0 ≢ 2 → same_value (value o) (Ref 1) ≡ false
-unfolding value_of
-is_other o q = other_if o.0 (o.0 % 2 == 1) refl q
 
 pub ruleset vacancies = (vacant_there, is_nil, is_other)

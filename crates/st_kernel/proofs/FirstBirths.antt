@@ -1,9 +1,8 @@
 -- The births of the first objects have a scheduler, to which nothing leads but the root page.
-use Rattle.std.proofs.Common.{◌≡◌, ◌≢◌, ℕ, zero, suc, ◌+◌, ◌<◌, ◌≤◌, Bool, true, false, List, [], ◌∷◌, ◌++◌, length, Option, Some, None, is_some, refl, sym, ap, subst, ◌∙◌, arith, ◌⊎◌, inl, inr, drop}
+use Rattle.std.proofs.Common.{◌≡◌, ◌≢◌, ℕ, zero, suc, ◌+◌, ◌<◌, ◌≤◌, Bool, true, List, [], ◌∷◌, ◌++◌, length, Option, Some, None, is_some, refl, sym, ap, subst, ◌∙◌, arith, ◌⊎◌, inl, inr, drop}
 use Rattle.std.specs.Prelude.{slice_get, slice_set, get_or, map, codes, replicate, nat_le, ◌&&◌, pos}
 use Rattle.std.specs.List.{AllByRecursion, position, position_or_len}
-use Rattle.std.proofs.lemmas.Bool.{cases_eq}
-use Rattle.std.proofs.lemmas.Bool.Decides.{nat_tests}
+use Rattle.std.proofs.lemmas.Bool.{cases_eq, and_parts}
 use Rattle.std.proofs.lemmas.Option.{slice_get-get_or}
 use Rattle.st_model.specs.Limits.{most_words}
 use Rattle.st_model.specs.declared.page.PageObject.{PageObject}
@@ -33,13 +32,14 @@ use Rattle.st_first_objects.specs.Placing.{Underway, IsBegun}
 use Rattle.st_first_objects.proofs.Complete.{first_methods, first_many, complete, made}
 use Rattle.st_first_objects.proofs.Lists.{drop_got}
 use Rattle.st_first_objects.proofs.Places.{same_turn, place_within}
-use Rattle.st_first_objects.proofs.Tables.{entry_same, entry_other}
 use Rattle.st_first_objects.proofs.Underway.{begins, goes_on}
 use Rattle.st_kernel.proofs.Keeping.{IsIn, IsOther, Leads}
 use Rattle.st_kernel.proofs.KeepingInstalls.{Fixed}
 use Rattle.st_kernel.proofs.Guarded.{Holds}
 use Rattle.st_kernel.proofs.Lost.{IsScheduled}
 use Rattle.st_kernel.proofs.FirstThings.{is_ordinary, IsOrdinary, ToOrdinary, OfOrdinary, same_ordinary, content_to, class_ordinary, paged, scheduler_made, position_of, at_position, not_ordinary, is_scheduler}
+use Rattle.st_resolved.proofs.Fitting.{at_most}
+use Rattle.st_model.proofs.Entries.{entry-set_same, entry-set_other}
 
 -- EACH THING'S OBJECT AT ITS PLACE
 
@@ -52,13 +52,6 @@ pub record IsAt (p : Plan) (k : ℕ) (o : Object) : Type 0 where
 
 abbrev pub AreAt : Plan → Table → Type 0
 AreAt p t = (k : ℕ) (o : Object) → entry t k ≡ Some o → IsAt p k o
-
-both : (a b : Bool) → (a && b) ≡ true → (a ≡ true) × (b ≡ true)
-both true b e = (refl, e)
-both false b e = cc
-
-le_by : (m n : ℕ) → nat_le m n ≡ true → m ≤ n
-le_by m n e = grind (arith, nat_tests)
 
 module _ (p : Plan) (begun : View) (is : IsBegun p begun) where
   abbrev Done : Type 0
@@ -75,10 +68,10 @@ module _ (p : Plan) (begun : View) (is : IsBegun p begun) where
       by_place (inl q) =
           let w = (place_within i few).1 in
           let l = u.places in
-          let r : Some (object p x) ≡ Some o = sym (entry_same v.objects (place i) (Some (object p x)) (omega (arith, w, l))) ∙ (ap (entry (slice_set v.objects (place i) (Some (object p x)))) (sym q) ∙ e) in
+          let r : Some (object p x) ≡ Some o = sym (entry-set_same v.objects (place i) (Some (object p x)) (omega (arith, w, l))) ∙ (ap (entry (slice_set v.objects (place i) (Some (object p x)))) (sym q) ∙ e) in
           let same_object : o ≡ object p x = cc in
           record { turn = i; thing = x; at_place = q; is_thing = got; is_object = same_object }
-      by_place (inr d) = at k o (sym (entry_other v.objects (place i) k (Some (object p x)) d) ∙ e)
+      by_place (inr d) = at k o (sym (entry-set_other v.objects (place i) k (Some (object p x)) d) ∙ e)
 
   module _ (room : fit_beside p 0 p.order.things ≡ true) where
     place_all : (left i used : ℕ) (v : View) → i + left ≡ length p.order.things → Underway p begun v used i → AreAt p v.objects → Done
@@ -88,9 +81,9 @@ module _ (p : Plan) (begun : View) (is : IsBegun p begun) where
         let got : slice_get p.order.things i ≡ Some x = slice_get-get_or p.order.things i (only what.Nil) (omega (arith, l)) in
         let few = is.few in
         let f : fit_beside p used (x ∷ drop (i + 1) p.order.things) ≡ true = sym (u.fits ∙ ap (fit_beside p used) (drop_got p.order.things i x got)) ∙ room in
-        let a = both (nat_le (words_of (object p x)) 65535) _ f in
-        let b = both (nat_le (used + words_of (object p x)) most_words) _ a.1 in
-        let next = goes_on p begun v used i is u x got (puts v (place i) (object p x)) (used + words_of (object p x)) (record { objects = refl; held = refl; head = refl }) refl (le_by _ _ a.0) (le_by _ _ b.0) in
+        let a = and_parts (nat_le (words_of (object p x)) 65535) _ f in
+        let b = and_parts (nat_le (used + words_of (object p x)) most_words) _ a.1 in
+        let next = goes_on p begun v used i is u x got (puts v (place i) (object p x)) (used + words_of (object p x)) (record { objects = refl; held = refl; head = refl }) refl (at_most _ _ a.0) (at_most _ _ b.0) in
         place_all left (i + 1) (used + words_of (object p x)) (puts v (place i) (object p x)) (omega (arith, l)) next (at_more v used i u x got (omega (arith, l, few)) at)
 
     none_there : (n k : ℕ) (o : Object) → entry (replicate n None) k ≢ Some o
@@ -113,9 +106,9 @@ pub placed : (ps : List Part) → has_room ps ≡ true → Placed ps
 unfolding empty_view
 placed ps room =
     let p = plan ps in
-    let r = both (nat_le (length p.order.things) 32767) _ room in
+    let r = and_parts (nat_le (length p.order.things) 32767) _ room in
     let begun = empty_view (head_in p.order.things) in
-    let is : IsBegun p begun = record { objects = refl; entries = refl; words = refl; few = le_by _ _ r.0; methods = first_methods ps } in
+    let is : IsBegun p begun = record { objects = refl; entries = refl; words = refl; few = at_most _ _ r.0; methods = first_methods ps } in
     let d = all_placed p begun is r.1 in
     let u = d.2 in
     let e : d.0 ≡ first_view ps = made p begun d.0 d.1 u (first_many ps) refl in

@@ -13,10 +13,11 @@ use Rattle.st_first_objects.specs.declared.thing.What.{What}
 use Rattle.st_first_objects.specs.declared.thing.What.TheVariants as what
 use Rattle.st_first_objects.specs.Things.{Thing, only, named, within, rank, is, same, class as class_thing}
 use Rattle.st_first_objects.specs.Classes.{declared, is_nil}
-use Rattle.st_first_objects.specs.Orders.{Order, put, is_made, with_symbol, want, want_all, empty, page, characters, tables, want_parts, selectors, selector_symbols, lists, first_things, last_things, order, numbered_from}
+use Rattle.st_first_objects.specs.Orders.{Order, put, is_made, with_symbol, want, want_all, empty, page, characters, want_parts, selectors, selector_symbols, lists, first_things, order, numbered_from}
 use Rattle.st_first_objects.specs.Plans.{Plan}
 use Rattle.st_first_objects.specs.Contents.{Field, Empty, Number, To, Body, Fields, Bytes, NoWords, all_of, members, instance, superclass, meta_superclass, is_shared_of, padded, selector_fields, content_of}
-use Rattle.st_first_objects.proofs.Counts.{Begins, further, all_begins, parts_begin, last_begin}
+use Rattle.st_first_objects.proofs.Counts.{further, all_begins}
+use Rattle.st_first_objects.proofs.Complete.{got_before, page_begins}
 
 -- ORDINARY THINGS: neither the association nor the scheduler
 
@@ -182,19 +183,6 @@ class_ordinary p what.Lists name number = refl
 class_ordinary p what.List name number = refl
 
 -- THE ORDER
-
-got_before : (xs ys : List Thing) (i : ℕ) (x : Thing) → slice_get xs i ≡ Some x → slice_get (xs ++ ys) i ≡ Some x
-got_before [] ys i x e = cc
-got_before (y ∷ xs) ys zero x e = e
-got_before (y ∷ xs) ys (suc i) x e = got_before xs ys i x e
-
-page_begins : (ps : List Part) → Begins (want_all empty page) (order ps)
-page_begins ps =
-    let a = want_all empty page in
-    let b = want_all a characters in
-    let c = want_all b tables in
-    let d = want_parts ps c 0 ps in
-    further a d (last_things d) (further a c d (further a b c (all_begins a characters) (all_begins b tables)) (parts_begin ps c 0 ps)) (last_begin d)
 
 -- the root page comes first
 pub paged : (ps : List Part) (i : ℕ) (x : Thing) → slice_get (want_all empty page).things i ≡ Some x → slice_get (order ps).things i ≡ Some x

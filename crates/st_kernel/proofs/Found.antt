@@ -1,7 +1,7 @@
 -- A start that is found begins: each step of it goes, and the registers can be fetched from what it leaves.
 use Rattle.std.proofs.Common.{◌≡◌, ◌≢◌, ◌∙◌, ℕ, ◌+◌, ◌*◌, ◌<◌, ◌≤◌, List, [], ◌∷◌, length, Bool, true, false, Option, Some, None, ◌⊎◌, inl, inr, refl, sym, ap, subst, arith, is_some, length-set}
 use Rattle.std.specs.Prelude.{◌==◌, ◌&&◌, Result, Ok, Err, IfErr, pos, ◌+ℤ◌, ◌-ℤ◌, not, replicate, slice_get, slice_set, nat_lt, nat_le, if◌then◌else◌, unwrap_or}
-use Rattle.std.proofs.lemmas.Bool.{ne_eqb}
+use Rattle.std.proofs.lemmas.Bool.{ne_eqb, and_from}
 use Rattle.std.proofs.lemmas.Bool.Decides.{nat_tests}
 use Rattle.std.proofs.lemmas.List.{length-replicate}
 use Rattle.st_model.specs.declared.dead.Dead.{Dead}
@@ -21,7 +21,7 @@ use Rattle.st_model.specs.Table.{Table, entry, placed, first_free, table, bounde
 use Rattle.st_model.specs.View.{View, IsWhole, is_live, object_of, nothing}
 use Rattle.st_model.specs.Start.{idle_state}
 use Rattle.st_model.proofs.Runs.{run-then, run-next, after-went, run-answer, run-passed, run-some, run-set_registers}
-use Rattle.st_model.proofs.TableLemmas.{placed-first, placed-other, first_free-none}
+use Rattle.st_model.proofs.TableLemmas.{placed-first, first_free-none}
 use Rattle.st_model.proofs.Tabular.{fetch_field-as, count_fields-as}
 use Rattle.st_install.proofs.Goes.{object_at, replaced-it, replaced-other, same_or_other, Goes, Tells, over, then_goes, next_goes, read_goes, answer_goes, tells_answer, tells_then, tells_page, tells_object, tells_field, tells_count, store_goes}
 use Rattle.st_install.proofs.GoesSeeking.{bounded_reads}
@@ -30,6 +30,8 @@ use Rattle.st_kernel.specs.Starting.{method_of, first_words, fill_first_context,
 use Rattle.st_kernel.specs.Built.{Built, Fault, fault_at, begun_as, begun_in}
 use Rattle.st_kernel.specs.Following.{Ends}
 use Rattle.st_kernel.specs.Found.{Finds, IsFound, HasScheduler, scheduler_association, Begins, IsMissing}
+use Rattle.st_install.proofs.GoesMaking.{placed_stands}
+use Rattle.st_install.proofs.GoesStoring.{there_at}
 
 -- STEPS
 
@@ -193,10 +195,6 @@ integer_told u v i n h = tells_then u (fetch_field table v i) _ (Small n) (integ
 low_integer : (n : ℕ) → n < 32 → integer n ≡ pos n
 low_integer n l = let e : nat_lt n 16384 ≡ true = grind (arith, nat_tests) in rw e refl
 
-both : (a b : Bool) → a ≡ true → b ≡ true → (a && b) ≡ true
-both true b e f = f
-both false b e f = cc
-
 module _ (u : Table) (h : IsScheduled u) where
   method_told : Tells (fetch_field table h.context 3) u (Ref h.method)
   method_told = field_told u h.context 3 (Ref h.method) h.has_method
@@ -242,7 +240,7 @@ module _ (u : Table) (h : IsScheduled u) where
       (field_told u h.process 1 h.context h.has_context)))
 
   all_there : are_there table u registers ≡ true
-  all_there = both _ _ h.there.0 (both _ _ h.there.0 (both _ _ h.there.1 h.there.2))
+  all_there = and_from _ _ h.there.0 (and_from _ _ h.there.0 (and_from _ _ h.there.1 h.there.2))
 
   fetches : (s : State Table) → (fetch_scheduled_registers table).run (over s u) ≡ Went tt (record (over s u) { registers = registers })
   unfolding fetch_scheduled_registers fetch_context_registers
@@ -291,11 +289,6 @@ new_goes head t class n e =
       leaves = made_by b t (blank class n);
     }
 
--- what is there stands beside a new object, which is no other
-stands : (t : Table) (o : Object) (v : Value) (a : Object) → object_at t v ≡ Some a → object_at (placed t o) v ≡ Some a
-stands t o (Small n) a e = cc
-stands t o (Ref n) a e = placed-other t n o (λ q. let f : entry t n ≡ None = ap (entry t) q ∙ first_free-none t in cc) ∙ e
-
 none_there : (t : Table) (v : Value) (a : Object) → object_at t v ≡ Some a → v ≢ Ref (first_free t)
 none_there t v a e q = let f : object_at t v ≡ None = ap (object_at t) q ∙ first_free-none t in cc
 
@@ -305,7 +298,7 @@ there_stands t o (Ref n) e = by_entry (entry t n) refl e
   where
     by_entry : (x : Option Object) → entry t n ≡ x → is_some x ≡ true → is_there bounded_table (placed t o) (Ref n) ≡ true
     by_entry None f g = cc
-    by_entry (Some a) f g = there_by (placed t o) n a (stands t o (Ref n) a f)
+    by_entry (Some a) f g = there_by (placed t o) n a (placed_stands t o (Ref n) a f)
 
 live_stands : (t : Table) (o : Object) (n : ℕ) → is_some (entry t n) ≡ true → is_some (entry (placed t o) n) ≡ true
 live_stands t o n e = there_stands t o (Ref n) e
@@ -386,7 +379,7 @@ header_told t v header h =
     (told_next t _ _ tt header (check_told t dead.Kind (is_method h.object.kind) h.kind) (λ s. run-some dead.Field (slice_get h.object.fields 0) header (over s t) h.has))
 
 method_stands : (t : Table) (o : Object) (v header : Value) → IsMethodWith t v header → IsMethodWith (placed t o) v header
-method_stands t o v header h = record { object = h.object; is = stands t o v h.object h.is; kind = h.kind; has = h.has }
+method_stands t o v header h = record { object = h.object; is = placed_stands t o v h.object h.is; kind = h.kind; has = h.has }
 
 -- THE FIRST PROCESS
 
@@ -410,10 +403,10 @@ set_stands : (t : Table) (o : Object) (method : ℕ) (header receiver scheduler 
 set_stands t o method header receiver scheduler h = record {
   association = h.association;
   object = h.object;
-  is_association = stands t o scheduler_association h.association h.is_association;
+  is_association = placed_stands t o scheduler_association h.association h.is_association;
   association_pointers = h.association_pointers;
   has = h.has;
-  is_object = stands t o scheduler h.object h.is_object;
+  is_object = placed_stands t o scheduler h.object h.is_object;
   object_pointers = h.object_pointers;
   object_fields = h.object_fields;
   apart = h.apart;
@@ -442,10 +435,6 @@ there_table t (Ref n) e = e
 there_bounded : (t : Table) (x : Value) → is_there table t x ≡ true → is_there bounded_table t x ≡ true
 there_bounded t (Small n) e = e
 there_bounded t (Ref n) e = e
-
-there_object : (t : Table) (v : Value) (o : Object) → object_at t v ≡ Some o → is_there bounded_table t v ≡ true
-there_object t (Small n) o e = cc
-there_object t (Ref n) o e = there_by t n o e
 
 abbrev Scheduling : Bool → Table → Type 0
 Scheduling made u = made ≡ true → IsScheduled u
@@ -495,19 +484,19 @@ module _ (head : Head) (class : ℕ) (method : ℕ) (header receiver scheduler p
           has_count = tells_count w context with_fields here refl;
           few = few_words header;
           places = let c = f.count in omega (arith, c, places);
-          there = (keeps context (there_object t context context_object ce), keeps (Ref method) (there_object t (Ref method) h.has_method.object h.has_method.is), keeps receiver h.there);
+          there = (keeps context (there_at t context context_object ce), keeps (Ref method) (there_at t (Ref method) h.has_method.object h.has_method.is), keeps receiver h.there);
         }
 
     method_goes : Goes head (schedule_method bounded_table process context (Ref method) header receiver) t Scheduling
     unfolding schedule_method
     method_goes =
-        let m = there_object t (Ref method) h.has_method.object h.has_method.is in
+        let m = there_at t (Ref method) h.has_method.object h.has_method.is in
         next_goes head t (λ a u. Puts t u context with_fields) Scheduling _ _
         (fill_goes head context (Ref method) header receiver t context_object ce refl (enough_fields (is_large header)) m h.there)
         (λ a u p. next_goes head u (λ b w. Schedules u w process scheduler process_object h.object context) Scheduling _ _
         (schedule_goes head process context scheduler h.association h.object process_object u (p.others process pc ∙ pe) refl process_fields
         (p.others scheduler_association ac ∙ h.is_association) h.association_pointers h.has (p.others scheduler sc ∙ h.is_object) h.object_pointers h.object_fields
-        ap_ sp_ (there_object u context with_fields p.is) (there_put t u context with_fields process p (there_object t process process_object pe)))
+        ap_ sp_ (there_at u context with_fields p.is) (there_put t u context with_fields process p (there_at t process process_object pe)))
         (λ b w k. answer_goes head w Scheduling true (λ e. is_scheduled u w p k)))
 
   module _ (t : Table) (h : IsSet t method header receiver scheduler) (pe : object_at t process ≡ Some process_object)
@@ -520,7 +509,7 @@ module _ (head : Head) (class : ℕ) (method : ℕ) (header receiver scheduler p
     with_context context u (inr e) =
         let new = Ref (first_free t) in
         let w = placed t context_object in
-        let goes = method_goes w new (set_stands t context_object method header receiver scheduler h) (stands t context_object process process_object pe) (placed-first t context_object) places
+        let goes = method_goes w new (set_stands t context_object method header receiver scheduler h) (placed_stands t context_object process process_object pe) (placed-first t context_object) places
         (none_there t process process_object pe) (none_there t scheduler_association h.association h.is_association) (none_there t scheduler h.object h.is_object) ap_ sp_ in
         subst (λ v. Goes head (goes_on v) u Scheduling) (sym e.0) (subst (λ x. Goes head (goes_on new) x Scheduling) (sym e.1)
         (subst (λ b. Goes head (if b then answer false else schedule_method bounded_table process new (Ref method) header receiver) w Scheduling) (sym (not_nil t h.has_nil)) goes))

@@ -1,21 +1,11 @@
 -- Values that are the same, and one entry more.
-use Rattle.std.proofs.Common.{◌≡◌, ◌≢◌, ◌<◌, ℕ, List, Bool, true, false, Option, Some, refl, ap, sym, subst, ◌∙◌, arith, length, inl, inr, set, get_or, length-set}
-use Rattle.std.specs.Prelude.{slice_get}
+use Rattle.std.proofs.Common.{◌≡◌, ◌≢◌, ◌<◌, ℕ, List, Bool, Option, Some, ap, sym, subst, ◌∙◌, length, inl, inr, set, get_or, length-set}
 use Rattle.std.proofs.lemmas.Bool.{cases_eq}
-use Rattle.std.proofs.lemmas.Bool.Decides.{nat_tests}
 use Rattle.std.proofs.lemmas.Option.{slice_get_within, get_or_from_slice_get, slice_get-get_or}
 use Rattle.std.proofs.lemmas.List.{get_or-set_same, get_or-set_other}
-use Rattle.st_model.specs.Values.{Value, Small, Ref}
-use Rattle.st_model.specs.Steps.{same_value}
 use Rattle.st_model.specs.Table.{Table}
 use Rattle.st_lookup.specs.declared.entry.Entry.{Entry}
 use Rattle.st_lookup.specs.Remembered.{IsRemembered, AllRemembered, Grows}
-
-pub value_same : (v w : Value) → same_value v w ≡ true → v ≡ w
-value_same (Small a) (Small b) e = let q : a ≡ b = grind (arith, nat_tests, e) in ap (λ x. Small x) q
-value_same (Small a) (Ref b) e = cc
-value_same (Ref a) (Small b) e = cc
-value_same (Ref a) (Ref b) e = let q : a ≡ b = grind (arith, nat_tests, e) in ap (λ x. Ref x) q
 
 pub grows_then : (a b c : List ℕ) → Grows a b → Grows b c → Grows a c
 grows_then a b c g h k e = h k (g k e)

@@ -4,7 +4,7 @@ use Rattle.std.specs.Prelude.{pos, IfSome, IfNone}
 use Rattle.st_model.specs.declared.dead.Dead.{Dead}
 use Rattle.st_model.specs.declared.oop.Oop.{Oop}
 use Rattle.st_model.specs.declared.word.Word.{Word}
-use Rattle.st_model.specs.Values.{Value, Small, Ref, value, word}
+use Rattle.st_model.specs.Values.{value, word}
 use Rattle.st_model.specs.Objects.{nil}
 use Rattle.st_model.specs.Machine.{State, Went, is_there, empty_world}
 use Rattle.st_model.specs.Lookup.{find}
@@ -14,6 +14,7 @@ use Rattle.st_model.specs.View.{is_live}
 use Rattle.st_lookup.specs.Places.{found_word, found}
 use Rattle.st_memory.proofs.Unbounded.{search_bounded}
 use Rattle.st_lookup.proofs.Live.{found_live}
+use Rattle.st_memory.proofs.Wide.{there_live}
 
 -- a state over a table
 abbrev some_state : Table → State Table
@@ -23,11 +24,6 @@ some_state t = record {
   world = empty_world nil;
   head = record { entries = 0; words = 0; globals = None; symbols = None };
 }
-
-live_there : (t : Table) (v : Value) → is_live t v ≡ true → is_there table t v ≡ true
-unfolding is_live
-live_there t (Small n) e = cc
-live_there t (Ref n) e = e
 
 module _ (t : Table) (class selector : Oop) (c s : Word) (e : word c ≡ value class) (f : word s ≡ value selector) where
   over_table : (r : Result (Option Word) Dead) → Reads (find bounded_table (word c) (word s)) found_word t r → Reads (find table (value class) (value selector)) found_word t r
@@ -46,7 +42,7 @@ module _ (t : Table) (class selector : Oop) (c s : Word) (e : word c ≡ value c
     -- the pointer of what was found, where that is there
     pub finds : (o : Option Oop) → IfSome o (λ p. value p ≡ word method) → IfNone o (is_there table t (word method) ≡ false) → Reads (find table (value class) (value selector)) found t (Ok o)
     finds (Some p) same gone = λ a b. over_table (Ok (Some method)) h a b ∙ ap (λ v. Went (Some v) a) (sym same)
-    finds None same gone = let there : is_there table t (word method) ≡ true = live_there t (word method) live in cc
+    finds None same gone = let there : is_there table t (word method) ≡ true = there_live t (word method) live in cc
 
     pub finds_live : (o : Option Oop) → IfSome o (λ p. value p ≡ word method) → IfSome o (λ p. is_live t (value p) ≡ true)
     finds_live (Some p) same = subst (λ v. is_live t v ≡ true) (sym same) live

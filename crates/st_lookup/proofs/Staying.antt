@@ -1,16 +1,14 @@
 -- What is remembered stays so while no watched object is changed, and while a memory settles.
-use Rattle.std.proofs.Common.{◌≡◌, ◌≢◌, ℕ, zero, suc, Option, Some, None, Bool, true, false, List, [], ◌∷◌, refl, sym, ap, ◌∙◌, subst, is_some, inl, inr, ◌⊎◌, Ok, arith}
+use Rattle.std.proofs.Common.{◌≡◌, ◌≢◌, ℕ, zero, suc, Option, Some, None, Bool, true, false, List, [], ◌∷◌, refl, sym, ap, ◌∙◌, subst, is_some, inl, inr, ◌⊎◌, arith}
 use Rattle.std.specs.Prelude.{slice_get, IsTrue, ⊤, ◌==◌, ◌<◌, length, replicate}
 use Rattle.std.proofs.lemmas.Bool.Decides.{nat_tests}
 use Rattle.std.proofs.lemmas.Option.{slice_get_within, get_or_from_slice_get}
 use Rattle.std.proofs.lemmas.List.{get_or-replicate, length-replicate}
 use Rattle.st_model.specs.Values.{Value, Small, Ref, value, value_of, AllLive}
 use Rattle.st_model.specs.Objects.{Object}
-use Rattle.st_model.specs.Machine.{State, Went}
-use Rattle.st_model.specs.Lookup.{find}
-use Rattle.st_model.specs.Settled.{IsRefTo, AnyRefTo, Refers, IsRoot, held_root, page_root, SupportsItself, IsReferredFrom, IsSettled, or}
+use Rattle.st_model.specs.Settled.{IsRefTo, AnyRefTo, Refers, IsRoot, IsReferredFrom, IsSettled, or}
 use Rattle.st_model.specs.Show.{IsUsed}
-use Rattle.st_model.specs.Table.{Table, table, entry, changed, exchanged, exchanged_objects, placed, first_free, settled_table}
+use Rattle.st_model.specs.Table.{Table, table, entry, changed, exchanged_objects, placed, first_free}
 use Rattle.st_model.specs.View.{View, IsWhole, IsKnown, SettlesTo, is_live, view_roots, with_stored, with_unit, with_exchanged}
 use Rattle.st_model.proofs.TableLemmas.{changed-other, placed-other}
 use Rattle.st_model.proofs.SettledLemmas.{settled-entry, entry-settled, is_some-of, some_is}
@@ -19,7 +17,8 @@ use Rattle.st_memory.specs.Searched.{Finds}
 use Rattle.st_lookup.specs.declared.entry.Entry.{Entry}
 use Rattle.st_lookup.specs.declared.entry.TheConstants.Entry.{NONE}
 use Rattle.st_lookup.specs.Remembered.{on, IsOn, IsOff, watched, IsRemembered, AllRemembered, Grows, SameWatched, StaysIfOff}
-use Rattle.st_lookup.proofs.Carried.{IsOf, Carries, SameHalf, found_carried_on}
+use Rattle.st_lookup.proofs.Carried.{IsOf, SameHalf, found_carried_on}
+use Rattle.st_model.proofs.SettledIs.{or_left, or_right, or_cases}
 
 -- what stands under a watched pointer
 module _ (bits : List ℕ) (t : Table) where
@@ -154,18 +153,6 @@ same_exchanged bits t (Ref a) (Ref b) p q = same_objects bits t a b (entry t a) 
 
 -- A MEMORY SETTLES
 
-or_left : (a b : Bool) → IsTrue a → IsTrue (or a b)
-or_left true b h = refl
-or_left false b h = cc
-
-or_right : (a b : Bool) → IsTrue b → IsTrue (or a b)
-or_right true b h = refl
-or_right false b h = h
-
-or_either : (a b : Bool) → IsTrue (or a b) → IsTrue a ⊎ IsTrue b
-or_either true b h = inl refl
-or_either false b h = inr h
-
 same_number : (j n : ℕ) → IsTrue (j == n) → j ≡ n
 same_number j n e = grind (arith, nat_tests)
 
@@ -180,7 +167,7 @@ module _ (t : Table) (roots : List Value) (set : ℕ → Bool) (s : IsSettled ta
 
   kept_with : (j : ℕ) → IsTrue (with_it j) → IsTrue (table.kept t j)
   unfolding with_it
-  kept_with j h = elim (or_either (set j) (j == n) h) [
+  kept_with j h = elim (or_cases (set j) (j == n) h) [
     | inl g ↦ s.supports.kept j g
     | inr g ↦ subst (λ i. IsTrue (table.kept t i)) (sym (same_number j n g)) kept
   ]
@@ -191,7 +178,7 @@ module _ (t : Table) (roots : List Value) (set : ℕ → Bool) (s : IsSettled ta
 
   supported_with : (j : ℕ) → IsTrue (with_it j) → IsRoot table t roots j ⊎ IsReferredFrom table t with_it j
   unfolding with_it
-  supported_with j h = elim (or_either (set j) (j == n) h) [
+  supported_with j h = elim (or_cases (set j) (j == n) h) [
     | inl g ↦ elim (s.supports.supported j g) [
       | inl r ↦ inl r
       | inr r ↦ inr (from_with j r)

@@ -143,6 +143,8 @@ fn forget_if(watch: &mut Watch, entries: &mut Vec<Entry>, o: Oop)
 impl<M: Memory> Memory for Cached<M> {
     ghost view = { λ c. M.view c.memory };
 
+    ghost stands = { λ c. M.stands c.memory };
+
     fn live(&self, o: Oop) -> bool {
         self.memory.live(o)
     }
@@ -283,6 +285,23 @@ impl<M: Memory> Memory for Cached<M> {
                 method,
             };
         }
+    }
+
+    fn place(&self, o: Oop) -> u32 {
+        self.memory.place(o)
+    }
+
+    fn placed_pointer(&self, o: Oop, place: u32, at: u32) -> Oop {
+        self.memory.placed_pointer(o, place, at)
+    }
+
+    fn placed_byte(&self, o: Oop, place: u32, at: u32) -> u8 {
+        self.memory.placed_byte(o, place, at)
+    }
+
+    fn set_placed_pointer(&mut self, o: Oop, place: u32, at: u32, v: Oop) {
+        forget_if(&mut self.watch, &mut self.entries, o);
+        self.memory.set_placed_pointer(o, place, at, v);
     }
 
     ghost whole = { λ c. M.whole c.memory };

@@ -1,9 +1,7 @@
 -- A calm world: nothing comes before a bytecode. And when nothing is warned of after it.
-use Rattle.std.proofs.Common.{◌≡◌, ℕ, List, [], ◌∷◌, Bool, true, false, refl, ◌∙◌, ap, arith}
+use Rattle.std.proofs.Common.{◌≡◌, ℕ, [], ◌∷◌, Bool, true, false, refl, ◌∙◌, ap}
 use Rattle.std.specs.Prelude.{◌==◌, ◌&&◌, not, length, if◌then◌else◌}
-use Rattle.std.proofs.lemmas.Bool.Decides.{nat_tests}
 use Rattle.st_model.specs.declared.device.Device.TheVariants.{LowSpace}
-use Rattle.st_model.specs.Values.{Value}
 use Rattle.st_model.specs.Objects.{nil}
 use Rattle.st_model.specs.Outcomes.{Ending}
 use Rattle.st_model.specs.Machine.{State, Transition, Went}
@@ -11,26 +9,18 @@ use Rattle.st_model.specs.Table.{Table, table, bounded_table}
 use Rattle.st_model.specs.Events.{is_held, signalled_once}
 use Rattle.st_model.specs.Cycles.{free_space, signal_newest, check_process_switch, warned, warned_if_low}
 use Rattle.st_model.specs.Foreseen.{foreseen_cycle}
-use Rattle.st_machine.proofs.Done.{none_left, signals_made, waits_not}
+use Rattle.st_machine.proofs.Done.{none_left, signals_made, waits_not, no_signals}
 use Rattle.st_machine.specs.Cycling.{IsCalm, warns, foreseen_step}
 use Rattle.st_machine.proofs.Foreseeing.{from_switch}
-
-both : (a b : Bool) → (a && b) ≡ true → (a ≡ true) × (b ≡ true)
-both true true e = (refl, refl)
-both true false e = cc
-both false b e = cc
+use Rattle.std.proofs.lemmas.Bool.{and_parts}
 
 held_not : (b : Bool) → not b ≡ true → b ≡ false
 held_not true e = cc
 held_not false e = refl
 
-no_signals : (xs : List Value) → (length xs == 0) ≡ true → length xs ≡ 0
-no_signals [] e = refl
-no_signals (x ∷ xs) e = grind (arith, nat_tests, e)
-
 nothing_before : (s : State Table) → IsCalm s.world → (check_process_switch bounded_table).run s ≡ Went tt s
 nothing_before s calm =
-    let p = both (length s.world.devices.pending == 0) (not (is_held nil s.world.devices.new_process)) calm in
+    let p = and_parts (length s.world.devices.pending == 0) (not (is_held nil s.world.devices.new_process)) calm in
     let none : (signal_newest bounded_table (length s.world.devices.pending)).run s ≡ Went tt s =
     ap (λ (n : ℕ). (signal_newest bounded_table n).run s) (no_signals s.world.devices.pending p.0) ∙ none_left s in
     signals_made s s none ∙ waits_not s (held_not (is_held nil s.world.devices.new_process) p.1)

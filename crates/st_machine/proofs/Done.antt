@@ -1,12 +1,10 @@
 -- What a row over a memory does, with what it leaves to be done, is what the step does to the state that is shown.
-use Rattle.std.proofs.Common.{◌≡◌, ℕ, suc, zero, length, arith, Option, Some, None, List, [], ◌∷◌, Bool, true, false, Ok, Err, refl, sym, ap, subst, ◌∙◌}
-use Rattle.std.specs.Prelude.{Result, not, slice_get, ◌-◌, ◌<◌, ◌/◌, ◌%◌, ◌==◌, ◌&&◌, if◌then◌else◌, is_some, take}
+use Rattle.std.proofs.Common.{◌≡◌, ℕ, suc, length, arith, Some, None, List, [], ◌∷◌, Bool, true, false, refl, sym, ap, subst, ◌∙◌}
+use Rattle.std.specs.Prelude.{Result, not, slice_get, ◌-◌, ◌<◌, ◌/◌, ◌%◌, ◌==◌, ◌&&◌, if◌then◌else◌, take}
 use Rattle.std.proofs.lemmas.Bool.Decides.{nat_tests}
 use Rattle.st_model.specs.declared.dead.Dead.{Dead}
 use Rattle.st_model.specs.declared.deed.Deed.{Deed}
-use Rattle.st_model.specs.declared.device.Device.TheVariants.{NewProcess}
-use Rattle.st_model.specs.declared.word.Word.{Word}
-use Rattle.st_model.specs.Values.{Value, Small, Ref, IsLive, word, value_of, is_small}
+use Rattle.st_model.specs.Values.{Value, word}
 use Rattle.st_model.specs.Objects.{nil}
 use Rattle.st_model.specs.Machine.{Head, World, is_there, State, Transition, Died, Went, Step, answer, after, ◌>>=◌, ◌>>◌}
 use Rattle.st_model.specs.Surroundings.{TakeSignal, newest_of, changed_world}
@@ -15,11 +13,9 @@ use Rattle.st_model.specs.Table.{Table, table, bounded_table}
 use Rattle.st_model.specs.Steps.{are_there}
 use Rattle.st_model.specs.Contexts.{fetch_scheduled_registers}
 use Rattle.st_model.specs.Saving.{store_active, store_process}
-use Rattle.st_model.specs.Show.{IsUsed}
 use Rattle.st_model.specs.Foreseen.{IsSound}
 use Rattle.st_simulation.proofs.Between.{as_table, switched_sound}
 use Rattle.st_simulation.proofs.ContextsSame.{fetch_scheduled_registers-same}
-use Rattle.st_frames.specs.Narrow.{IsNarrow}
 use Rattle.st_frames.proofs.Closed.{is_closed}
 use Rattle.st_model.specs.Events.{is_held}
 use Rattle.st_model.specs.Calls.{itself, transition_of}
@@ -33,6 +29,7 @@ use Rattle.st_frames.specs.declared.registers.Registers.{Registers as Words}
 use Rattle.st_frames.specs.Rows.{row_state, registers_in}
 use Rattle.st_frames.specs.Shown.{shown, registers_of, IsFrame, IsReady}
 use Rattle.st_frames.proofs.Stored.{loaded}
+use Rattle.st_frames.proofs.There.{word_there, all_four}
 
 abbrev Answers : Type 0
 Answers = Transition (State Table) (Unit {0})
@@ -170,19 +167,6 @@ ready_after h z f x frame e = record {
   devices = ap (λ (y : Held). y.devices) e;
 }
 
--- what was found over a memory before is there after a switch
-narrow_there : (t : Table) (b : Bool) (n : ℕ) → IsLive (IsUsed t) (if b then Small n else Ref n) → (is_small (if b then Small n else Ref n) ≡ true → n < 32768)
-    → is_there table t (if b then Small n else Ref n) ≡ true
-narrow_there t true n h s = let l = s refl in grind (arith, nat_tests, l)
-narrow_there t false n h s = ap (λ x. is_some x) h.1
-
-word_there : (t : Table) (w : Word) → IsLive (IsUsed t) (word w) → IsNarrow w → is_there table t (word w) ≡ true
-unfolding value_of
-word_there t w h s = narrow_there t (w.0 % 2 == 1) (w.0 / 2) h (λ e. let l = s e in omega (arith, l))
-
-all_four : (a b c d : Bool) → a ≡ true → b ≡ true → c ≡ true → d ≡ true → (a && (b && (c && d))) ≡ true
-all_four a b c d p q r s = rw (p, q, r, s) refl
-
 pub there_after : (p : Value) (v : View) (f : Frame) (w : World) (t : Table) (a : Head) (r : Words) → IsWhole v → IsReady v f w
     → (switch_to_process bounded_table p).run (shown v f w) ≡ Went tt (row_state t a r) → are_there table t (registers_in r) ≡ true
 unfolding row_state
@@ -233,7 +217,7 @@ quiet_parts true true c e = (refl, refl)
 quiet_parts true false c e = cc
 quiet_parts false b c e = cc
 
-no_signals : (xs : List Value) → (length xs == 0) ≡ true → length xs ≡ 0
+pub no_signals : (xs : List Value) → (length xs == 0) ≡ true → length xs ≡ 0
 no_signals [] e = refl
 no_signals (x ∷ xs) e = grind (arith, nat_tests, e)
 

@@ -1,5 +1,5 @@
 -- What a cycle of the code does, as the cycle over a table whose step is foreseen.
-use Rattle.std.proofs.Common.{◌≡◌, ℕ, ◌+◌, ◌-◌, Bool, true, false, refl, ◌∙◌, ap, sym, subst, Ok, Err, arith}
+use Rattle.std.proofs.Common.{◌≡◌, ℕ, ◌+◌, ◌-◌, Bool, true, false, refl, ◌∙◌, ap, sym, subst, Ok, Err, ◌⊎◌, inl, inr, arith}
 use Rattle.std.specs.Prelude.{Result, nat_lt, nat_le, ◌&&◌, if◌then◌else◌}
 use Rattle.std.proofs.lemmas.Bool.Decides.{nat_tests}
 use Rattle.st_model.specs.declared.dead.Dead.{Dead}
@@ -17,7 +17,10 @@ use Rattle.st_model.specs.Cycles.{made_between, free_space, less, capacity_of, c
 use Rattle.st_model.specs.Foreseen.{foreseen, foreseen_from, foreseen_cycle, done, done_if_room}
 use Rattle.st_model.specs.View.{View, Held, fits}
 use Rattle.st_control.specs.Foreseen.{IsForeseen}
-use Rattle.st_at_once.specs.AtOnce.{IsDoneAtOnce}
+use Rattle.st_at_once.specs.declared.ending.RowEnd.{RowEnd}
+use Rattle.st_at_once.specs.declared.ending.RowEnd.TheVariants.{Stays}
+use Rattle.st_at_once.specs.declared.ending.RowEnd.TheVariants as row
+use Rattle.st_at_once.specs.AtOnce.{was_done, GoesOn, IsDoneBut, IsDoneAtOnce}
 use Rattle.st_machine.specs.Cycling.{GoesAtOnce, GoesBy, Finishes, foreseen_step}
 use Rattle.st_step.specs.Planned.{Plans, plus}
 use Rattle.st_frames.specs.declared.frame.Frame.{Frame}
@@ -129,3 +132,12 @@ frame_stays u v f h e = record {
   sp_low = h.sp_low;
   sp_high = h.sp_high;
 }
+
+-- a bytecode that was done without a deed, in its context or elsewhere
+pub done_here : (c : State Table) (left : Deed) (end : RowEnd) (d : State Table) → (end ≡ Stays) ⊎ (end ≡ row.Done) → IsDoneBut c left (Ok end) d → GoesOn c d
+done_here c left end d (inl e) h = subst (λ y. IsDoneBut c left (Ok y) d) e h
+done_here c left end d (inr e) h = subst (λ y. IsDoneBut c left (Ok y) d) e h
+
+pub was_here : (end : RowEnd) → (end ≡ Stays) ⊎ (end ≡ row.Done) → was_done end ≡ true
+was_here end (inl e) = ap was_done e
+was_here end (inr e) = ap was_done e

@@ -1,4 +1,3 @@
-pub mod Settled
 mod Endings
 mod Foreseeing
 mod Calm

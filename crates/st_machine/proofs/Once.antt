@@ -1,7 +1,6 @@
 -- After what comes before a bytecode no signal is pending and no process waits, and so done again it does nothing.
 use Rattle.std.proofs.Common.{◌≡◌, ℕ, zero, suc, List, [], ◌∷◌, length, Option, Some, None, Bool, true, false, refl, sym, ◌∙◌, ap, subst, arith}
 use Rattle.std.specs.Prelude.{◌-◌, slice_get, take, if◌then◌else◌}
-use Rattle.std.proofs.lemmas.Bool.Decides.{nat_tests}
 use Rattle.std.proofs.lemmas.List.{length-take}
 use Rattle.st_model.specs.declared.device.Device.{Device}
 use Rattle.st_model.specs.declared.device.Device.TheVariants as device
@@ -9,15 +8,17 @@ use Rattle.st_model.specs.declared.device.Device.TheVariants.{NewProcess}
 use Rattle.st_model.specs.declared.page.PageObject.{PageObject}
 use Rattle.st_model.specs.declared.page.PageObject.TheVariants.{NilObject}
 use Rattle.st_model.specs.Values.{Value, Ref}
-use Rattle.st_model.specs.Objects.{Object, place_of}
+use Rattle.st_model.specs.Objects.{place_of}
 use Rattle.st_model.specs.Machine.{World, State, Transition, Died, Went, Step, answer, after, ◌>>=◌, ◌>>◌}
-use Rattle.st_model.specs.Births.{Births, births, bearer, replaced, bears}
+use Rattle.st_model.specs.Births.{Births, births}
 use Rattle.st_model.specs.Surroundings.{Hold, TakeSignal, newest_of, changed_world}
 use Rattle.st_model.specs.Steps.{of_page, same_value, get_device, newest_signal, count_signals, change_world, world_changed}
 use Rattle.st_model.specs.Processes.{signal, let_wait, leave_process, enter_process, switch_to_process}
 use Rattle.st_model.specs.Cycles.{signal_if_any, signal_next, signal_newest, switch_unless_nil, switch_if_waiting, check_process_switch, cycle, cycle_from, run, run_of, finished, finished_of, and_on, counted}
 use Rattle.st_machine.specs.Prepared.{prepared, PreparesOnce, CycleGoesOn, CycleDies, RunGoesOn, CountGoesOn}
 use Rattle.st_machine.proofs.Keeping as keeping
+use Rattle.st_model.proofs.SameValues.{same_ref}
+use Rattle.st_model.proofs.BirthLemmas.{bearer-replaced}
 
 abbrev Over : Type 0
 Over = State Births
@@ -50,12 +51,6 @@ went_value : {A : Type 0} (a b : Over) (x y : A) → (let z : Transition Over A 
 went_value a b x y e = cc
 
 -- WHAT STAYS
-
--- a store changes no pointer
-bearer-replaced : (h : Births) (n k : ℕ) (o : Object) → bearer (replaced h n o) k ≡ bearer h k
-bearer-replaced [] n k o = refl
-bearer-replaced (b ∷ h) zero k o = refl
-bearer-replaced (b ∷ h) (suc n) k o = ap (λ (x : ℕ). if bears b k then 0 else suc x) (bearer-replaced h n k o)
 
 -- the signals that are pending
 abbrev SamePending : Over → Over → Type 0
@@ -141,9 +136,6 @@ newest_less (suc n) s t e =
 -- no process waits
 abbrev NoneWaits : Over → Type 0
 NoneWaits s = same_value s.world.devices.new_process (Ref (births.named s.memory NilObject)) ≡ true
-
-same_ref : (n : ℕ) → same_value (Ref n) (Ref n) ≡ true
-same_ref n = grind (arith, nat_tests)
 
 held_state : (v : Value) (s t : Over) (there : Bool) → world_changed (Hold NewProcess v) s there ≡ Went tt t → record s { world = changed_world (Hold NewProcess v) s.world } ≡ t
 unfolding world_changed

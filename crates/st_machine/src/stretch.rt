@@ -53,7 +53,7 @@ fn do_calmly<M: Memory>(
     match step_from(near, f, r, left)? {
         RowEnd::ToForesee => Ok(Some(StretchEnd::ToForesee)),
         RowEnd::Leaves => Ok(Some(StretchEnd::Leaves)),
-        RowEnd::Done => {
+        RowEnd::Stays | RowEnd::Done => {
             near.settle();
             if needs_warning(near.memory, r.world) {
                 Ok(Some(StretchEnd::Warns))

@@ -1,3 +1,1 @@
 pub mod Ready
-mod HostileRows
-mod ForgeRows

@@ -16,7 +16,7 @@ use std::cell::Cell;
 use std::process::Abort;
 use std::test::Fail;
 
-/// A memory that counts the calls of `pointer`, and hands each call on.
+/// A memory that counts the calls of `pointer` and `placed_pointer`, and hands each call on.
 #[derive(Drop)]
 struct Counting<M: Memory> {
     memory: M,
@@ -25,6 +25,8 @@ struct Counting<M: Memory> {
 
 impl<M: Memory> Memory for Counting<M> {
     ghost view = { λ c. M.view c.memory };
+
+    ghost stands = { λ c. M.stands c.memory };
 
     fn live(&self, o: Oop) -> bool {
         self.memory.live(o)
@@ -137,6 +139,23 @@ impl<M: Memory> Memory for Counting<M> {
 
     fn remember(&mut self, class: Oop, selector: Oop, method: Oop) {
         self.memory.remember(class, selector, method);
+    }
+
+    fn place(&self, o: Oop) -> u32 {
+        self.memory.place(o)
+    }
+
+    fn placed_pointer(&self, o: Oop, place: u32, at: u32) -> Oop {
+        self.pointers.set(self.pointers.get().wrapping_add(1));
+        self.memory.placed_pointer(o, place, at)
+    }
+
+    fn placed_byte(&self, o: Oop, place: u32, at: u32) -> u8 {
+        self.memory.placed_byte(o, place, at)
+    }
+
+    fn set_placed_pointer(&mut self, o: Oop, place: u32, at: u32, v: Oop) {
+        self.memory.set_placed_pointer(o, place, at, v);
     }
 
     ghost whole = { λ c. M.whole c.memory };

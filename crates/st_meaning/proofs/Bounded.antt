@@ -4,11 +4,11 @@ use Rattle.std.proofs.Common.{◌≡◌, ℕ, zero, suc, ◌+◌, ◌-◌, ◌*�
 use Rattle.std.proofs.lemmas.Bool.{cases_lt}
 use Rattle.std.proofs.lemmas.Bool.Decides.{nat_tests}
 use Rattle.std.specs.Prelude.{if◌then◌else◌}
-use Rattle.st_emit.specs.declared.step.Constant.TheVariants.{Receiver, True, False, Nil, Context}
 use Rattle.st_emit.specs.Literals.{LiteralView}
 use Rattle.st_resolved.specs.declared.reading.Found.{Found}
 use Rattle.st_resolved.specs.Instructions.{instruction}
 use Rattle.st_resolved.proofs.Decoding.{found_some}
+use Rattle.st_meaning.specs.declared.deed.Variable.{Variable}
 use Rattle.st_meaning.specs.declared.deed.Value.{Value}
 use Rattle.st_meaning.specs.declared.deed.Value.TheVariants as values
 use Rattle.st_meaning.specs.Values.{DeedView, AnswerView}
@@ -77,11 +77,10 @@ module _ (most : ℕ) where
   done_then b unfinished f h k = absurd h
 
   done_decide : (v : Value) (a b : Run Value) (g : Going) → IsDone (a g) → IsDone (b g) → IsDone (decide most v a b g)
-  done_decide (values.Constant True) a b g h k = h
-  done_decide (values.Constant False) a b g h k = k
-  done_decide (values.Constant Receiver) a b g h k = done_unsure (values.Constant Receiver) g
-  done_decide (values.Constant Nil) a b g h k = done_unsure (values.Constant Nil) g
-  done_decide (values.Constant Context) a b g h k = done_unsure (values.Constant Context) g
+  done_decide (values.Constant (suc zero)) a b g h k = h
+  done_decide (values.Constant (suc (suc zero))) a b g h k = k
+  done_decide (values.Constant zero) a b g h k = done_unsure (values.Constant zero) g
+  done_decide (values.Constant (suc (suc (suc i)))) a b g h k = done_unsure (values.Constant (suc (suc (suc i)))) g
   done_decide (values.Number z) a b g h k = done_unsure (values.Number z) g
   done_decide (values.First q) a b g h k = done_unsure (values.First q) g
   done_decide (values.Literal i) a b g h k = done_unsure (values.Literal i) g
@@ -101,7 +100,7 @@ module _ (most : ℕ) where
       by_test false e = h e
 
   -- what is done is over, where whatever comes next is: further on with as many jumps back, and anywhere with one more
-  done_all : (w : Walked Value) (f : Next) (at : ℕ) (g : Going)
+  done_all : (w : Walked Variable Value) (f : Next) (at : ℕ) (g : Going)
       → ((to : ℕ) (s : List Value) (h : Going) → at ≤ to → h.backs ≡ g.backs → IsDone (f to s h))
       → ((to : ℕ) (s : List Value) → (g.backs == most) ≡ false → IsDone (f to s (record g { backs = g.backs + 1 })))
       → IsDone (done most w f at g)

@@ -1,11 +1,10 @@
 -- Where a walk goes on behind what an instruction does, and where it is over.
-use Rattle.std.proofs.Common.{◌≡◌, ℕ, ◌+◌, ◌-◌, ◌==◌, Bool, true, false, not, List, ◌∷◌, length, drop, Option, Some, None, refl, sym, ap, ◌∙◌, subst}
+use Rattle.std.proofs.Common.{◌≡◌, ℕ, zero, suc, ◌+◌, ◌-◌, ◌==◌, Bool, true, false, not, List, ◌∷◌, length, drop, Option, Some, None, refl, sym, ap, ◌∙◌, subst}
 use Rattle.std.specs.Prelude.{Result, Ok, Err, IfOk, IfErr, if◌then◌else◌}
-use Rattle.st_emit.specs.declared.step.Constant.TheVariants.{Receiver, True, False, Nil, Context}
-use Rattle.st_emit.specs.declared.step.Place.{Place}
 use Rattle.st_resolved.specs.declared.reading.Found.{Found}
 use Rattle.st_resolved.specs.Instructions.{instruction}
 use Rattle.st_code.specs.Methods.{PartsView}
+use Rattle.st_meaning.specs.declared.deed.Variable.{Variable}
 use Rattle.st_meaning.specs.declared.deed.Value.{Value}
 use Rattle.st_meaning.specs.declared.deed.Value.TheVariants as values
 use Rattle.st_meaning.specs.declared.course.Course.{Course}
@@ -26,12 +25,11 @@ use Rattle.st_meaning.proofs.Coursing.{few_deeds, full_deeds, return_on, return_
 -- BOOLEANS
 
 by_true : (on : Bool) (v : Value) → boolean v ≡ Some true → (jump go : Run Value) (g : Going) → on_boolean most on v jump go g ≡ (if on then jump else go) g
-by_true true (values.Constant True) e jump go g = refl
-by_true false (values.Constant True) e jump go g = refl
-by_true on (values.Constant False) e jump go g = absurd cc
-by_true on (values.Constant Receiver) e jump go g = absurd cc
-by_true on (values.Constant Nil) e jump go g = absurd cc
-by_true on (values.Constant Context) e jump go g = absurd cc
+by_true true (values.Constant (suc zero)) e jump go g = refl
+by_true false (values.Constant (suc zero)) e jump go g = refl
+by_true on (values.Constant (suc (suc zero))) e jump go g = absurd cc
+by_true on (values.Constant zero) e jump go g = absurd cc
+by_true on (values.Constant (suc (suc (suc i)))) e jump go g = absurd cc
 by_true on (values.Number z) e jump go g = absurd cc
 by_true on (values.First q) e jump go g = absurd cc
 by_true on (values.Literal i) e jump go g = absurd cc
@@ -39,12 +37,11 @@ by_true on (values.Block i) e jump go g = absurd cc
 by_true on (values.Answer i) e jump go g = absurd cc
 
 by_false : (on : Bool) (v : Value) → boolean v ≡ Some false → (jump go : Run Value) (g : Going) → on_boolean most on v jump go g ≡ (if not on then jump else go) g
-by_false true (values.Constant False) e jump go g = refl
-by_false false (values.Constant False) e jump go g = refl
-by_false on (values.Constant True) e jump go g = absurd cc
-by_false on (values.Constant Receiver) e jump go g = absurd cc
-by_false on (values.Constant Nil) e jump go g = absurd cc
-by_false on (values.Constant Context) e jump go g = absurd cc
+by_false true (values.Constant (suc (suc zero))) e jump go g = refl
+by_false false (values.Constant (suc (suc zero))) e jump go g = refl
+by_false on (values.Constant (suc zero)) e jump go g = absurd cc
+by_false on (values.Constant zero) e jump go g = absurd cc
+by_false on (values.Constant (suc (suc (suc i)))) e jump go g = absurd cc
 by_false on (values.Number z) e jump go g = absurd cc
 by_false on (values.First q) e jump go g = absurd cc
 by_false on (values.Literal i) e jump go g = absurd cc
@@ -52,11 +49,10 @@ by_false on (values.Block i) e jump go g = absurd cc
 by_false on (values.Answer i) e jump go g = absurd cc
 
 decide_none : (v : Value) → boolean v ≡ None → (a b : Run Value) (g : Going) → decide most v a b g ≡ be_unsure most v g
-decide_none (values.Constant True) e a b g = absurd cc
-decide_none (values.Constant False) e a b g = absurd cc
-decide_none (values.Constant Receiver) e a b g = refl
-decide_none (values.Constant Nil) e a b g = refl
-decide_none (values.Constant Context) e a b g = refl
+decide_none (values.Constant (suc zero)) e a b g = absurd cc
+decide_none (values.Constant (suc (suc zero))) e a b g = absurd cc
+decide_none (values.Constant zero) e a b g = refl
+decide_none (values.Constant (suc (suc (suc i)))) e a b g = refl
 decide_none (values.Number z) e a b g = refl
 decide_none (values.First q) e a b g = refl
 decide_none (values.Literal i) e a b g = refl
@@ -120,10 +116,10 @@ went_on at s c f = refl
 pub stuck_there : (at : ℕ) (s : List Value) (c : Course) → Continues (becomes walked.Stuck at s c) s c None
 stuck_there at s c f = refl
 
-pub stored_on : (p : Place) (v : Value) (at : ℕ) (s : List Value) (c d : Course) → assign_to most p v (going_view c) ≡ went v (going_view d) → Continues (becomes (walked.Stored p v) at s c) s d (Some at)
+pub stored_on : (p : Variable) (v : Value) (at : ℕ) (s : List Value) (c d : Course) → assign_to most p v (going_view c) ≡ went v (going_view d) → Continues (becomes (walked.Stored p v) at s c) s d (Some at)
 stored_on p v at s c d e f = ap (λ (o : Outcome Value). then_go o (λ w. f at (stack_view s))) e
 
-pub stored_long : (p : Place) (v : Value) (at : ℕ) (s : List Value) (c : Course) → assign_to most p v (going_view c) ≡ long → IsTooLong (becomes (walked.Stored p v) at s c)
+pub stored_long : (p : Variable) (v : Value) (at : ℕ) (s : List Value) (c : Course) → assign_to most p v (going_view c) ≡ long → IsTooLong (becomes (walked.Stored p v) at s c)
 stored_long p v at s c e f = ap (λ (o : Outcome Value). then_go o (λ w. f at (stack_view s))) e
 
 -- with its answer, or at the end of the answers
@@ -175,7 +171,7 @@ becomes_so : (p : PartsView) (at : ℕ) (s t : List Value) (c : Course) (o : Opt
 becomes_so p at s t c o x w to e is n k f =
     ap (λ (y : Option Found). act_found most p.literals y f at (stack_view s) (going_view c)) (sym e ∙ is)
     ∙ ap (λ (m : ℕ). done most (walk_code (values_of p.literals (held_of c.held)) x.step (stack_view s)) f m (going_view c)) (sym n)
-    ∙ ap (λ (y : codes.Walked Value). done most y f to (going_view c)) (sym k)
+    ∙ ap (λ (y : codes.Walked Variable Value). done most y f to (going_view c)) (sym k)
 
 goes_along : (m m' : Next → Outcome Value) (t : List Value) (d : Course) (r : Option ℕ) → ((f : Next) → m f ≡ m' f) → Continues m' t d r → Continues m t d r
 goes_along m m' t d (Some n) e h = λ f. e f ∙ h f

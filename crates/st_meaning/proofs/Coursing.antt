@@ -2,7 +2,7 @@
 use Rattle.std.proofs.Common.{◌≡◌, ℕ, ◌+◌, ◌-◌, ◌≤◌, ◌==◌, Bool, true, false, List, [], ◌∷◌, ◌++◌, length, take, drop, get_or, Option, refl, sym, ap, ◌∙◌, subst, arith}
 use Rattle.std.proofs.lemmas.List.{drop_more, take_rest}
 use Rattle.std.specs.Prelude.{if◌then◌else◌}
-use Rattle.st_emit.specs.declared.step.Place.{Place}
+use Rattle.st_meaning.specs.declared.deed.Variable.{Variable}
 use Rattle.st_meaning.specs.declared.deed.Value.{Value}
 use Rattle.st_meaning.specs.declared.deed.Value.TheVariants.{Block}
 use Rattle.st_meaning.specs.declared.deed.Deed.{Deed}
@@ -32,11 +32,11 @@ module _ (most : ℕ) where
   unfolding did
   did_long d f g e = ap (λ (b : Bool). if b then long else f (with_deed d g)) e
 
-  pub assign_on : (p : Place) (v : Value) (g : Going) → (length g.deeds == most) ≡ false → assign_to most p v g ≡ went v (record (with_deed (assigned p v) g) { held = changed p v g.held })
+  pub assign_on : (p : Variable) (v : Value) (g : Going) → (length g.deeds == most) ≡ false → assign_to most p v g ≡ went v (record (with_deed (assigned p v) g) { held = changed p v g.held })
   unfolding assign_to
   assign_on p v g e = did_on (assigned p v) _ g e
 
-  pub assign_long : (p : Place) (v : Value) (g : Going) → (length g.deeds == most) ≡ true → assign_to most p v g ≡ long
+  pub assign_long : (p : Variable) (v : Value) (g : Going) → (length g.deeds == most) ≡ true → assign_to most p v g ≡ long
   unfolding assign_to
   assign_long p v g e = did_long (assigned p v) _ g e
 
@@ -82,7 +82,7 @@ module _ (most : ℕ) where
 
 -- COURSES
 
-pub begins : (deeds : List Deed) (held start : Place → Value) (answers : List AnswerView) → deeds ≡ [] → held ≡ start
+pub begins : (deeds : List Deed) (held start : Variable → Value) (answers : List AnswerView) → deeds ≡ [] → held ≡ start
     → record { deeds = deeds_view deeds; answers = answers; held = held; blocks = 0; backs = 0 } ≡ before_all start answers
 begins deeds held start answers d h = λ i. record { deeds = deeds_view (d i); answers = answers; held = h i; blocks = 0; backs = 0 }
 
@@ -92,24 +92,24 @@ few_deeds most c e = ap (λ (n : ℕ). n == most) (many_deeds c.deeds.items) ∙
 pub full_deeds : (most : ℕ) (c : Course) → (length c.deeds.items == most) ≡ true → (length (going_view c).deeds == most) ≡ true
 full_deeds most c e = ap (λ (n : ℕ). n == most) (many_deeds c.deeds.items) ∙ e
 
-pub assign_goes : (most : ℕ) (c d : Course) (h : Held) (p : Place) (v : Value) → (length c.deeds.items == most) ≡ false → going_view d ≡ with_deed (assigned p v) (going_view c) → d.held ≡ c.held → held_of h ≡ changed p v (held_of d.held)
+pub assign_goes : (most : ℕ) (c d : Course) (h : Held) (p : Variable) (v : Value) → (length c.deeds.items == most) ≡ false → going_view d ≡ with_deed (assigned p v) (going_view c) → d.held ≡ c.held → held_of h ≡ changed p v (held_of d.held)
     → assign_to most p v (going_view c) ≡ went v (record (going_view d) { held = held_of h })
 assign_goes most c d h p v few w e k =
     assign_on most p v (going_view c) (few_deeds most c few)
     ∙ ap (λ (g : Going). went v (record g { held = changed p v (held_of c.held) })) (sym w)
-    ∙ ap (λ (f : Place → Value). went v (record (going_view d) { held = f })) (sym (k ∙ ap (λ (x : Held). changed p v (held_of x)) e))
+    ∙ ap (λ (f : Variable → Value). went v (record (going_view d) { held = f })) (sym (k ∙ ap (λ (x : Held). changed p v (held_of x)) e))
 
 pub answer_follows : (most : ℕ) (c d : Course) (r : Value) (text : List ℕ) (vs : List Value) (above : Bool) → (length c.deeds.items == most) ≡ false → going_view d ≡ with_deed (sent r text vs above) (going_view c)
     → answer_to most r text vs above (going_view c) ≡ take_answer (going_view d).answers (going_view d)
 answer_follows most c d r text vs above few w = answer_on most r text vs above (going_view c) (few_deeds most c few) ∙ ap (λ (g : Going). take_answer g.answers g) (sym w)
 
 -- the next answer, and those behind it
-pub first_answer : (xs : List Answer) (x : Answer) (g : Going) (h : Place → Value) → 1 ≤ length xs → x ≡ get_or xs 0 x → h ≡ all_changed x.changes.items g.held
+pub first_answer : (xs : List Answer) (x : Answer) (g : Going) (h : Variable → Value) → 1 ≤ length xs → x ≡ get_or xs 0 x → h ≡ all_changed x.changes.items g.held
     → take_answer (answers_view xs) g ≡ went x.value (record g { answers = answers_view (take (length xs - 1) (drop 1 xs)); held = h })
 first_answer xs x g h there is e =
     let first : xs ≡ x ∷ take (length xs - 1) (drop 1 xs) = drop_more xs 0 x (omega (arith, there)) ∙ ap (λ y. y ∷ drop 1 xs) (sym is) ∙ ap (λ ys. x ∷ ys) (sym (take_rest xs 1)) in
     ap (λ (ys : List Answer). take_answer (answers_view ys) g) first
-    ∙ ap (λ (k : Place → Value). went x.value (record g { answers = answers_view (take (length xs - 1) (drop 1 xs)); held = k })) (sym e)
+    ∙ ap (λ (k : Variable → Value). went x.value (record g { answers = answers_view (take (length xs - 1) (drop 1 xs)); held = k })) (sym e)
 
 pub answer_goes : (most : ℕ) (r : Value) (text : List ℕ) (vs : List Value) (above : Bool) (c d e : Course) (o : Option Value) → (length c.deeds.items == most) ≡ false → going_view d ≡ with_deed (sent r text vs above) (going_view c)
     → Goes (take_answer (going_view d).answers (going_view d)) o (going_view e) → Goes (answer_to most r text vs above (going_view c)) o (going_view e)

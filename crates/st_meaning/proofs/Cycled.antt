@@ -1,6 +1,5 @@
 -- A cycle in which nothing waits is a step, and then what comes after it; and objects stored are read again from births and table.
 use Rattle.std.proofs.Common.{◌≡◌, ◌≢◌, ℕ, zero, suc, [], ◌∷◌, length, Bool, true, false, Some, refl, sym, ap, ◌∙◌, subst, arith}
-use Rattle.std.proofs.lemmas.Bool.Decides.{nat_tests}
 use Rattle.st_model.specs.declared.page.PageObject.TheVariants.{NilObject}
 use Rattle.st_model.specs.declared.device.Device.TheVariants.{NewProcess}
 use Rattle.st_model.specs.Values.{Value, Ref}
@@ -17,9 +16,7 @@ use Rattle.st_model.proofs.BirthLemmas.{replaced-other}
 use Rattle.st_model.proofs.TableLemmas.{changed-some, changed-other}
 use Rattle.st_meaning.specs.Machines.{KeepsOthers, IsCalm, CycleSteps}
 use Rattle.st_meaning.proofs.Inverting.{then_goes, next_goes}
-
-same_name : (n : ℕ) → same_value (Ref n) (Ref n) ≡ true
-same_name n = grind (arith, nat_tests)
+use Rattle.st_model.proofs.SameValues.{same_ref}
 
 module _ {H : Type 0} (m : ObjectMemory H) where
   no_signals : (s : State H) (n : ℕ) → n ≡ 0 → (signal_newest m n).run s ≡ Went tt s
@@ -36,7 +33,7 @@ module _ {H : Type 0} (m : ObjectMemory H) where
   unfolding switch_if_waiting get_device of_page
   stays s calm =
       let e : same_value s.world.devices.new_process (Ref (m.named s.memory NilObject)) ≡ true =
-      subst (λ v. same_value v (Ref (m.named s.memory NilObject)) ≡ true) (sym calm.waiting) (same_name (m.named s.memory NilObject)) in
+      subst (λ v. same_value v (Ref (m.named s.memory NilObject)) ≡ true) (sym calm.waiting) (same_ref (m.named s.memory NilObject)) in
       then_goes (get_device NewProcess) _ s s s.world.devices.new_process refl
       ∙ then_goes (of_page m NilObject) _ s s (Ref (m.named s.memory NilObject)) refl
       ∙ stays_by s s.world.devices.new_process (same_value s.world.devices.new_process (Ref (m.named s.memory NilObject))) e

@@ -2,9 +2,7 @@
 use Rattle.std.proofs.Common.{◌≡◌, ℕ, zero, suc, ◌+◌, ◌<◌, ◌≤◌, ◌==◌, Bool, true, false, List, [], ◌∷◌, ◌++◌, length, refl, arith}
 use Rattle.std.proofs.lemmas.Bool.Decides.{nat_tests}
 use Rattle.std.specs.Prelude.{if◌then◌else◌}
-use Rattle.st_emit.specs.declared.step.Constant.TheVariants.{Receiver, True, False, Nil, Context}
-use Rattle.st_emit.specs.declared.step.Place.{Place}
-use Rattle.st_emit.specs.declared.step.Place.TheVariants.{Temporary}
+use Rattle.st_emit.specs.declared.step.Constant.TheVariants.{Receiver, True, False}
 use Rattle.st_emit.specs.declared.form.OneSided.{OneSided}
 use Rattle.st_emit.specs.declared.form.OneSided.TheVariants.{IfTrue, IfFalse, And, Or}
 use Rattle.st_emit.specs.declared.form.TwoSided.{TwoSided}
@@ -13,9 +11,11 @@ use Rattle.st_emit.specs.declared.form.Loop.{Loop}
 use Rattle.st_emit.specs.declared.form.Loop.TheVariants.{WhileTrue, WhileFalse}
 use Rattle.st_emit.specs.Nodes as nodes
 use Rattle.st_emit.specs.Nodes.{Node, Body, Messages, Nodes}
+use Rattle.st_meaning.specs.declared.deed.Variable.{Variable}
+use Rattle.st_meaning.specs.declared.deed.Variable.TheVariants.{Temporary}
 use Rattle.st_meaning.specs.declared.deed.Value.{Value}
 use Rattle.st_meaning.specs.declared.deed.Value.TheVariants as values
-use Rattle.st_meaning.specs.Values.{AnswerView, DeedView, literal_value, small_value}
+use Rattle.st_meaning.specs.Values.{constant_value, AnswerView, DeedView, literal_value, small_value, variable_of}
 use Rattle.st_meaning.specs.Values as views
 use Rattle.st_meaning.specs.Runs.{Going, Outcome, went, over, long, stuck, unfinished, Run, gives, then_go, ◌>>=◌, did, ends, take_answer, assign_to, answer_to, make_block, return_value, be_unsure, jump_back, decide}
 use Rattle.st_meaning.specs.Traces.{nil, sided, chosen, goes_on, turns, value_of, body_value, messages_value, nodes_values, method_value}
@@ -74,7 +74,7 @@ module _ (most : ℕ) where
   unfolding be_unsure
   good_unsure n v = good_did n (views.unsure v) ends (good_ends n)
 
-  good_assign : (n : ℕ) (p : Place) (v : Value) → Good n (assign_to most p v)
+  good_assign : (n : ℕ) (p : Variable) (v : Value) → Good n (assign_to most p v)
   unfolding assign_to
   good_assign n p v = good_did n (views.assigned p v) _ (record { at = λ g l e. (omega arith, l) })
 
@@ -91,11 +91,10 @@ module _ (most : ℕ) where
   good_block n = record { at = λ g l e. (good_did n (views.made g.blocks) _ (record { at = λ h l e. (omega arith, l) })).at g l e }
 
   good_decide : {A : Type 0} (n : ℕ) (v : Value) (a b : Run A) → Good n a → Good n b → Good n (decide most v a b)
-  good_decide n (values.Constant True) a b h k = h
-  good_decide n (values.Constant False) a b h k = k
-  good_decide n (values.Constant Receiver) a b h k = good_unsure n (values.Constant Receiver)
-  good_decide n (values.Constant Nil) a b h k = good_unsure n (values.Constant Nil)
-  good_decide n (values.Constant Context) a b h k = good_unsure n (values.Constant Context)
+  good_decide n (values.Constant (suc zero)) a b h k = h
+  good_decide n (values.Constant (suc (suc zero))) a b h k = k
+  good_decide n (values.Constant zero) a b h k = good_unsure n (values.Constant zero)
+  good_decide n (values.Constant (suc (suc (suc i)))) a b h k = good_unsure n (values.Constant (suc (suc (suc i))))
   good_decide n (values.Number z) a b h k = good_unsure n (values.Number z)
   good_decide n (values.First q) a b h k = good_unsure n (values.First q)
   good_decide n (values.Literal i) a b h k = good_unsure n (values.Literal i)
@@ -105,8 +104,8 @@ module _ (most : ℕ) where
   good_sided : (n : ℕ) (side : OneSided) (v : Value) (a : Run Value) → Good n a → Good n (sided most side v a)
   good_sided n IfTrue v a h = good_decide n v a (gives nil) h (good_gives n nil)
   good_sided n IfFalse v a h = good_decide n v (gives nil) a (good_gives n nil) h
-  good_sided n And v a h = good_decide n v a (gives (values.Constant False)) h (good_gives n (values.Constant False))
-  good_sided n Or v a h = good_decide n v (gives (values.Constant True)) a (good_gives n (values.Constant True)) h
+  good_sided n And v a h = good_decide n v a (gives (constant_value False)) h (good_gives n (constant_value False))
+  good_sided n Or v a h = good_decide n v (gives (constant_value True)) a (good_gives n (constant_value True)) h
 
   good_chosen : (n : ℕ) (side : TwoSided) (v : Value) (a b : Run Value) → Good n a → Good n b → Good n (chosen most side v a b)
   good_chosen n TrueFirst v a b h k = good_decide n v a b h k
@@ -140,11 +139,11 @@ module _ (most : ℕ) where
 
   mutual
     good_value : (x : Node) (n : ℕ) → Good n (value_of most x n)
-    good_value (nodes.constant k) n = good_gives n (values.Constant k)
+    good_value (nodes.constant k) n = good_gives n (constant_value k)
     good_value (nodes.small k) n = good_gives n _
     good_value (nodes.literal x place) n = good_gives n (literal_value x place)
     good_value (nodes.variable p) n = record { at = λ g l e. (omega arith, l) }
-    good_value (nodes.assign p x) n = good_then n (value_of most x n) (λ v. assign_to most p v) (good_value x n) (λ v. good_assign n p v)
+    good_value (nodes.assign p x) n = good_then n (value_of most x n) (λ v. assign_to most (variable_of p) v) (good_value x n) (λ v. good_assign n (variable_of p) v)
     good_value (nodes.block f i c b) n = good_block n
     good_value (nodes.send above r ms) n = good_then n (value_of most r n) (λ v. messages_value most ms above v n) (good_value r n) (λ v. good_messages ms above v n)
     good_value (nodes.one_sided side x a) n = good_then n (value_of most x n) (λ v. sided most side v (body_value most a n)) (good_value x n) (λ v. good_sided n side v (body_value most a n) (good_body a n))
@@ -190,8 +189,8 @@ module _ (most : ℕ) where
       by_outcome g e unfinished q = q
 
   method_ends : (b : Body) (n : ℕ) → Ends n (method_value most b n)
-  method_ends nodes.nothing n = ends_return n (values.Constant Receiver)
-  method_ends (nodes.last x) n = ends_then n (value_of most x n) (λ v. return_value most (values.Constant Receiver)) (good_value x n) (λ v. ends_return n (values.Constant Receiver))
+  method_ends nodes.nothing n = ends_return n (constant_value Receiver)
+  method_ends (nodes.last x) n = ends_then n (value_of most x n) (λ v. return_value most (constant_value Receiver)) (good_value x n) (λ v. ends_return n (constant_value Receiver))
   method_ends (nodes.next x b) n = ends_then n (value_of most x n) (λ v. method_value most b n) (good_value x n) (λ v. method_ends b n)
   method_ends (nodes.returned x) n = ends_then n (value_of most x n) (λ v. return_value most v) (good_value x n) (λ v. ends_return n v)
 

@@ -3,12 +3,10 @@ use Rattle.std.proofs.Common.{◌≡◌, ℕ, zero, suc, ◌-◌, ◌<◌, ◌�
 use Rattle.std.proofs.lemmas.List.{reverse-append}
 use Rattle.std.proofs.lemmas.Option.{slice_get_past}
 use Rattle.std.specs.Prelude.{Result, Ok, Err, IfOk, IfErr, OnOk, if◌then◌else◌}
-use Rattle.st_emit.specs.declared.step.Constant.{Constant}
 use Rattle.st_emit.specs.declared.form.OneSided.{OneSided}
 use Rattle.st_emit.specs.declared.form.TwoSided.{TwoSided}
 use Rattle.st_emit.specs.declared.form.Loop.{Loop}
 use Rattle.st_meaning.specs.declared.deed.Value.{Value}
-use Rattle.st_meaning.specs.declared.deed.Value.TheVariants.{Constant as Known}
 use Rattle.st_meaning.specs.declared.arena.Statements.{Statements}
 use Rattle.st_meaning.specs.declared.arena.Node.{Node}
 use Rattle.st_meaning.specs.declared.arena.Act.{Act}
@@ -124,16 +122,16 @@ tested on b v old mid o c some is t = subst (λ (p : Option Bool). Tests on v ol
 pub untested : (on : Bool) (v : Value) (old mid : Course) (o : Option Bool) → o ≡ None → Tests on v old mid o → Tests on v old mid None
 untested on v old mid o none t = subst (λ (p : Option Bool). Tests on v old mid p) none t
 
-pub sided_is : (xs : List Node) (n : ℕ) (side : OneSided) (on b : Bool) (k : Constant) (v : Value) (a : Statements) (old mid : Course) → IsPassed side on k → Tests on v old mid (Some b)
-    → sided_in xs n side v a (going_view old) ≡ (if b then gives (Known k) else body_in xs n a) (going_view mid)
-sided_is xs n side on b k v a old mid is t = ap (λ (m : Run Value). m (going_view old)) (is v (body_in xs n a)) ∙ t (gives (Known k)) (body_in xs n a)
+pub sided_is : (xs : List Node) (n : ℕ) (side : OneSided) (on b : Bool) (k v : Value) (a : Statements) (old mid : Course) → IsPassed side on k → Tests on v old mid (Some b)
+    → sided_in xs n side v a (going_view old) ≡ (if b then gives k else body_in xs n a) (going_view mid)
+sided_is xs n side on b k v a old mid is t = ap (λ (m : Run Value). m (going_view old)) (is v (body_in xs n a)) ∙ t (gives k) (body_in xs n a)
 
-pub sided_over : (xs : List Node) (n : ℕ) (side : OneSided) (on : Bool) (k : Constant) (v : Value) (a : Statements) (old new : Course) → IsPassed side on k → Tests on v old new None
+pub sided_over : (xs : List Node) (n : ℕ) (side : OneSided) (on : Bool) (k v : Value) (a : Statements) (old new : Course) → IsPassed side on k → Tests on v old new None
     → sided_in xs n side v a (going_view old) ≡ over (going_view new).deeds
-sided_over xs n side on k v a old new is t = ap (λ (m : Run Value). m (going_view old)) (is v (body_in xs n a)) ∙ t (gives (Known k)) (body_in xs n a)
+sided_over xs n side on k v a old new is t = ap (λ (m : Run Value). m (going_view old)) (is v (body_in xs n a)) ∙ t (gives k) (body_in xs n a)
 
-pub sided_cut : (xs : List Node) (n : ℕ) (side : OneSided) (on : Bool) (k : Constant) (v : Value) (a : Statements) (old : Course) → IsPassed side on k → IsLongTest on v old → IsCut (sided_in xs n side v a) old
-sided_cut xs n side on k v a old is t = long_cut (sided_in xs n side v a (going_view old)) (ap (λ (m : Run Value). m (going_view old)) (is v (body_in xs n a)) ∙ t (gives (Known k)) (body_in xs n a))
+pub sided_cut : (xs : List Node) (n : ℕ) (side : OneSided) (on : Bool) (k v : Value) (a : Statements) (old : Course) → IsPassed side on k → IsLongTest on v old → IsCut (sided_in xs n side v a) old
+sided_cut xs n side on k v a old is t = long_cut (sided_in xs n side v a (going_view old)) (ap (λ (m : Run Value). m (going_view old)) (is v (body_in xs n a)) ∙ t (gives k) (body_in xs n a))
 
 pub chosen_is : (xs : List Node) (n : ℕ) (side : TwoSided) (on c : Bool) (v : Value) (a b : Statements) (old mid : Course) → IsFirstOn side on → Tests on v old mid (Some c)
     → chosen_in xs n side v a b (going_view old) ≡ (if c then body_in xs n a else body_in xs n b) (going_view mid)

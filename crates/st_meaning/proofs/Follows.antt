@@ -27,9 +27,10 @@ use Rattle.st_emit.specs.Emitting.{used, stored, send_step, choice, repeat, code
 use Rattle.st_resolved.specs.Placed.{IsCount, Placed, BodyPlaced, MessagesPlaced, NodesPlaced, IsFound, IsVariable}
 use Rattle.st_resolved.specs.Instructions.{read_as, long_count}
 use Rattle.st_resolved.proofs.Sizes.{size-append}
+use Rattle.st_meaning.specs.declared.deed.Variable.{Variable}
 use Rattle.st_meaning.specs.declared.deed.Value.{Value}
 use Rattle.st_meaning.specs.declared.deed.Value.TheVariants as values
-use Rattle.st_meaning.specs.Values.{assigned, unsure, returned as has_returned, literal_value, small_value}
+use Rattle.st_meaning.specs.Values.{constant_value, assigned, unsure, returned as has_returned, literal_value, small_value, variable_of}
 use Rattle.st_meaning.specs.Runs.{Going, Outcome, went, over, long, stuck, unfinished, Run, gives, then_go, ◌>>=◌, did, ends, changed, assign_to, answer_to, make_block, return_value, be_unsure, jump_back, decide, in_order, in_order_before}
 use Rattle.st_meaning.specs.Runs as runs
 use Rattle.st_meaning.specs.Traces.{nil, sided, turns, goes_on, value_of, body_value, messages_value, nodes_values}
@@ -40,7 +41,7 @@ use Rattle.st_meaning.proofs.Living.{Always, always_then, always_both, onward, o
 use Rattle.st_meaning.proofs.Leads as leads
 
 abbrev pub nil' : Value
-nil' = values.Constant Nil
+nil' = constant_value Nil
 
 -- what an expression leaves on the stack
 abbrev pub left_by : Use → List Value → Value → List Value
@@ -119,21 +120,19 @@ module _ (most : ℕ) (literals : List LiteralView) (bytes : List ℕ) where
       by_value : (on : Bool) (v : Value) → ((k : ℕ) → go (suc k) at (v ∷ s) g ≡ act most literals (JumpIf on d) (go k) (at + size_of (JumpIf on d)) (v ∷ s) g)
           → Leads (at + size_of (JumpIf on d) + d) s g at' st (jump g) → Leads (at + size_of (JumpIf on d)) s g at' st (stay g)
           → Leads at (v ∷ s) g at' st (on_boolean most on v jump stay g)
-      by_value true (values.Constant True) e j t = taken (values.Constant True) (at + size_of (JumpIf true d) + d) (jump g) e j
-      by_value true (values.Constant False) e j t = taken (values.Constant False) (at + size_of (JumpIf true d)) (stay g) e t
-      by_value true (values.Constant Receiver) e j t = unsure_leads (values.Constant Receiver) e
-      by_value true (values.Constant Nil) e j t = unsure_leads (values.Constant Nil) e
-      by_value true (values.Constant Context) e j t = unsure_leads (values.Constant Context) e
+      by_value true (values.Constant (suc zero)) e j t = taken (values.Constant (suc zero)) (at + size_of (JumpIf true d) + d) (jump g) e j
+      by_value true (values.Constant (suc (suc zero))) e j t = taken (values.Constant (suc (suc zero))) (at + size_of (JumpIf true d)) (stay g) e t
+      by_value true (values.Constant zero) e j t = unsure_leads (values.Constant zero) e
+      by_value true (values.Constant (suc (suc (suc i)))) e j t = unsure_leads (values.Constant (suc (suc (suc i)))) e
       by_value true (values.Number z) e j t = unsure_leads (values.Number z) e
       by_value true (values.First p) e j t = unsure_leads (values.First p) e
       by_value true (values.Literal n) e j t = unsure_leads (values.Literal n) e
       by_value true (values.Block n) e j t = unsure_leads (values.Block n) e
       by_value true (values.Answer n) e j t = unsure_leads (values.Answer n) e
-      by_value false (values.Constant True) e j t = taken (values.Constant True) (at + size_of (JumpIf false d)) (stay g) e t
-      by_value false (values.Constant False) e j t = taken (values.Constant False) (at + size_of (JumpIf false d) + d) (jump g) e j
-      by_value false (values.Constant Receiver) e j t = unsure_leads (values.Constant Receiver) e
-      by_value false (values.Constant Nil) e j t = unsure_leads (values.Constant Nil) e
-      by_value false (values.Constant Context) e j t = unsure_leads (values.Constant Context) e
+      by_value false (values.Constant (suc zero)) e j t = taken (values.Constant (suc zero)) (at + size_of (JumpIf false d)) (stay g) e t
+      by_value false (values.Constant (suc (suc zero))) e j t = taken (values.Constant (suc (suc zero))) (at + size_of (JumpIf false d) + d) (jump g) e j
+      by_value false (values.Constant zero) e j t = unsure_leads (values.Constant zero) e
+      by_value false (values.Constant (suc (suc (suc i)))) e j t = unsure_leads (values.Constant (suc (suc (suc i)))) e
       by_value false (values.Number z) e j t = unsure_leads (values.Number z) e
       by_value false (values.First p) e j t = unsure_leads (values.First p) e
       by_value false (values.Literal n) e j t = unsure_leads (values.Literal n) e
@@ -186,7 +185,7 @@ module _ (most : ℕ) (literals : List LiteralView) (bytes : List ℕ) where
   -- SENDS
 
   -- the arguments and the receiver of a message, as they stand on the stack
-  message_on : (vs acc : List Value) (r : Value) (s : List Value) (f : Value → List Value → List Value → codes.Walked Value) → codes.on_message (length vs) acc (vs ++ r ∷ s) f ≡ f r (in_order_before vs acc) s
+  message_on : (vs acc : List Value) (r : Value) (s : List Value) (f : Value → List Value → List Value → codes.Walked Variable Value) → codes.on_message (length vs) acc (vs ++ r ∷ s) f ≡ f r (in_order_before vs acc) s
   message_on [] acc r s f = refl
   message_on (v ∷ vs) acc r s f = message_on vs (v ∷ acc) r s f
 
@@ -220,8 +219,8 @@ module _ (most : ℕ) (literals : List LiteralView) (bytes : List ℕ) where
   sends true text (Special j) n at vs r s g xs len few p has k = absurd p.0
   sends false text (Special code) n at vs r s g xs len few p has k =
       let no : code == first_special + block_copy ≡ false = ne_eqb code (first_special + block_copy) p.0.other in
-      let copies : codes.Walked Value = codes.on_message 1 [] (vs ++ r ∷ s) (λ q arguments rest. codes.copied rest) in
-      let plain : Option (List ℕ) → codes.Walked Value = λ o. codes.on_some o (λ t. codes.sends false (arity t) t (vs ++ r ∷ s)) in
+      let copies : codes.Walked Variable Value = codes.on_message 1 [] (vs ++ r ∷ s) (λ q arguments rest. codes.copied rest) in
+      let plain : Option (List ℕ) → codes.Walked Variable Value = λ o. codes.on_some o (λ t. codes.sends false (arity t) t (vs ++ r ∷ s)) in
       act_at at (SendSpecial code) (vs ++ r ∷ s) g xs has k
       ∙ ap (λ (b : Bool). done most (if b then copies else plain (slice_get special_selectors (code - first_special))) (go k) (at + 1) g) no
       ∙ ap (λ (o : Option (List ℕ)). done most (plain o) (go k) (at + 1) g) p.0.is
@@ -260,14 +259,14 @@ module _ (most : ℕ) (literals : List LiteralView) (bytes : List ℕ) where
 
   -- VARIABLES AND LITERALS
 
-  reads : (p : Place) → IsVariable p → (f : Next) (at : ℕ) (s : List Value) (g : Going) → act most literals (Push p) f at s g ≡ f at (g.held p ∷ s) g
+  reads : (p : Place) → IsVariable p → (f : Next) (at : ℕ) (s : List Value) (g : Going) → act most literals (Push p) f at s g ≡ f at (g.held (variable_of p) ∷ s) g
   reads (Field n) v f at s g = refl
   reads (Temporary n) v f at s g = refl
   reads (Shared n) v f at s g = refl
   reads (Literal n) v f at s g = absurd v
 
   -- an assignment gives the value that was assigned
-  stored_same : (p : Place) (v : Value) (s : List Value) (k at : ℕ) (g : Going) → then_go (assign_to most p v g) (λ w. go k at (v ∷ s)) ≡ then_go (assign_to most p v g) (λ w. go k at (w ∷ s))
+  stored_same : (p : Variable) (v : Value) (s : List Value) (k at : ℕ) (g : Going) → then_go (assign_to most p v g) (λ w. go k at (v ∷ s)) ≡ then_go (assign_to most p v g) (λ w. go k at (w ∷ s))
   unfolding assign_to did
   stored_same p v s k at g = by_test (length g.deeds == most)
     where
@@ -279,9 +278,9 @@ module _ (most : ℕ) (literals : List LiteralView) (bytes : List ℕ) where
   literal_pushed : (x : LiteralView) (place : ℕ) (f : Next) (at : ℕ) (s : List Value) (g : Going) → slice_get literals place ≡ Some x → act most literals (Push (Literal place)) f at s g ≡ f at (literal_value x place ∷ s) g
   literal_pushed x place f at s g p = ap (λ (o : Option LiteralView). done most (codes.on_some (option_map (λ l. literal_value l place) o) (λ y. codes.went (y ∷ s))) f at g) p
 
-  pub stores : (u : Use) (p : Place) (at : ℕ) (v : Value) (s : List Value) (g : Going) (xs : List Step) → Stand at (stored u p ∷ xs) → Leads at (v ∷ s) g (at + size_of (stored u p)) (left_by u s) (assign_to most p v g)
-  stores for_value p at v s g xs has = leads.act_leads most literals bytes at _ (v ∷ s) g (λ w. w ∷ s) (assign_to most p v g) (λ k. act_at at (Store p) (v ∷ s) g xs has k ∙ stored_same p v s k (at + size_of (Store p)) g)
-  stores for_effect p at v s g xs has = leads.act_leads most literals bytes at _ (v ∷ s) g (λ w. s) (assign_to most p v g) (act_at at (PopStore p) (v ∷ s) g xs has)
+  pub stores : (u : Use) (p : Place) (at : ℕ) (v : Value) (s : List Value) (g : Going) (xs : List Step) → Stand at (stored u p ∷ xs) → Leads at (v ∷ s) g (at + size_of (stored u p)) (left_by u s) (assign_to most (variable_of p) v g)
+  stores for_value p at v s g xs has = leads.act_leads most literals bytes at _ (v ∷ s) g (λ w. w ∷ s) (assign_to most (variable_of p) v g) (λ k. act_at at (Store p) (v ∷ s) g xs has k ∙ stored_same (variable_of p) v s k (at + size_of (Store p)) g)
+  stores for_effect p at v s g xs has = leads.act_leads most literals bytes at _ (v ∷ s) g (λ w. s) (assign_to most (variable_of p) v g) (act_at at (PopStore p) (v ∷ s) g xs has)
 
   -- BLOCKS
 
@@ -310,8 +309,8 @@ module _ (most : ℕ) (literals : List LiteralView) (bytes : List ℕ) where
   block_leads : (n : Node) (inside : List Step) (at : ℕ) (s : List Value) (g : Going) → Placed literals n → IsCount n → Stand at (block_code (code_of for_value n) inside)
       → Leads at s g (at + size (block_code (code_of for_value n) inside)) (λ v. v ∷ s) (make_block most g)
   block_leads n inside at s g p c has =
-      leads.comes_leads most literals bytes at at2 _ s (counted.0 ∷ values.Constant Context ∷ s) g g (λ (v : Value). v ∷ s) (make_block most g) to_copy
-      (then_at (make_block most g) (act_at at2 (SendSpecial (first_special + block_copy)) (counted.0 ∷ values.Constant Context ∷ s) g (JumpPast (size inside) ∷ inside) stand_copy))
+      leads.comes_leads most literals bytes at at2 _ s (counted.0 ∷ constant_value Context ∷ s) g g (λ (v : Value). v ∷ s) (make_block most g) to_copy
+      (then_at (make_block most g) (act_at at2 (SendSpecial (first_special + block_copy)) (counted.0 ∷ constant_value Context ∷ s) g (JumpPast (size inside) ∷ inside) stand_copy))
     where
       code : List Step
       code = code_of for_value n
@@ -328,16 +327,16 @@ module _ (most : ℕ) (literals : List LiteralView) (bytes : List ℕ) where
       stand_copy : Stand at2 rest
       stand_copy = back at1 code rest has.1
 
-      counted : (v : Value) × leads.Comes most literals bytes at1 (values.Constant Context ∷ s) g at2 (v ∷ values.Constant Context ∷ s) g
-      counted = count_comes n at1 (values.Constant Context ∷ s) g p c (front at1 code rest has.1)
+      counted : (v : Value) × leads.Comes most literals bytes at1 (constant_value Context ∷ s) g at2 (v ∷ constant_value Context ∷ s) g
+      counted = count_comes n at1 (constant_value Context ∷ s) g p c (front at1 code rest has.1)
 
-      to_copy : leads.Comes most literals bytes at s g at2 (counted.0 ∷ values.Constant Context ∷ s) g
+      to_copy : leads.Comes most literals bytes at s g at2 (counted.0 ∷ constant_value Context ∷ s) g
       to_copy = record { by = λ k. let b = counted.1.by k in (suc b.0, act_at at (PushConstant Context) s g _ has b.0 ∙ b.1) }
 
       end : ℕ
       end = at + size (block_code code inside)
 
-      then_at : (o : Outcome Value) → ((k : ℕ) → go (suc k) at2 (counted.0 ∷ values.Constant Context ∷ s) g ≡ then_go o (λ v. go k (at2 + 1) (v ∷ s))) → Leads at2 (counted.0 ∷ values.Constant Context ∷ s) g end (λ (v : Value). v ∷ s) o
+      then_at : (o : Outcome Value) → ((k : ℕ) → go (suc k) at2 (counted.0 ∷ constant_value Context ∷ s) g ≡ then_go o (λ v. go k (at2 + 1) (v ∷ s))) → Leads at2 (counted.0 ∷ constant_value Context ∷ s) g end (λ (v : Value). v ∷ s) o
       then_at (went v g') h =
           let e : at2 + 1 + 2 + size inside ≡ end = omega (arith, size-append code rest) in
           record { by = λ k. (suc (suc k), h (suc k) ∙ act_at (at2 + 1) (JumpPast (size inside)) (v ∷ s) g' inside stand_copy.1 k ∙ past (size inside) (go k) (at2 + 1 + 2) (v ∷ s) g' ∙ ap (λ i. go k i (v ∷ s) g') e) }
@@ -355,9 +354,9 @@ module _ (most : ℕ) (literals : List LiteralView) (bytes : List ℕ) where
   side_leads IfTrue a at v s g run_a has ra = choice_leads false a (PushConstant Nil ∷ []) at v s g (λ (w : Value). w ∷ s) run_a (gives nil') has ra (λ at1 h. pushes at1 (PushConstant Nil) [] s g nil' h (λ j. refl))
   side_leads IfFalse a at v s g run_a has ra = choice_leads true a (PushConstant Nil ∷ []) at v s g (λ (w : Value). w ∷ s) run_a (gives nil') has ra (λ at1 h. pushes at1 (PushConstant Nil) [] s g nil' h (λ j. refl))
   side_leads And a at v s g run_a has ra =
-      choice_leads false a (PushConstant False ∷ []) at v s g (λ (w : Value). w ∷ s) run_a (gives (values.Constant False)) has ra (λ at1 h. pushes at1 (PushConstant False) [] s g (values.Constant False) h (λ j. refl))
+      choice_leads false a (PushConstant False ∷ []) at v s g (λ (w : Value). w ∷ s) run_a (gives (constant_value False)) has ra (λ at1 h. pushes at1 (PushConstant False) [] s g (constant_value False) h (λ j. refl))
   side_leads Or a at v s g run_a has ra =
-      choice_leads true a (PushConstant True ∷ []) at v s g (λ (w : Value). w ∷ s) run_a (gives (values.Constant True)) has ra (λ at1 h. pushes at1 (PushConstant True) [] s g (values.Constant True) h (λ j. refl))
+      choice_leads true a (PushConstant True ∷ []) at v s g (λ (w : Value). w ∷ s) run_a (gives (constant_value True)) has ra (λ at1 h. pushes at1 (PushConstant True) [] s g (constant_value True) h (λ j. refl))
 
   two_leads : (side : TwoSided) (a b : List Step) (at : ℕ) (v : Value) (s : List Value) (g : Going) (run_a run_b : Run Value)
       → Stand at (chosen side [] a b)
@@ -456,14 +455,14 @@ module _ (most : ℕ) (literals : List LiteralView) (bytes : List ℕ) where
 
   -- RETURNS
 
-  pub constant_returns : (k : Constant) {A : Type 0} (at at' : ℕ) (s : List Value) (g : Going) (st : A → List Value) → Stand at (return_constant k) → Leads at s g at' st (return_value most {A = A} (values.Constant k) g)
-  constant_returns Receiver at at' s g st has = returns_leads at at' (ReturnConstant Receiver) [] s g st (values.Constant Receiver) has (λ k. refl)
-  constant_returns True at at' s g st has = returns_leads at at' (ReturnConstant True) [] s g st (values.Constant True) has (λ k. refl)
-  constant_returns False at at' s g st has = returns_leads at at' (ReturnConstant False) [] s g st (values.Constant False) has (λ k. refl)
-  constant_returns Nil at at' s g st has = returns_leads at at' (ReturnConstant Nil) [] s g st (values.Constant Nil) has (λ k. refl)
+  pub constant_returns : (k : Constant) {A : Type 0} (at at' : ℕ) (s : List Value) (g : Going) (st : A → List Value) → Stand at (return_constant k) → Leads at s g at' st (return_value most {A = A} (constant_value k) g)
+  constant_returns Receiver at at' s g st has = returns_leads at at' (ReturnConstant Receiver) [] s g st (constant_value Receiver) has (λ k. refl)
+  constant_returns True at at' s g st has = returns_leads at at' (ReturnConstant True) [] s g st (constant_value True) has (λ k. refl)
+  constant_returns False at at' s g st has = returns_leads at at' (ReturnConstant False) [] s g st (constant_value False) has (λ k. refl)
+  constant_returns Nil at at' s g st has = returns_leads at at' (ReturnConstant Nil) [] s g st (constant_value Nil) has (λ k. refl)
   constant_returns Context at at' s g st has =
-      leads.comes_leads most literals bytes at (at + 1) at' s (values.Constant Context ∷ s) g g st _ (record { by = λ k. (suc k, act_at at (PushConstant Context) s g (ReturnTop ∷ []) has k) })
-      (returns_leads (at + 1) at' ReturnTop [] (values.Constant Context ∷ s) g st (values.Constant Context) has.1 (λ k. refl))
+      leads.comes_leads most literals bytes at (at + 1) at' s (constant_value Context ∷ s) g g st _ (record { by = λ k. (suc k, act_at at (PushConstant Context) s g (ReturnTop ∷ []) has k) })
+      (returns_leads (at + 1) at' ReturnTop [] (constant_value Context ∷ s) g st (constant_value Context) has.1 (λ k. refl))
 
   -- the value of a node that is no constant, returned
   value_returns : {A : Type 0} (code : List Step) (at at' : ℕ) (s : List Value) (g : Going) (st : A → List Value) (o : Outcome Value) → Stand at (code ++ ReturnTop ∷ [])
@@ -491,19 +490,19 @@ module _ (most : ℕ) (literals : List LiteralView) (bytes : List ℕ) where
   mutual
     pub node_leads : (n : Node) (u : Use) (m at : ℕ) (s : List Value) (g : Going) → Placed literals n → Few n → Stand at (code_of u n)
         → Leads at s g (at + size (code_of u n)) (left_by u s) (value_of most n m g)
-    node_leads (constant k) u m at s g p few has = used_leads u at (PushConstant k ∷ []) s g (went (values.Constant k) g) has (λ h. pushes at (PushConstant k) [] s g (values.Constant k) h (λ j. refl))
+    node_leads (constant k) u m at s g p few has = used_leads u at (PushConstant k ∷ []) s g (went (constant_value k) g) has (λ h. pushes at (PushConstant k) [] s g (constant_value k) h (λ j. refl))
     node_leads (small k) u m at s g p few has =
         used_leads u at (PushNumber k ∷ []) s g (went (small_value k) g) has (λ h. pushes at (PushNumber k) [] s g (small_value k) h (λ j. refl))
     node_leads (literal x place) u m at s g p few has =
         used_leads u at (Push (Literal place) ∷ []) s g (went (literal_value x place) g) has
         (λ h. pushes at (Push (Literal place)) [] s g (literal_value x place) h (λ j. literal_pushed x place (go j) (at + size_of (Push (Literal place))) s g p))
     node_leads (variable q) u m at s g p few has =
-        used_leads u at (Push q ∷ []) s g (went (g.held q) g) has (λ h. pushes at (Push q) [] s g (g.held q) h (λ j. reads q p (go j) (at + size_of (Push q)) s g))
+        used_leads u at (Push q ∷ []) s g (went (g.held (variable_of q)) g) has (λ h. pushes at (Push q) [] s g (g.held (variable_of q)) h (λ j. reads q p (go j) (at + size_of (Push q)) s g))
     node_leads (assign q x) u m at s g p few has =
         let c = code_of for_value x in
         let e : at + size c + size_of (stored u q) ≡ at + size (c ++ stored u q ∷ []) = omega (arith, size-append c (stored u q ∷ [])) in
         at_end _ _ _ s g (left_by u s) (value_of most (assign q x) m g) e
-        (then_leads at (at + size c) _ s g (λ v. v ∷ s) (left_by u s) (value_of most x m g) (λ v. assign_to most q v) (node_leads x for_value m at s g p few (front at c _ has))
+        (then_leads at (at + size c) _ s g (λ v. v ∷ s) (left_by u s) (value_of most x m g) (λ v. assign_to most (variable_of q) v) (node_leads x for_value m at s g p few (front at c _ has))
         (λ v g'. stores u q (at + size c) v s g' [] (back at c _ has)))
     node_leads (block f i x b) u m at s g p few has =
         used_leads u at (block_code (code_of for_value x) (pop_arguments f i ++ (body_code b ++ block_end (returns b)))) s g (make_block most g) has

@@ -26,5 +26,6 @@ pub mod Arenas
 pub mod Following
 pub mod Meant
 pub mod Shaped
+pub mod Numbers
 pub mod Sketching
 pub mod WholeTrace

@@ -1,7 +1,6 @@
 -- A run goes on behind a node only where the node's code goes on.
 use Rattle.std.proofs.Common.{◌≡◌, ℕ, zero, suc, ◌+◌, ◌<◌, ◌==◌, Bool, true, false, ◌&&◌, ◌||◌, List, [], ◌∷◌, ◌++◌, length, refl}
 use Rattle.std.specs.Prelude.{if◌then◌else◌}
-use Rattle.st_emit.specs.declared.step.Constant.TheVariants.{Receiver, True, False, Nil, Context}
 use Rattle.st_emit.specs.declared.form.TwoSided.{TwoSided}
 use Rattle.st_emit.specs.declared.form.TwoSided.TheVariants.{TrueFirst, FalseFirst}
 use Rattle.st_emit.specs.declared.form.Loop.{Loop}
@@ -11,10 +10,12 @@ use Rattle.st_emit.specs.Nodes.{Node, constant, small, literal, variable, assign
 use Rattle.st_resolved.specs.Placed.{IsCount, Placed, BodyPlaced, MessagesPlaced, NodesPlaced}
 use Rattle.st_meaning.specs.declared.deed.Value.{Value}
 use Rattle.st_meaning.specs.declared.deed.Value.TheVariants as values
-use Rattle.st_meaning.specs.Values.{DeedView}
+use Rattle.st_meaning.specs.Values.{DeedView, variable_of}
 use Rattle.st_meaning.specs.Values as views
 use Rattle.st_meaning.specs.Runs.{Going, Outcome, went, over, long, stuck, unfinished, Run, gives, then_go, ◌>>=◌, did, ends, assign_to, make_block, return_value, be_unsure, jump_back, decide}
 use Rattle.st_meaning.specs.Traces.{nil, sided, chosen, goes_on, turns, value_of, body_value, messages_value, nodes_values}
+use Rattle.std.proofs.lemmas.Bool.{and_from, or_left}
+use Rattle.st_scan.proofs.Classes.{or_second}
 
 -- WHAT EACH VALUE IS
 
@@ -118,18 +119,6 @@ abbrev mutual
   NodesFew none = Unit {0}
   NodesFew (node n ns) = Few n × (goes n ≡ true → NodesFew ns)
 
-and_true : (a b : Bool) → a ≡ true → b ≡ true → (a && b) ≡ true
-and_true true b e f = f
-and_true false b e f = absurd cc
-
-or_first : (a b : Bool) → a ≡ true → (a || b) ≡ true
-or_first true b e = refl
-or_first false b e = absurd cc
-
-or_second : (a b : Bool) → b ≡ true → (a || b) ≡ true
-or_second true b e = refl
-or_second false b e = e
-
 -- a block's count always gives a value
 pub count_goes : (n : Node) → IsCount n → goes n ≡ true
 count_goes (small k) c = refl
@@ -169,11 +158,10 @@ module _ (most : ℕ) (literals : List LiteralView) where
       by_test false = k (record g { backs = g.backs + 1 })
 
   decide_onward : {A : Type 0} (P : Type 0) (v : Value) (a b : Run A) (g : Going) → Onward P (a g) → Onward P (b g) → Onward P (decide most v a b g)
-  decide_onward P (values.Constant True) a b g h k = h
-  decide_onward P (values.Constant False) a b g h k = k
-  decide_onward P (values.Constant Receiver) a b g h k = unsure_onward _ P (values.Constant Receiver) g
-  decide_onward P (values.Constant Nil) a b g h k = unsure_onward _ P (values.Constant Nil) g
-  decide_onward P (values.Constant Context) a b g h k = unsure_onward _ P (values.Constant Context) g
+  decide_onward P (values.Constant (suc zero)) a b g h k = h
+  decide_onward P (values.Constant (suc (suc zero))) a b g h k = k
+  decide_onward P (values.Constant zero) a b g h k = unsure_onward _ P (values.Constant zero) g
+  decide_onward P (values.Constant (suc (suc (suc i)))) a b g h k = unsure_onward _ P (values.Constant (suc (suc (suc i)))) g
   decide_onward P (values.Number z) a b g h k = unsure_onward _ P (values.Number z) g
   decide_onward P (values.First q) a b g h k = unsure_onward _ P (values.First q) g
   decide_onward P (values.Literal i) a b g h k = unsure_onward _ P (values.Literal i) g
@@ -202,20 +190,20 @@ module _ (most : ℕ) (literals : List LiteralView) where
     lives (small k) n g p = refl
     lives (literal l place) n g p = refl
     lives (variable q) n g p = refl
-    lives (assign q x) n g p = onward_then (goes x ≡ true) (goes x ≡ true) (value_of most x n g) (λ v. assign_to most q v) (lives x n g p) (λ v g1 h. onward (goes x ≡ true) (assign_to most q v g1) h)
+    lives (assign q x) n g p = onward_then (goes x ≡ true) (goes x ≡ true) (value_of most x n g) (λ v. assign_to most (variable_of q) v) (lives x n g p) (λ v g1 h. onward (goes x ≡ true) (assign_to most (variable_of q) v g1) h)
     lives (block f i c b) n g p = onward (goes c ≡ true) (make_block most g) (count_goes c p.1)
     lives (send above r ms) n g p =
         onward_then (goes r ≡ true) ((goes r && messages_go ms) ≡ true) (value_of most r n g) (λ v. messages_value most ms above v n) (lives r n g p.0)
-        (λ v g1 h. onward_more (messages_go ms ≡ true) ((goes r && messages_go ms) ≡ true) (messages_value most ms above v n g1) (messages_live ms above v n g1 p.1) (and_true (goes r) (messages_go ms) h))
+        (λ v g1 h. onward_more (messages_go ms ≡ true) ((goes r && messages_go ms) ≡ true) (messages_value most ms above v n g1) (messages_live ms above v n g1 p.1) (and_from (goes r) (messages_go ms) h))
     lives (one_sided side x a) n g p =
         onward_then (goes x ≡ true) (goes x ≡ true) (value_of most x n g) (λ v. sided most side v (body_value most a n)) (lives x n g p.0) (λ v g1 h. onward (goes x ≡ true) (sided most side v (body_value most a n) g1) h)
     lives (two_sided side x a b) n g p =
         onward_then (goes x ≡ true) ((goes x && (body_goes a || body_goes b)) ≡ true) (value_of most x n g) (λ v. chosen most side v (body_value most a n) (body_value most b n)) (lives x n g p.0)
         (λ v g1 h. onward_more ((body_goes a || body_goes b) ≡ true) ((goes x && (body_goes a || body_goes b)) ≡ true) (chosen most side v (body_value most a n) (body_value most b n) g1)
         (chosen_onward ((body_goes a || body_goes b) ≡ true) side v (body_value most a n) (body_value most b n) g1
-        (onward_more (body_goes a ≡ true) ((body_goes a || body_goes b) ≡ true) (body_value most a n g1) (body_lives a n g1 p.1) (or_first (body_goes a) (body_goes b)))
+        (onward_more (body_goes a ≡ true) ((body_goes a || body_goes b) ≡ true) (body_value most a n g1) (body_lives a n g1 p.1) (or_left (body_goes a) (body_goes b)))
         (onward_more (body_goes b ≡ true) ((body_goes a || body_goes b) ≡ true) (body_value most b n g1) (body_lives b n g1 p.2) (or_second (body_goes a) (body_goes b))))
-        (and_true (goes x) (body_goes a || body_goes b) h))
+        (and_from (goes x) (body_goes a || body_goes b) h))
     lives (loop kind x a) n g p = turns_onward (body_goes x ≡ true) n kind (body_value most x n) (body_value most a n) g (λ h. body_lives x n h p.0)
 
     pub body_lives : (b : Body) (n : ℕ) (g : Going) → BodyPlaced literals b → Onward (body_goes b ≡ true) (body_value most b n g)
@@ -223,7 +211,7 @@ module _ (most : ℕ) (literals : List LiteralView) where
     body_lives (last x) n g p = lives x n g p
     body_lives (next x b) n g p =
         onward_then (goes x ≡ true) ((goes x && body_goes b) ≡ true) (value_of most x n g) (λ v. body_value most b n) (lives x n g p.0)
-        (λ v g1 h. onward_more (body_goes b ≡ true) ((goes x && body_goes b) ≡ true) (body_value most b n g1) (body_lives b n g1 p.1) (and_true (goes x) (body_goes b) h))
+        (λ v g1 h. onward_more (body_goes b ≡ true) ((goes x && body_goes b) ≡ true) (body_value most b n g1) (body_lives b n g1 p.1) (and_from (goes x) (body_goes b) h))
     body_lives (returned x) n g p =
         onward_then (Unit {0}) (false ≡ true) (value_of most x n g) (λ v. return_value most v) (onward (Unit {0}) (value_of most x n g) tt) (λ v g1 h. return_onward Value (false ≡ true) v g1)
 
@@ -233,10 +221,10 @@ module _ (most : ℕ) (literals : List LiteralView) where
     messages_live (also s ns ms) above r n g p =
         onward_then (nodes_go ns ≡ true) ((nodes_go ns && messages_go ms) ≡ true) _ (λ v. messages_value most ms above r n)
         (onward_then (nodes_go ns ≡ true) (nodes_go ns ≡ true) (nodes_values most ns [] n g) _ (nodes_live ns [] n g p.0) (λ vs g1 h. onward (nodes_go ns ≡ true) _ h))
-        (λ v g1 h. onward_more (messages_go ms ≡ true) ((nodes_go ns && messages_go ms) ≡ true) (messages_value most ms above r n g1) (messages_live ms above r n g1 p.2) (and_true (nodes_go ns) (messages_go ms) h))
+        (λ v g1 h. onward_more (messages_go ms ≡ true) ((nodes_go ns && messages_go ms) ≡ true) (messages_value most ms above r n g1) (messages_live ms above r n g1 p.2) (and_from (nodes_go ns) (messages_go ms) h))
 
     pub nodes_live : (ns : Nodes) (vs : List Value) (n : ℕ) (g : Going) → NodesPlaced literals ns → Onward (nodes_go ns ≡ true) (nodes_values most ns vs n g)
     nodes_live none vs n g p = refl
     nodes_live (node x xs) vs n g p =
         onward_then (goes x ≡ true) ((goes x && nodes_go xs) ≡ true) (value_of most x n g) (λ v. nodes_values most xs (v ∷ vs) n) (lives x n g p.0)
-        (λ v g1 h. onward_more (nodes_go xs ≡ true) ((goes x && nodes_go xs) ≡ true) (nodes_values most xs (v ∷ vs) n g1) (nodes_live xs (v ∷ vs) n g1 p.1) (and_true (goes x) (nodes_go xs) h))
+        (λ v g1 h. onward_more (nodes_go xs ≡ true) ((goes x && nodes_go xs) ≡ true) (nodes_values most xs (v ∷ vs) n g1) (nodes_live xs (v ∷ vs) n g1 p.1) (and_from (goes x) (nodes_go xs) h))

@@ -2,10 +2,10 @@
 use Rattle.std.proofs.Common.{◌≡◌, ℕ, zero, suc, ◌+◌, ◌-◌, ◌≤◌, ◌==◌, Bool, true, false, List, ◌∷◌, drop, Option, Some, None, sym, ◌∙◌, subst, ⊎_elim, arith}
 use Rattle.std.specs.Prelude.{if◌then◌else◌}
 use Rattle.std.proofs.lemmas.Bool.{cases_lt}
-use Rattle.st_emit.specs.declared.step.Constant.TheVariants.{Receiver, True, False, Nil, Context}
 use Rattle.st_emit.specs.Literals.{LiteralView}
 use Rattle.st_resolved.specs.declared.reading.Found.{Found}
 use Rattle.st_resolved.specs.Instructions.{instruction}
+use Rattle.st_meaning.specs.declared.deed.Variable.{Variable}
 use Rattle.st_meaning.specs.declared.deed.Value.{Value}
 use Rattle.st_meaning.specs.declared.deed.Value.TheVariants as values
 use Rattle.st_meaning.specs.Runs.{Going, Outcome, went, over, long, stuck, unfinished, Run, then_go, ◌>>=◌, answer_to, make_block, assign_to, jump_back, decide}
@@ -48,11 +48,10 @@ then_extends m k k' h g p i e = by_outcome (m g) e
 
 module _ (most : ℕ) (literals : List LiteralView) where
   decide_extends : (v : Value) (a b a' b' : Run Value) → Extends a a' → Extends b b' → Extends (decide most v a b) (decide most v a' b')
-  decide_extends (values.Constant True) a b a' b' h j g p i e = h g p i e
-  decide_extends (values.Constant False) a b a' b' h j g p i e = j g p i e
-  decide_extends (values.Constant Receiver) a b a' b' h j g p i e = e
-  decide_extends (values.Constant Nil) a b a' b' h j g p i e = e
-  decide_extends (values.Constant Context) a b a' b' h j g p i e = e
+  decide_extends (values.Constant (suc zero)) a b a' b' h j g p i e = h g p i e
+  decide_extends (values.Constant (suc (suc zero))) a b a' b' h j g p i e = j g p i e
+  decide_extends (values.Constant zero) a b a' b' h j g p i e = e
+  decide_extends (values.Constant (suc (suc (suc n)))) a b a' b' h j g p i e = e
   decide_extends (values.Number z) a b a' b' h j g p i e = e
   decide_extends (values.First q) a b a' b' h j g p i e = e
   decide_extends (values.Literal n) a b a' b' h j g p i e = e
@@ -71,7 +70,7 @@ module _ (most : ℕ) (literals : List LiteralView) where
       by_test true e = e
       by_test false e = h (record g { backs = g.backs + 1 }) p i e
 
-  done_extends : (w : Walked Value) (f f' : Next) (at : ℕ) → NextExtends f f' → Extends (done most w f at) (done most w f' at)
+  done_extends : (w : Walked Variable Value) (f f' : Next) (at : ℕ) → NextExtends f f' → Extends (done most w f at) (done most w f' at)
   done_extends (codes.went s) f f' at h = h at s
   done_extends (codes.stored q v s) f f' at h = then_extends (assign_to most q v) (λ w. f at s) (λ w. f' at s) (λ w. h at s)
   done_extends (codes.sent r text arguments above s) f f' at h = then_extends (answer_to most r text arguments above) (λ v. f at (v ∷ s)) (λ v. f' at (v ∷ s)) (λ v. h at (v ∷ s))

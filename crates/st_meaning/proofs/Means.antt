@@ -1,6 +1,5 @@
 -- The walk of a method's code is the trace of its tree, and so it is with each of its blocks.
-use Rattle.std.proofs.Common.{◌≡◌, ℕ, ◌+◌, ◌≤◌, Bool, true, false, ◌||◌, List, [], ◌∷◌, ◌++◌, length, None, refl, ap, ◌∙◌, subst, arith}
-use Rattle.std.proofs.lemmas.Bool.Decides.{nat_tests}
+use Rattle.std.proofs.Common.{◌≡◌, ℕ, ◌+◌, ◌≤◌, ◌||◌, List, [], ◌∷◌, ◌++◌, length, None, refl, ap, ◌∙◌, subst, arith}
 use Rattle.std.specs.Prelude.{nat_lt}
 use Rattle.std.proofs.Common.{append_assoc, drop_at, length-append}
 use Rattle.st_scan.specs.Views.{MethodView}
@@ -16,7 +15,7 @@ use Rattle.st_resolved.specs.Instructions.{instruction, AllFit}
 use Rattle.st_resolved.specs.Placed.{BodyPlaced}
 use Rattle.st_resolved.specs.Right.{RightStatements}
 use Rattle.st_resolved.proofs.Decoding.{reads_back}
-use Rattle.st_resolved.proofs.Wholes.{few_words, placed, fit}
+use Rattle.st_resolved.proofs.Wholes.{few_words, placed, fit, not_more}
 use Rattle.st_meaning.specs.declared.deed.Value.TheVariants.{First}
 use Rattle.st_meaning.specs.Values.{AnswerView}
 use Rattle.st_meaning.specs.Blocks.{OfBlock, EachOfBody, arguments_on, block_trace, block_walk}
@@ -29,6 +28,7 @@ use Rattle.st_meaning.proofs.Enough.{has_trace, block_has_trace}
 use Rattle.st_meaning.proofs.EachBlock.{Stands, each_of_method}
 use Rattle.st_meaning.proofs.Room.{method_few, method_each}
 use Rattle.st_meaning.proofs.Methods.{method_comes, block_comes}
+use Rattle.st_scan.proofs.Classes.{neither}
 
 -- the instructions stand in their bytes
 all_stand : (most : ℕ) (literals : List LiteralView) (xs : List Step) (before : List ℕ) → AllFit xs → leads.Stand most literals (before ++ all_bytes xs) (length before) xs
@@ -40,13 +40,6 @@ all_stand most literals (x ∷ xs) before h =
     let rest = all_stand most literals xs (before ++ bytes_of x) h.1 in
     let moved = subst (λ b. leads.Stand most literals b (length (before ++ bytes_of x)) xs) (append_assoc before (bytes_of x) (all_bytes xs)) rest in
     (here, subst (λ i. leads.Stand most literals bytes i xs) n moved)
-
-no_more : (m n : ℕ) → nat_lt m n ≡ false → n ≤ m
-no_more m n e = grind (arith, nat_tests)
-
-neither : (a b : Bool) → (a || b) ≡ false → (a ≡ false) × (b ≡ false)
-neither true b e = absurd cc
-neither false b e = (refl, e)
 
 module _ (most : ℕ) (tree : MethodView) (names : NamesView) (right : RightStatements tree.body) (sound : fault tree names ≡ None) where
   abbrev b : Body
@@ -61,7 +54,7 @@ module _ (most : ℕ) (tree : MethodView) (names : NamesView) (right : RightStat
   words : ((depth tree names).greatest ≤ 255) × ((depth tree names).blocks ≤ 255)
   words =
       let no = neither (nat_lt large_room (variables tree names + (depth tree names).greatest)) (nat_lt large_room (depth tree names).blocks) (few_words names tree sound) in
-      (omega (arith, no_more large_room (variables tree names + (depth tree names).greatest) no.0), omega (arith, no_more large_room (depth tree names).blocks no.1))
+      (omega (arith, not_more large_room (variables tree names + (depth tree names).greatest) no.0), omega (arith, not_more large_room (depth tree names).blocks no.1))
 
   pub walk_is : (answers : List AnswerView) → walk_of most (length tree.arguments) (literals tree names) bytes answers ≡ trace_of most (length tree.arguments) b answers
   walk_is answers =

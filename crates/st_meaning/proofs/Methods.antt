@@ -1,7 +1,7 @@
 -- The walk over a method's code, and over a block's, does what its trace does.
 use Rattle.std.proofs.Common.{◌≡◌, ℕ, zero, suc, ◌+◌, Bool, true, false, ◌&&◌, List, [], ◌∷◌, ◌++◌, refl, ap, arith}
 use Rattle.st_emit.specs.declared.step.Constant.TheVariants.{Receiver}
-use Rattle.st_emit.specs.declared.step.Place.TheVariants.{Temporary}
+use Rattle.st_emit.specs.declared.step.Place.TheVariants as place
 use Rattle.st_emit.specs.declared.step.Step.{Step}
 use Rattle.st_emit.specs.declared.step.Step.TheVariants.{PopStore, ReturnBlock}
 use Rattle.st_emit.specs.Literals.{LiteralView}
@@ -9,8 +9,10 @@ use Rattle.st_emit.specs.Steps.{size, size_of}
 use Rattle.st_emit.specs.Nodes.{Body, nothing, last, next, returned, returns}
 use Rattle.st_emit.specs.Emitting.{for_value, for_effect, code_of, body_code, block_end, method_code, pop_arguments}
 use Rattle.st_resolved.specs.Placed.{BodyPlaced}
+use Rattle.st_meaning.specs.Values.{constant_value}
+use Rattle.st_meaning.specs.declared.deed.Variable.TheVariants.{Temporary}
 use Rattle.st_meaning.specs.declared.deed.Value.{Value}
-use Rattle.st_meaning.specs.declared.deed.Value.TheVariants.{Constant, First}
+use Rattle.st_meaning.specs.declared.deed.Value.TheVariants.{First}
 use Rattle.st_meaning.specs.Runs.{Going, Outcome, went, over, long, stuck, unfinished, then_go, ◌>>=◌, return_value, assign_to}
 use Rattle.st_meaning.specs.Traces.{value_of, body_value, method_value}
 use Rattle.st_meaning.specs.Walks.{walk}
@@ -32,7 +34,7 @@ module _ (most : ℕ) (literals : List LiteralView) (bytes : List ℕ) where
   method_leads nothing m at end g st p few has = constant_returns most literals bytes Receiver at end [] g st has
   method_leads (last n) m at end g st p few has =
       let c = code_of for_effect n in
-      then_leads most literals bytes at (at + size c) end [] g (λ (v : Value). []) st (value_of most n m g) (λ v. return_value most (Constant Receiver))
+      then_leads most literals bytes at (at + size c) end [] g (λ (v : Value). []) st (value_of most n m g) (λ v. return_value most (constant_value Receiver))
       (node_leads most literals bytes n for_effect m at [] g p few (front most literals bytes at c _ has))
       (λ v g'. constant_returns most literals bytes Receiver (at + size c) end [] g' st (back most literals bytes at c _ has))
   method_leads (next n b) m at end g st p few has =
@@ -46,11 +48,11 @@ module _ (most : ℕ) (literals : List LiteralView) (bytes : List ℕ) where
   arguments_lead : (first n at : ℕ) (g : Going) → Stand at (pop_arguments first n) → Leads at (arguments_on first n) g (at + size (pop_arguments first n)) (λ (v : Value). []) (take_arguments most first n g)
   arguments_lead first zero at g has = record { by = λ k. let e : at ≡ at + 0 = omega arith in (k, ap (λ i. walk most literals bytes k i [] g) e) }
   arguments_lead first (suc n) at g has =
-      let x = PopStore (Temporary (first + n)) in
+      let x = PopStore (place.Temporary (first + n)) in
       let e : at + size_of x + size (pop_arguments first n) ≡ at + size (pop_arguments first (suc n)) = omega arith in
       leads.leads_at most literals bytes at _ _ (arguments_on first (suc n)) g (λ (v : Value). []) (take_arguments most first (suc n) g) e
       (then_leads most literals bytes at (at + size_of x) _ (arguments_on first (suc n)) g (λ (v : Value). arguments_on first n) (λ (v : Value). []) (assign_to most (Temporary (first + n)) (First (Temporary (first + n))) g) (λ v. take_arguments most first n)
-      (stores most literals bytes for_effect (Temporary (first + n)) at (First (Temporary (first + n))) (arguments_on first n) g (pop_arguments first n) has)
+      (stores most literals bytes for_effect (place.Temporary (first + n)) at (First (Temporary (first + n))) (arguments_on first n) g (pop_arguments first n) has)
       (λ v g'. arguments_lead first n (at + size_of x) g' has.1))
 
   -- behind a return no code goes on

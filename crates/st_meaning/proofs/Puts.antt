@@ -2,8 +2,8 @@
 use Rattle.std.proofs.Common.{◌≡◌, ◌≢◌, ℕ, ◌<◌, ◌≤◌, ◌==◌, Bool, true, false, ◌&&◌, List, Option, refl, sym, ap, ◌∙◌, arith}
 use Rattle.std.proofs.lemmas.Bool.Decides.{nat_tests}
 use Rattle.std.specs.Prelude.{if◌then◌else◌, nat_lt, slice_get}
-use Rattle.st_emit.specs.declared.step.Place.{Place}
-use Rattle.st_emit.specs.declared.step.Place.TheVariants.{Field, Temporary, Literal, Shared}
+use Rattle.st_meaning.specs.declared.deed.Variable.{Variable}
+use Rattle.st_meaning.specs.declared.deed.Variable.TheVariants.{Field, Temporary, Shared}
 use Rattle.st_meaning.specs.declared.deed.Value.{Value}
 use Rattle.st_meaning.specs.declared.deed.Value.TheVariants.{First}
 use Rattle.st_meaning.specs.declared.held.Held.{Held}
@@ -35,58 +35,50 @@ pub field_put : (old new : Held) (n : ℕ) (v : Value) → n < 64 → IsPut old.
     → held_of new ≡ changed (Field n) v (held_of old)
 field_put old new n v few put a t s = λ i. λ q. at q i
   where
-    at : (q : Place) → held_of new q ≡ changed (Field n) v (held_of old) q
+    at : (q : Variable) → held_of new q ≡ changed (Field n) v (held_of old) q
     at (Field m) = put_known old.fields.items new.fields.items n v few put m (First (Field m))
     at (Temporary m) =
         ap (λ (k : ℕ). known (slice_get new.temporaries.items m) (start_of k (Temporary m))) a ∙ ap (λ l. known (slice_get l.items m) (start_of old.arguments (Temporary m))) t
         ∙ sym (other_same (nat_lt n 64) v (held_of old (Temporary m)))
     at (Shared m) = ap (λ l. known (slice_get l.items m) (First (Shared m))) s ∙ sym (other_same (nat_lt n 64) v (held_of old (Shared m)))
-    at (Literal m) = sym (other_same (nat_lt n 64) v (held_of old (Literal m)))
 
 pub temporary_put : (old new : Held) (n : ℕ) (v : Value) → n < 64 → IsPut old.temporaries.items new.temporaries.items n v → new.arguments ≡ old.arguments → new.fields ≡ old.fields → new.shared ≡ old.shared
     → held_of new ≡ changed (Temporary n) v (held_of old)
 temporary_put old new n v few put a f s = λ i. λ q. at q i
   where
-    at : (q : Place) → held_of new q ≡ changed (Temporary n) v (held_of old) q
+    at : (q : Variable) → held_of new q ≡ changed (Temporary n) v (held_of old) q
     at (Field m) = ap (λ l. known (slice_get l.items m) (First (Field m))) f ∙ sym (other_same (nat_lt n 64) v (held_of old (Field m)))
     at (Temporary m) =
         ap (λ (k : ℕ). known (slice_get new.temporaries.items m) (start_of k (Temporary m))) a ∙ put_known old.temporaries.items new.temporaries.items n v few put m (start_of old.arguments (Temporary m))
     at (Shared m) = ap (λ l. known (slice_get l.items m) (First (Shared m))) s ∙ sym (other_same (nat_lt n 64) v (held_of old (Shared m)))
-    at (Literal m) = sym (other_same (nat_lt n 64) v (held_of old (Literal m)))
 
 pub shared_put : (old new : Held) (n : ℕ) (v : Value) → n < 64 → IsPut old.shared.items new.shared.items n v → new.arguments ≡ old.arguments → new.fields ≡ old.fields → new.temporaries ≡ old.temporaries
     → held_of new ≡ changed (Shared n) v (held_of old)
 shared_put old new n v few put a f t = λ i. λ q. at q i
   where
-    at : (q : Place) → held_of new q ≡ changed (Shared n) v (held_of old) q
+    at : (q : Variable) → held_of new q ≡ changed (Shared n) v (held_of old) q
     at (Field m) = ap (λ l. known (slice_get l.items m) (First (Field m))) f ∙ sym (other_same (nat_lt n 64) v (held_of old (Field m)))
     at (Temporary m) =
         ap (λ (k : ℕ). known (slice_get new.temporaries.items m) (start_of k (Temporary m))) a ∙ ap (λ l. known (slice_get l.items m) (start_of old.arguments (Temporary m))) t
         ∙ sym (other_same (nat_lt n 64) v (held_of old (Temporary m)))
     at (Shared m) = put_known old.shared.items new.shared.items n v few put m (First (Shared m))
-    at (Literal m) = sym (other_same (nat_lt n 64) v (held_of old (Literal m)))
 
 -- a variable that no code names
-pub far : (p : Place) (v : Value) (held : Place → Value) → 64 ≤ number_of p → held ≡ changed p v held
+pub far : (p : Variable) (v : Value) (held : Variable → Value) → 64 ≤ number_of p → held ≡ changed p v held
 far p v held h = λ i. λ q. at q i
   where
     high : nat_lt (number_of p) 64 ≡ false
     high = grind (arith, nat_tests, h)
 
-    at : (q : Place) → held q ≡ changed p v held q
+    at : (q : Variable) → held q ≡ changed p v held q
     at q = sym (ap (λ (c : Bool). if c && same_variable p q then v else held q) high)
-
--- a place that is no variable
-pub no_variable : (n : ℕ) (v : Value) (held : Place → Value) → held ≡ changed (Literal n) v held
-no_variable n v held = λ i. λ q. sym (other_same (nat_lt n 64) v (held q)) i
 
 -- nothing is known at the start
 pub at_start : (h : Held) → ((n : ℕ) (start : Value) → known (slice_get h.fields.items n) start ≡ start) → ((n : ℕ) (start : Value) → known (slice_get h.temporaries.items n) start ≡ start)
     → ((n : ℕ) (start : Value) → known (slice_get h.shared.items n) start ≡ start) → held_of h ≡ start_of h.arguments
 at_start h f t s = λ i. λ q. at q i
   where
-    at : (q : Place) → held_of h q ≡ start_of h.arguments q
+    at : (q : Variable) → held_of h q ≡ start_of h.arguments q
     at (Field n) = f n (First (Field n))
     at (Temporary n) = t n (start_of h.arguments (Temporary n))
     at (Shared n) = s n (First (Shared n))
-    at (Literal n) = refl

@@ -5,12 +5,12 @@ use Rattle.st_scan.specs.declared.token.Signed.{Signed}
 use Rattle.st_scan.specs.Views.{NameView, ContentView, ExpressionView, MethodView}
 use Rattle.st_scan.specs.Views as v
 use Rattle.st_emit.specs.declared.step.Constant.TheVariants.{Receiver, True, False}
-use Rattle.st_emit.specs.declared.step.Place.TheVariants.{Field, Temporary}
 use Rattle.st_emit.specs.Names.{NamesView}
 use Rattle.st_code.specs.Methods.{body, parts}
+use Rattle.st_meaning.specs.declared.deed.Variable.TheVariants.{Field, Temporary}
 use Rattle.st_meaning.specs.declared.deed.Value.{Value}
-use Rattle.st_meaning.specs.declared.deed.Value.TheVariants.{Number, Constant, First, Block}
-use Rattle.st_meaning.specs.Values.{AnswerView, sent, assigned, made, returned, unsure}
+use Rattle.st_meaning.specs.declared.deed.Value.TheVariants.{Number, First, Block}
+use Rattle.st_meaning.specs.Values.{constant_value, AnswerView, sent, assigned, made, returned, unsure}
 use Rattle.st_meaning.specs.Runs.{Outcome, over, long, did, assign_to, answer_to, make_block, return_value, be_unsure, jump_back}
 use Rattle.st_meaning.specs.Walks.{walk}
 use Rattle.st_meaning.specs.Blocks.{block_trace, block_walk}
@@ -39,7 +39,7 @@ abbrev gives : Value → AnswerView
 gives x = record { value = x; changes = [] }
 
 abbrev self : Value
-self = Constant Receiver
+self = constant_value Receiver
 
 abbrev num : ℕ → Value
 num n = Number (pos n)
@@ -73,11 +73,11 @@ abbrev statements_of : Body → Body
 statements_of (answered n) = body_of n
 statements_of b = b
 
-max_true_trace : trace_by max (gives (Constant True) ∷ []) ≡ over (sent self (codes ">") (First (Temporary 0) ∷ []) false ∷ returned self ∷ [])
+max_true_trace : trace_by max (gives (constant_value True) ∷ []) ≡ over (sent self (codes ">") (First (Temporary 0) ∷ []) false ∷ returned self ∷ [])
 unfolding did assign_to answer_to make_block return_value be_unsure jump_back walk
 max_true_trace = refl
 
-max_true_walk : walk_by max (gives (Constant True) ∷ []) ≡ over (sent self (codes ">") (First (Temporary 0) ∷ []) false ∷ returned self ∷ [])
+max_true_walk : walk_by max (gives (constant_value True) ∷ []) ≡ over (sent self (codes ">") (First (Temporary 0) ∷ []) false ∷ returned self ∷ [])
 unfolding did assign_to answer_to make_block return_value be_unsure jump_back walk
 max_true_walk = refl
 
@@ -89,19 +89,19 @@ max_7_walk : walk_by max (gives (num 7) ∷ []) ≡ over (sent self (codes ">") 
 unfolding did assign_to answer_to make_block return_value be_unsure jump_back walk
 max_7_walk = refl
 
-count_trace : trace_by count_up (gives (Constant True) ∷ gives (num 1) ∷ gives (Constant False) ∷ []) ≡ over (assigned (Temporary 0) (num 0) ∷ sent (num 0) (codes "<") (num 3 ∷ []) false ∷ sent (num 0) (codes "+") (num 1 ∷ []) false ∷ assigned (Temporary 0) (num 1) ∷ sent (num 1) (codes "<") (num 3 ∷ []) false ∷ returned (num 1) ∷ [])
+count_trace : trace_by count_up (gives (constant_value True) ∷ gives (num 1) ∷ gives (constant_value False) ∷ []) ≡ over (assigned (Temporary 0) (num 0) ∷ sent (num 0) (codes "<") (num 3 ∷ []) false ∷ sent (num 0) (codes "+") (num 1 ∷ []) false ∷ assigned (Temporary 0) (num 1) ∷ sent (num 1) (codes "<") (num 3 ∷ []) false ∷ returned (num 1) ∷ [])
 unfolding did assign_to answer_to make_block return_value be_unsure jump_back walk
 count_trace = refl
 
-count_walk : walk_by count_up (gives (Constant True) ∷ gives (num 1) ∷ gives (Constant False) ∷ []) ≡ over (assigned (Temporary 0) (num 0) ∷ sent (num 0) (codes "<") (num 3 ∷ []) false ∷ sent (num 0) (codes "+") (num 1 ∷ []) false ∷ assigned (Temporary 0) (num 1) ∷ sent (num 1) (codes "<") (num 3 ∷ []) false ∷ returned (num 1) ∷ [])
+count_walk : walk_by count_up (gives (constant_value True) ∷ gives (num 1) ∷ gives (constant_value False) ∷ []) ≡ over (assigned (Temporary 0) (num 0) ∷ sent (num 0) (codes "<") (num 3 ∷ []) false ∷ sent (num 0) (codes "+") (num 1 ∷ []) false ∷ assigned (Temporary 0) (num 1) ∷ sent (num 1) (codes "<") (num 3 ∷ []) false ∷ returned (num 1) ∷ [])
 unfolding did assign_to answer_to make_block return_value be_unsure jump_back walk
 count_walk = refl
 
-count_cut_trace : trace_by count_up (gives (Constant True) ∷ []) ≡ over (assigned (Temporary 0) (num 0) ∷ sent (num 0) (codes "<") (num 3 ∷ []) false ∷ sent (num 0) (codes "+") (num 1 ∷ []) false ∷ [])
+count_cut_trace : trace_by count_up (gives (constant_value True) ∷ []) ≡ over (assigned (Temporary 0) (num 0) ∷ sent (num 0) (codes "<") (num 3 ∷ []) false ∷ sent (num 0) (codes "+") (num 1 ∷ []) false ∷ [])
 unfolding did assign_to answer_to make_block return_value be_unsure jump_back walk
 count_cut_trace = refl
 
-count_cut_walk : walk_by count_up (gives (Constant True) ∷ []) ≡ over (assigned (Temporary 0) (num 0) ∷ sent (num 0) (codes "<") (num 3 ∷ []) false ∷ sent (num 0) (codes "+") (num 1 ∷ []) false ∷ [])
+count_cut_walk : walk_by count_up (gives (constant_value True) ∷ []) ≡ over (assigned (Temporary 0) (num 0) ∷ sent (num 0) (codes "<") (num 3 ∷ []) false ∷ sent (num 0) (codes "+") (num 1 ∷ []) false ∷ [])
 unfolding did assign_to answer_to make_block return_value be_unsure jump_back walk
 count_cut_walk = refl
 
@@ -165,10 +165,10 @@ unfolding did assign_to answer_to make_block return_value be_unsure jump_back wa
 inner_walk = refl
 
 -- an answer changes a variable: foo ^x at: 1 put: 2; foo; yourself
-changed_trace : trace_by casc (record { value = num 5; changes = record { variable = Field 0; value = num 6 } ∷ [] } ∷ []) ≡ over (sent (First (Field 0)) (codes "at:put:") (num 1 ∷ num 2 ∷ []) false ∷ sent (First (Field 0)) (codes "foo") [] false ∷ [])
+changed_trace : trace_by casc (record { value = num 5; changes = (Field 0, num 6) ∷ [] } ∷ []) ≡ over (sent (First (Field 0)) (codes "at:put:") (num 1 ∷ num 2 ∷ []) false ∷ sent (First (Field 0)) (codes "foo") [] false ∷ [])
 unfolding did assign_to answer_to make_block return_value be_unsure jump_back walk
 changed_trace = refl
 
-both_changed : trace_by both (gives (Constant True) ∷ []) ≡ walk_by both (gives (Constant True) ∷ [])
+both_changed : trace_by both (gives (constant_value True) ∷ []) ≡ walk_by both (gives (constant_value True) ∷ [])
 unfolding did assign_to answer_to make_block return_value be_unsure jump_back walk
 both_changed = refl

@@ -26,9 +26,7 @@ use Rattle.st_meaning.specs.Codes.{sent, returned, tested, on_top, on_some, on_m
 use Rattle.st_meaning.specs.Machines.{KeepsOthers, laid, field_at, literal_at, text_at, values_in, stack_in, IsSelector, NamesSelectors, Keeps, GoesOn, Answers, Shows, boolean_at, sends_by, succeeds, primitive_first, return_by}
 use Rattle.st_meaning.proofs.Inverting.{split, split_next, then_goes, next_goes, then_as, read_then, answered, page_reads, page_is, field_reads, field_is, jump_is, pop_is, under_reads, then_reads, Reads, Topped}
 use Rattle.st_meaning.proofs.RowsWalk.{Frame, frame_of, RowShows, by_top, lowered, jumped, literal_then, literal_fetched, done_of, constant_word, constant_got}
-
-same_ref : (n : ℕ) → same_value (Ref n) (Ref n) ≡ true
-same_ref n = grind (arith, nat_tests)
+use Rattle.st_model.proofs.SameValues.{same_ref}
 
 other_ref : (n j : ℕ) → n ≢ j → same_value (Ref n) (Ref j) ≡ false
 other_ref n j d = let e : (n ≡ j) → ⊥ = d in grind (arith, nat_tests, e)

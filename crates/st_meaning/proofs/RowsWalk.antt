@@ -310,7 +310,7 @@ module _ {H : Type 0} (m : ObjectMemory H) (laws : KeepsOthers m) (k b : ℕ) wh
   ]
 
   -- what a code shows that takes the top: nothing where the stack is empty
-  pub by_top : (u t : State H) (z : Transition (State H) Outcome) (c : Code) (x : Value) (g : Option Value → List (Option Value) → Walked (Option Value)) → Frame u → Topped m u x
+  pub by_top : (u t : State H) (z : Transition (State H) Outcome) (c : Code) (x : Value) (g : Option Value → List (Option Value) → Walked Place (Option Value)) → Frame u → Topped m u x
       → (5 + b < u.registers.sp → Shows m k b c (g (Some x) (stack_in m b (record u { registers = record u.registers { sp = u.registers.sp - 1 } }))) u t z)
       → Shows m k b c (on_top (stack_in m b u) g) u t z
   by_top u t z c x g f p shows = elim (below_or_not (5 + b) u.registers.sp) [

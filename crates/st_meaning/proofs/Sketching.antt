@@ -1,43 +1,58 @@
 -- Nodes of an arena, from what was made of their parts.
-use Rattle.std.proofs.Common.{◌≡◌, ℕ, ◌+◌, ◌<◌, Bool, true, false, List, [], ◌∷◌, ◌++◌, length, get_or, drop, Some, None, refl, sym, ap, ◌∙◌, subst, arith, append_assoc, append-nil}
+use Rattle.std.proofs.Common.{◌≡◌, ℕ, ◌+◌, ◌<◌, ◌≤◌, Bool, true, false, List, [], ◌∷◌, ◌++◌, length, get_or, drop, Option, Some, None, refl, sym, ap, ◌∙◌, subst, arith, append_assoc, append-nil, length-append}
 use Rattle.std.proofs.lemmas.List.{drop_more}
 use Rattle.std.specs.Prelude.{slice_get, Result, Ok, Err, IfOk}
 use Rattle.std.specs.Global.{Vec}
+use Rattle.st_scan.specs.declared.token.Signed.{Signed}
+use Rattle.st_scan.specs.declared.tree.Name.{Name}
+use Rattle.st_scan.specs.declared.tree.Content.{Content}
+use Rattle.st_scan.specs.declared.tree.Content.TheVariants as content
 use Rattle.st_scan.specs.declared.tree.Message.{Message as Sent}
 use Rattle.st_scan.specs.declared.tree.Statement.{Statement}
 use Rattle.st_scan.specs.declared.chain.Link.{Link}
-use Rattle.st_scan.specs.Views.{ExpressionView, expression_view, expressions_view, messages_view, statements_view, message, statement, no_messages, is_super}
+use Rattle.st_scan.specs.Views.{NameView, ExpressionView, StatementsView, block, name_view, content_view, expression_view, expressions_view, messages_view, statements_view, message, statement, no_messages, is_super}
 use Rattle.st_scan.specs.Chains.{LinkView, sent as sent_link, with_link, link_view}
 use Rattle.st_emit.specs.declared.draft.Draft.{Draft}
 use Rattle.st_emit.specs.declared.names.Around.{Around}
+use Rattle.st_emit.specs.declared.step.Constant.{Constant}
+use Rattle.st_emit.specs.declared.step.Place.{Place}
 use Rattle.st_emit.specs.declared.form.By.{By}
 use Rattle.st_emit.specs.declared.form.TwoSided.{TwoSided}
 use Rattle.st_emit.specs.declared.form.TwoSided.TheVariants.{TrueFirst, FalseFirst}
-use Rattle.st_emit.specs.Literals.{LiteralView, Naming, Named, given, ◌>>=◌}
+use Rattle.st_emit.specs.Names.{constant_named}
+use Rattle.st_emit.specs.Literals.{LiteralView, Naming, Named, given, ◌>>=◌, named_literal, literal_of}
 use Rattle.st_emit.specs.Views.{literals_view}
 use Rattle.st_emit.specs.Drafts.{Resolves}
-use Rattle.st_emit.specs.Nodes.{Node, Tail, chosen, sent, Messages, also, Nodes, none, Sending, returned, with_tail}
-use Rattle.st_emit.specs.Resolving.{Message as Resolved, behind, before, by_selector, sending, message_nodes, no_message, tailed, names_in, names_in_all, names_in_statements, expression_node, messages_of, statements_body, plain_tail}
+use Rattle.st_emit.specs.Nodes.{Node, variable, literal, Tail, assigned, chosen, sent, Messages, also, Nodes, none, Sending, returned, with_tail}
+use Rattle.st_emit.specs.Resolving.{Message as Resolved, Context, name_node, constant_or, literal_node, content_node, behind, before, by_selector, sending, message_nodes, no_message, tailed, names_in, names_in_all, names_in_statements, expression_node, messages_of, statements_body, plain_tail}
 use Rattle.st_emit.specs.Shapes.{ShapeView, two_sided, shape_of, repetition_of, IsCascade, IsOnly}
 use Rattle.st_emit.specs.Around.{context, at_number, message_of, link_tail}
-use Rattle.st_emit.specs.Emits.{after}
+use Rattle.st_emit.specs.Emits.{after, place_at}
 use Rattle.st_emit.proofs.Follow.{node_behind}
 use Rattle.st_emit.proofs.NodeKinds.{tail_kind}
+use Rattle.st_resolved.proofs.Grows.{Grows, grows_literal, expression_grows}
+use Rattle.st_meaning.specs.declared.deed.Variable.{Variable}
+use Rattle.st_meaning.specs.declared.deed.Value.{Value}
+use Rattle.st_meaning.specs.declared.deed.Value.TheVariants.{Literal}
 use Rattle.st_meaning.specs.declared.arena.Statements.{Statements}
 use Rattle.st_meaning.specs.declared.arena.Message.{Message}
 use Rattle.st_meaning.specs.declared.arena.Start.{Start}
+use Rattle.st_meaning.specs.declared.arena.Start.TheVariants.{Known, Held, Block}
 use Rattle.st_meaning.specs.declared.arena.Act.{Act}
-use Rattle.st_meaning.specs.declared.arena.Act.TheVariants.{Send, Two}
+use Rattle.st_meaning.specs.declared.arena.Act.TheVariants.{Assign, Send, Two}
 use Rattle.st_meaning.specs.declared.arena.Node.{Node as Made}
 use Rattle.st_meaning.specs.declared.sketch.Sketch.{Sketch}
+use Rattle.st_meaning.specs.Values.{literal_value, variable_of, IsShort}
+use Rattle.st_meaning.specs.Runs.{Going, went, gives, assign_to}
 use Rattle.st_meaning.specs.Traces.{value_of, messages_value}
 use Rattle.st_meaning.specs.Meanings.{most}
 use Rattle.st_meaning.specs.Arenas.{Meaning, runs_of, node_run}
-use Rattle.st_meaning.specs.Meant.{IsNode, IsChain, IsAct, IsArguments, IsMessage, IsMessages, IsBody}
-use Rattle.st_meaning.specs.Sketches.{literals_of, runs_in, Extends, Builds, message_named, messages_named, node_naming, arguments_naming, message_naming, cascade_naming, messages_naming, sent_naming, link_naming, body_naming, two_naming}
+use Rattle.st_meaning.specs.Meant.{IsNode, IsStart, IsChain, IsAct, IsArguments, IsMessage, IsMessages, IsBody}
+use Rattle.st_meaning.specs.Sketches.{literals_of, runs_in, Extends, Keeps, Stands, IsFew, Builds, message_named, messages_named, node_naming, arguments_naming, message_naming, cascade_naming, messages_naming, sent_naming, link_naming, body_naming, two_naming}
 use Rattle.st_meaning.proofs.Arenas.{get_front, get_last, runs_push, many_runs}
 use Rattle.st_meaning.proofs.Meant.{chain_more, arguments_none, message_is, messages_made, messages_none, messages_one, sends_are, two_is}
 use Rattle.st_meaning.proofs.Shaped.{shape_tail, shape_same, cascade_same}
+use Rattle.st_meaning.proofs.Numbers.{literal_short, name_short, name_grows, selector_grows}
 
 -- MESSAGES IN A ROW
 
@@ -50,11 +65,15 @@ messages_same above m (o ∷ os) ls =
 
 -- SKETCHES
 
-extends_same : (a : List Meaning) → Extends a a
-extends_same a i m h = h
+keeps_same : (s : Sketch) → Keeps s s
+keeps_same s = record { nodes = λ i m h. h; literals = omega arith }
 
-extends_then : (a b c : List Meaning) → Extends a b → Extends b c → Extends a c
-extends_then a b c h k i m e = k i m (h i m e)
+keeps_then : (a b c : Sketch) → Keeps a b → Keeps b c → Keeps a c
+keeps_then a b c h k = record { nodes = λ i m e. k.nodes i m (h.nodes i m e); literals = omega (arith, h.literals, k.literals) }
+
+-- what stands with more before it stood with less
+stood : (a b : Sketch) (ms : List Meaning) → Keeps a b → Stands b ms → Stands a ms
+stood a b ms h k = record { nodes = λ i m e. k.nodes i m (h.nodes i m e); few = omega (arith, h.literals, k.few) }
 
 -- what was made behind what was made
 pub builds_then : {A B C : Type 0} (m : Naming A) (f : A → Naming B) (k : A → B → C) (IsA : List Meaning → A → Type 0) (IsB : List Meaning → B → Type 0) (IsC : List Meaning → C → Type 0) (old mid new : Sketch)
@@ -65,9 +84,9 @@ builds_then m f k IsA IsB IsC old mid new a b both =
     let x = (m (literals_of old)).part in
     record {
       literals = b.literals ∙ ap (λ (ls : List LiteralView). (f x ls).literals) a.literals;
-      extends = extends_then (runs_in old) (runs_in mid) (runs_in new) a.extends b.extends;
+      keeps = keeps_then old mid new a.keeps b.keeps;
       part = λ ms e.
-          both ms x (m (literals_of old)).literals (a.part ms (extends_then (runs_in mid) (runs_in new) ms b.extends e))
+          both ms x (m (literals_of old)).literals (a.part ms (stood mid new ms b.keeps e))
           (subst (λ (ls : List LiteralView). IsB ms (f x ls).part) a.literals (b.part ms e));
     }
 
@@ -75,28 +94,86 @@ builds_then m f k IsA IsB IsC old mid new a b both =
 pub builds_as : {A : Type 0} (m m' : Naming A) (Is Is' : List Meaning → A → Type 0) (old new : Sketch) → m (literals_of old) ≡ m' (literals_of old) → ((ms : List Meaning) (x : A) → Is ms x → Is' ms x) → Builds m Is old new → Builds m' Is' old new
 builds_as m m' Is Is' old new e k b = record {
   literals = b.literals ∙ ap (λ (x : Named _). x.literals) e;
-  extends = b.extends;
+  keeps = b.keeps;
   part = λ ms h. k ms (m' (literals_of old)).part (subst (λ (x : Named _). Is ms x.part) e (b.part ms h));
 }
 
 -- a part made of one
 pub builds_map : {A B : Type 0} (m : Naming A) (k : A → B) (IsA : List Meaning → A → Type 0) (IsB : List Meaning → B → Type 0) (old new : Sketch) → Builds m IsA old new → ((ms : List Meaning) (x : A) → IsA ms x → IsB ms (k x)) → Builds (m >>= λ x. given (k x)) IsB old new
-builds_map m k IsA IsB old new b h = record { literals = b.literals; extends = b.extends; part = λ ms e. h ms (m (literals_of old)).part (b.part ms e) }
+builds_map m k IsA IsB old new b h = record { literals = b.literals; keeps = b.keeps; part = λ ms e. h ms (m (literals_of old)).part (b.part ms e) }
+
+-- literals that were named are no more than those then
+no_fewer : {A : Type 0} (m : Naming A) (ls new : List LiteralView) → Grows m → new ≡ (m ls).literals → length ls ≤ length new
+no_fewer m ls new g e =
+    let longer = g.by ls in
+    omega (arith, ap (λ (l : List LiteralView). length l) (e ∙ longer.is), length-append ls longer.more)
 
 -- what names a literal or a variable makes no node
-pub builds_resolved : {A B : Type 0} (m : Naming A) (k : A → B) (Is : List Meaning → B → Type 0) (old new : Sketch) (x : A) → Resolves m old.draft new.draft x → new.nodes.items ≡ old.nodes.items → ((ms : List Meaning) → Is ms (k x)) → Builds (m >>= λ y. given (k y)) Is old new
-builds_resolved m k Is old new x r same h = record {
+pub builds_resolved : {A B : Type 0} (m : Naming A) (k : A → B) (Is : List Meaning → B → Type 0) (old new : Sketch) (x : A) → Grows m → Resolves m old.draft new.draft x → new.nodes.items ≡ old.nodes.items
+    → ((ms : List Meaning) → length (m (literals_of old)).literals ≤ 256 → Is ms (k x)) → Builds (m >>= λ y. given (k y)) Is old new
+builds_resolved m k Is old new x g r same h = record {
   literals = r.literals;
-  extends = λ i q e. subst (λ (xs : List Made). slice_get (runs_of most xs) i ≡ Some q) (sym same) e;
-  part = λ ms e. subst (λ y. Is ms (k y)) r.part (h ms);
+  keeps = record {
+    nodes = λ i q e. subst (λ (xs : List Made). slice_get (runs_of most xs) i ≡ Some q) (sym same) e;
+    literals = no_fewer m (literals_of old) (literals_of new) g r.literals;
+  };
+  part = λ ms e. subst (λ y. Is ms (k y)) r.part (h ms (subst (λ (ls : List LiteralView). length ls ≤ 256) r.literals e.few));
 }
 
 -- what is there without a name
 pub builds_given : {A : Type 0} (m : Naming A) (Is : List Meaning → A → Type 0) (s : Sketch) (x : A) → m ≡ given x → ((ms : List Meaning) → Is ms x) → Builds m Is s s
 builds_given m Is s x e h = record {
   literals = sym (ap (λ (q : Naming _). (q (literals_of s)).literals) e);
-  extends = extends_same (runs_in s);
+  keeps = keeps_same s;
   part = λ ms k. subst (λ (q : Naming _). Is ms (q (literals_of s)).part) (sym e) (h ms);
+}
+
+-- LEAVES
+
+-- a variable
+pub named_built : (a : Around) (n : Name) (place : Place) (v : Variable) (old new : Sketch) → constant_named n.text.items ≡ None → IsFew a → Resolves (place_at a n) old.draft new.draft place → new.nodes.items ≡ old.nodes.items
+    → (IsShort place → v ≡ variable_of place) → Builds (name_node (context a) (name_view n)) (IsStart (Held v)) old new
+named_built a n place v old new plain few r same is =
+    let short = λ (h : length (place_at a n (literals_of old)).literals ≤ 256). subst IsShort (sym r.part) (name_short a n (literals_of old) few h) in
+    subst (λ (o : Option Constant). Builds (constant_or o (place_at a n)) (IsStart (Held v)) old new) (sym plain)
+    (builds_resolved (place_at a n) (λ p. variable p) (IsStart (Held v)) old new place (name_grows a n) r same (λ ms h j. ap (λ (w : Variable). λ (g : Going). went (g.held w) g) (is (short h))))
+
+-- an assignment
+pub assign_built : (a : Around) (n : Name) (place : Place) (v : Variable) (old new : Sketch) → IsFew a → Resolves (place_at a n) old.draft new.draft place → new.nodes.items ≡ old.nodes.items
+    → (IsShort place → v ≡ variable_of place) → Builds (place_at a n >>= λ p. given (assigned p)) (IsAct (Assign v)) old new
+assign_built a n place v old new few r same is =
+    let short = λ (h : length (place_at a n (literals_of old)).literals ≤ 256). subst IsShort (sym r.part) (name_short a n (literals_of old) few h) in
+    builds_resolved (place_at a n) (λ p. assigned p) (IsAct (Assign v)) old new place (name_grows a n) r same (λ ms h j x. ap (λ (w : Variable). assign_to most w x) (is (short h)))
+
+-- a literal
+pub literal_built : (l : LiteralView) (place b : ℕ) (v : Value) (old new : Sketch) → Resolves (named_literal l) old.draft new.draft place → new.nodes.items ≡ old.nodes.items
+    → (place < 256 → b ≡ place) → v ≡ literal_value l b → Builds (literal_node l) (IsStart (Known v)) old new
+literal_built l place b v old new r same is value =
+    let short = λ (h : length (named_literal l (literals_of old)).literals ≤ 256). subst (λ (k : ℕ). k < 256) (sym r.part) (literal_short l (literals_of old) h) in
+    builds_resolved (named_literal l) (λ p. literal l p) (IsStart (Known v)) old new place (grows_literal l) r same (λ ms h j. ap (λ (w : Value). gives w) (value ∙ ap (λ (k : ℕ). literal_value l k) (is (short h))))
+
+-- a literal that is no number
+pub content_built : (w : Content) (place b : ℕ) (old new : Sketch) → ((n : Signed) → w ≡ content.Number n → ⊥) → Resolves (named_literal (literal_of (content_view w))) old.draft new.draft place → new.nodes.items ≡ old.nodes.items
+    → (place < 256 → b ≡ place) → Builds (content_node (content_view w)) (IsStart (Known (Literal b))) old new
+content_built (content.Number n) place b old new other r same is = absurd (other n refl)
+content_built (content.Character x) place b old new other r same is = literal_built (literal_of (content_view (content.Character x))) place b (Literal b) old new r same is refl
+content_built (content.Bytes x) place b old new other r same is = literal_built (literal_of (content_view (content.Bytes x))) place b (Literal b) old new r same is refl
+content_built (content.Symbol x) place b old new other r same is = literal_built (literal_of (content_view (content.Symbol x))) place b (Literal b) old new r same is refl
+content_built (content.Array' shape row) place b old new other r same is = literal_built (literal_of (content_view (content.Array' shape row))) place b (Literal b) old new r same is refl
+content_built content.Nil place b old new other r same is = literal_built (literal_of (content_view content.Nil)) place b (Literal b) old new r same is refl
+content_built content.False place b old new other r same is = literal_built (literal_of (content_view content.False)) place b (Literal b) old new r same is refl
+content_built content.True place b old new other r same is = literal_built (literal_of (content_view content.True)) place b (Literal b) old new r same is refl
+
+-- a block, of which only the literals are named
+pub block_built : (v : ExpressionView) (c : Context) (ns : List NameView) (b : StatementsView) (old new : Sketch) → v ≡ block ns b → literals_of new ≡ (expression_node v c (literals_of old)).literals → new.nodes.items ≡ old.nodes.items
+    → Builds (expression_node v c) (IsStart Block) old new
+block_built v c ns b old new is named same = record {
+  literals = named;
+  keeps = record {
+    nodes = λ i q e. subst (λ (xs : List Made). slice_get (runs_of most xs) i ≡ Some q) (sym same) e;
+    literals = no_fewer (expression_node v c) (literals_of old) (literals_of new) (expression_grows v c) named;
+  };
+  part = λ ms e. subst (λ (x : ExpressionView). IsStart Block ms (expression_node x c (literals_of old)).part) (sym is) (λ n. refl);
 }
 
 -- one node more
@@ -106,12 +183,14 @@ builds_put m old mid new x i b place put same =
     let here : Meaning = λ n. node_run most (runs_in mid) n x in
     let grown : runs_in new ≡ runs_in mid ++ here ∷ [] = ap (runs_of most) put ∙ runs_push most mid.nodes.items x in
     let extends : Extends (runs_in mid) (runs_in new) = λ j q e. subst (λ (ms : List Meaning). slice_get ms j ≡ Some q) (sym grown) (get_front (runs_in mid) (here ∷ []) j q e) in
-    let is : here ≡ value_of most (m (literals_of old)).part = λ j n. b.part (runs_in mid) (extends_same (runs_in mid)) n j in
+    let named : literals_of new ≡ literals_of mid = ap (λ (d : Draft). literals_view d.literals.items) same in
+    let many : length (literals_of new) ≡ length (literals_of mid) = ap (λ (ls : List LiteralView). length ls) named in
+    let is : length (literals_of new) ≤ 256 → here ≡ value_of most (m (literals_of old)).part = λ few j n. b.part (runs_in mid) (record { nodes = λ i q h. h; few = omega (arith, many, few) }) n j in
     let at : slice_get (runs_in new) i ≡ Some here = ap (λ (ms : List Meaning). slice_get ms i) grown ∙ get_last (runs_in mid) here i (omega (arith, place, many_runs most [] mid.nodes.items)) in
     record {
-      literals = ap (λ (d : Draft). literals_view d.literals.items) same ∙ b.literals;
-      extends = extends_then (runs_in old) (runs_in mid) (runs_in new) b.extends extends;
-      part = λ ms e. e i (value_of most (m (literals_of old)).part) (at ∙ ap (λ (q : Meaning). Some q) is);
+      literals = named ∙ b.literals;
+      keeps = keeps_then old mid new b.keeps (record { nodes = extends; literals = omega (arith, many) });
+      part = λ ms e. e.nodes i (value_of most (m (literals_of old)).part) (at ∙ ap (λ (q : Meaning). Some q) (is e.few));
     }
 
 -- MESSAGES AND FORMS
@@ -123,7 +202,7 @@ pub message_built : (above : Bool) (a : Around) (m : Sent) (made : Message) (by 
 message_built above a m made by old mid new b r same text =
     let s : By → Sending = λ y. record { selector = m.selector.items; by = y } in
     builds_then (arguments_naming a m.arguments.items) (λ ns. sending above m.selector.items) (λ ns s. (s, ns)) (IsArguments made.arguments.items) (λ ms (s : Sending). made.selector.items ≡ s.selector) (IsMessage above made) old mid new
-    b (builds_resolved (by_selector above m.selector.items) s (λ ms (s : Sending). made.selector.items ≡ s.selector) mid new by r same (λ ms. text))
+    b (builds_resolved (by_selector above m.selector.items) s (λ ms (s : Sending). made.selector.items ≡ s.selector) mid new by (selector_grows above m.selector.items) r same (λ ms few. text))
     (λ ms ns ls h e. message_is above made ms (sending above m.selector.items ls).part ns e h)
 
 pub sends_built : (above : Bool) (m : Resolved) (ms : List Resolved) (list : Vec Message) (old new : Sketch)
@@ -134,7 +213,7 @@ sends_built above m ms list old new b =
     let same = messages_same above m ms (literals_of old) in
     record {
       literals = b.literals ∙ ap (λ (w : Named Messages). w.literals) same;
-      extends = b.extends;
+      keeps = b.keeps;
       part = λ q e n v. sends_are above list.items q p.part ps.part (b.part q e) n v ∙ ap (λ (w : Named Messages). messages_value most w.part above v n) same;
     }
 
@@ -181,7 +260,7 @@ empty_built above a [] one list by old new none_left alone text many r same =
     let pair : By → List (Sending × Nodes) = λ y. (record { selector = []; by = y }, none) ∷ [] in
     let one_is = λ (ms : List Meaning) (s : Sending) (e : one.selector.items ≡ s.selector). messages_one above one [] ms (s, none) [] (message_is above one ms s none e (subst (λ (is : List ℕ). IsArguments is ms none) (sym many) (arguments_none ms))) (messages_none above ms) in
     let row : Builds (messages_named above (no_message ∷ [])) (IsMessages above (one ∷ [])) old new =
-    builds_resolved (by_selector above []) pair (IsMessages above (one ∷ [])) old new by r same (λ ms. one_is ms (record { selector = []; by = by }) text) in
+    builds_resolved (by_selector above []) pair (IsMessages above (one ∷ [])) old new by (selector_grows above []) r same (λ ms few. one_is ms (record { selector = []; by = by }) text) in
     sends_built above no_message [] list old new (subst (λ (l : List Message). Builds (messages_named above (no_message ∷ [])) (IsMessages above l) old new) (sym alone) row)
 
 -- a cascade, or messages to super
@@ -238,11 +317,11 @@ ok_weaker P Q (Err e) f h = tt
 -- what is left to be made gives what the whole gives, behind what was made
 pub record GoesOn {X A : Type 0} (rest whole : Naming A) (Is : List X → List Meaning → A → Type 0) (made : List X) (old now : Sketch) : Type 0 where
   pub literals : (rest (literals_of now)).literals ≡ (whole (literals_of old)).literals
-  pub extends : Extends (runs_in old) (runs_in now)
-  pub part : (ms : List Meaning) → Extends (runs_in now) ms → (more : List X) → Is more ms (rest (literals_of now)).part → Is (made ++ more) ms (whole (literals_of old)).part
+  pub keeps : Keeps old now
+  pub part : (ms : List Meaning) → Stands now ms → (more : List X) → Is more ms (rest (literals_of now)).part → Is (made ++ more) ms (whole (literals_of old)).part
 
 pub goes_first : {X A : Type 0} (whole : Naming A) (Is : List X → List Meaning → A → Type 0) (old : Sketch) → GoesOn whole whole Is [] old old
-goes_first whole Is old = record { literals = refl; extends = extends_same (runs_in old); part = λ ms e more h. h }
+goes_first whole Is old = record { literals = refl; keeps = keeps_same old; part = λ ms e more h. h }
 
 pub goes_turn : {X A B : Type 0} (m : Naming B) (f : Naming A) (k : B → A → A) (rest whole : Naming A) (IsB : X → List Meaning → B → Type 0) (Is : List X → List Meaning → A → Type 0) (made made' : List X) (x : X) (old now new : Sketch)
     → GoesOn rest whole Is made old now → rest ≡ (m >>= λ y. f >>= λ z. given (k y z)) → Builds m (IsB x) now new → made' ≡ made ++ x ∷ []
@@ -253,11 +332,11 @@ goes_turn m f k rest whole IsB Is made made' x old now new g same b more_made st
     let at : rest (literals_of now) ≡ record { part = k y.part (f y.literals).part; literals = (f y.literals).literals } = ap (λ (q : Naming _). q (literals_of now)) same in
     record {
       literals = ap (λ (ls : List LiteralView). (f ls).literals) b.literals ∙ sym (ap (λ (q : Named _). q.literals) at) ∙ g.literals;
-      extends = extends_then (runs_in old) (runs_in now) (runs_in new) g.extends b.extends;
+      keeps = keeps_then old now new g.keeps b.keeps;
       part = λ ms e more h.
           let z = subst (λ (ls : List LiteralView). Is more ms (f ls).part) b.literals h in
           let on = step ms y.part (f y.literals).part more (b.part ms e) z in
-          let whole_is = g.part ms (extends_then (runs_in now) (runs_in new) ms b.extends e) (x ∷ more) (subst (λ (q : Named _). Is (x ∷ more) ms q.part) (sym at) on) in
+          let whole_is = g.part ms (stood now new ms b.keeps e) (x ∷ more) (subst (λ (q : Named _). Is (x ∷ more) ms q.part) (sym at) on) in
           subst (λ (xs : List _). Is xs ms (whole (literals_of old)).part) (sym (append_assoc made (x ∷ []) more) ∙ ap (λ (xs : List _). xs ++ more) (sym more_made)) whole_is;
     }
 
@@ -265,7 +344,7 @@ goes_turn m f k rest whole IsB Is made made' x old now new g same b more_made st
 pub goes_done : {X A : Type 0} (z : A) (rest whole : Naming A) (Is : List X → List Meaning → A → Type 0) (made : List X) (old now : Sketch) → GoesOn rest whole Is made old now → rest ≡ given z → ((ms : List Meaning) → Is [] ms z) → Builds whole (Is made) old now
 goes_done z rest whole Is made old now g same h = record {
   literals = sym (ap (λ (q : Naming _). (q (literals_of now)).literals) same) ∙ g.literals;
-  extends = g.extends;
+  keeps = g.keeps;
   part = λ ms e.
       subst (λ (xs : List _). Is xs ms (whole (literals_of old)).part) (append-nil made)
       (g.part ms e [] (subst (λ (q : Naming _). Is [] ms (q (literals_of now)).part) (sym same) (h ms)));
@@ -280,9 +359,9 @@ goes_last m k rest whole IsB Is made made' x old now new g same b more_made step
     let at : rest (literals_of now) ≡ record { part = k y.part; literals = y.literals } = ap (λ (q : Naming _). q (literals_of now)) same in
     record {
       literals = b.literals ∙ sym (ap (λ (q : Named _). q.literals) at) ∙ g.literals;
-      extends = extends_then (runs_in old) (runs_in now) (runs_in new) g.extends b.extends;
+      keeps = keeps_then old now new g.keeps b.keeps;
       part = λ ms e.
-          let whole_is = g.part ms (extends_then (runs_in now) (runs_in new) ms b.extends e) (x ∷ []) (subst (λ (q : Named _). Is (x ∷ []) ms q.part) (sym at) (step ms y.part (b.part ms e))) in
+          let whole_is = g.part ms (stood now new ms b.keeps e) (x ∷ []) (subst (λ (q : Named _). Is (x ∷ []) ms q.part) (sym at) (step ms y.part (b.part ms e))) in
           subst (λ (xs : List _). Is xs ms (whole (literals_of old)).part) (sym more_made) whole_is;
     }
 

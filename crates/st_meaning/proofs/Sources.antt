@@ -1,10 +1,12 @@
 -- Compiled code means its source, for each tree that a text means.
-use Rattle.std.proofs.Common.{◌≡◌, ℕ, List, None, ap, ◌∙◌}
+use Rattle.std.proofs.Common.{◌≡◌, ℕ, List, Option, Some, None, refl, ap, ◌∙◌}
+use Rattle.std.specs.Prelude.{Ok}
 use Rattle.st_scan.specs.Views.{MethodView}
 use Rattle.st_grammar.specs.Texts.{Means}
 use Rattle.st_grammar.proofs.FormedTrees.{means_formed}
 use Rattle.st_emit.specs.Names.{NamesView}
-use Rattle.st_code.specs.Methods.{literals, parts, fault}
+use Rattle.st_code.specs.declared.fault.Fault.{Fault}
+use Rattle.st_code.specs.Methods.{PartsView, literals, parts, fault, parts_or, code}
 use Rattle.st_resolved.proofs.Arity.{right_tree}
 use Rattle.st_meaning.specs.Meanings.{most, walk_of}
 use Rattle.st_meaning.specs.Laws.{MeansItsSource, BlocksMeanTheirs}
@@ -17,3 +19,11 @@ method_means text tree names m f answers =
 
 pub blocks_mean : (text : List ℕ) (tree : MethodView) (names : NamesView) → Means text tree → fault tree names ≡ None → BlocksMeanTheirs tree names
 blocks_mean text tree names m f answers = blocks_are most tree names (right_tree tree (means_formed text tree m)).0 f answers
+
+-- a tree that has code has no fault
+pub coded_sound : (tree : MethodView) (names : NamesView) (p : PartsView) → code tree names ≡ Ok p → fault tree names ≡ None
+coded_sound tree names p is = by_fault (fault tree names) is
+  where
+    by_fault : (o : Option Fault) → parts_or tree names o ≡ Ok p → o ≡ None
+    by_fault None e = refl
+    by_fault (Some f) e = absurd cc

@@ -1,14 +1,15 @@
 -- What stands in fields, in variables and on the stack once a word was stored, pushed or popped.
-use Rattle.std.proofs.Common.{◌≡◌, ◌≢◌, ◌⊎◌, inl, inr, ℕ, zero, suc, ◌+◌, ◌<◌, ◌≤◌, List, [], ◌∷◌, length, true, false, Some, None, refl, sym, ap, ◌∙◌, subst, arith}
+use Rattle.std.proofs.Common.{◌≡◌, ◌≢◌, ◌⊎◌, inl, inr, ℕ, zero, suc, ◌+◌, ◌<◌, ◌≤◌, List, [], ◌∷◌, length, true, Some, None, refl, sym, ap, ◌∙◌, subst, arith}
 use Rattle.std.specs.Prelude.{◌-◌, slice_get, slice_set}
 use Rattle.st_model.specs.declared.kind.Kind.{Kind}
 use Rattle.st_model.specs.declared.kind.Kind.TheVariants as kind
 use Rattle.st_model.specs.Values.{Value, Small, Ref}
-use Rattle.st_model.specs.Objects.{Object, is_pointers, is_method, with_field}
+use Rattle.st_model.specs.Objects.{Object, is_pointers, with_field}
 use Rattle.st_model.specs.Machine.{ObjectMemory}
 use Rattle.st_model.proofs.Transfers.{same_or_not}
 use Rattle.st_meaning.specs.Machines.{KeepsOthers, field_in, literal_in, object_in, field_at, words_from}
 use Rattle.st_meaning.proofs.Inverting.{Stored}
+use Rattle.st_model.proofs.KindTests.{no_method}
 
 get_same : {A : Type 0} (xs : List A) (i : ℕ) (x : A) → i < length xs → slice_get (slice_set xs i x) i ≡ Some x
 get_same [] i x l = absurd (omega (arith, l))
@@ -24,12 +25,6 @@ get_other (y ∷ ys) (suc i) (suc j) x d = get_other ys i j x (λ e. d (ap suc e
 
 field_of_kind : (o : Object) (i : ℕ) → is_pointers o.kind ≡ true → field_in (Some o) i ≡ slice_get o.fields i
 field_of_kind o i k = rw k refl
-
-no_method : (k : Kind) → is_pointers k ≡ true → is_method k ≡ false
-no_method kind.Pointers e = refl
-no_method kind.Words e = refl
-no_method kind.Bytes e = refl
-no_method kind.Method e = cc
 
 no_literal : (o : Object) (i : ℕ) → is_pointers o.kind ≡ true → literal_in (Some o) i ≡ None
 no_literal o i k = rw (no_method o.kind k) refl

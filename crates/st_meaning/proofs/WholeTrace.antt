@@ -1,5 +1,5 @@
 -- The trace of a method, from what its nodes do.
-use Rattle.std.proofs.Common.{◌≡◌, ℕ, ◌+◌, true, false, List, [], ◌++◌, length, refl, sym, ap, ◌∙◌, subst}
+use Rattle.std.proofs.Common.{◌≡◌, ℕ, ◌+◌, ◌≤◌, true, false, List, [], ◌++◌, length, None, refl, sym, ap, ◌∙◌, subst, arith, length-append}
 use Rattle.st_scan.specs.declared.tree.Name.{Name}
 use Rattle.st_scan.specs.declared.tree.Statement.{Statement}
 use Rattle.st_scan.specs.declared.tree.MethodTree.{MethodTree}
@@ -10,8 +10,11 @@ use Rattle.st_emit.specs.Literals.{LiteralView}
 use Rattle.st_emit.specs.Resolving.{Context, statements_body}
 use Rattle.st_emit.specs.Around.{context}
 use Rattle.st_emit.proofs.Forms.{names_many}
-use Rattle.st_code.specs.Methods.{body}
+use Rattle.st_code.specs.Methods.{body, fault}
 use Rattle.st_code.specs.Methods as methods
+use Rattle.st_resolved.specs.Seen.{AllBelow, numbers}
+use Rattle.st_resolved.proofs.Seen.{below_more}
+use Rattle.st_resolved.proofs.Wholes.{few_literals, few_variables, all_below}
 use Rattle.st_meaning.specs.declared.deed.Value.{Value}
 use Rattle.st_meaning.specs.declared.arena.Statements.{Statements}
 use Rattle.st_meaning.specs.declared.sketch.Sketch.{Sketch}
@@ -22,7 +25,7 @@ use Rattle.st_meaning.specs.Deeds.{Lists}
 use Rattle.st_meaning.specs.Meanings.{most, start_of, before_all, enough_turns, IsEnded, Trace}
 use Rattle.st_meaning.specs.Traced.{Cut, method_in}
 use Rattle.st_meaning.specs.Meant.{IsBody}
-use Rattle.st_meaning.specs.Sketches.{runs_in, literals_of, Builds, body_naming, IsSketchOf}
+use Rattle.st_meaning.specs.Sketches.{runs_in, literals_of, Builds, IsFew, body_naming, IsSketchOf}
 use Rattle.st_meaning.proofs.Enough.{has_trace}
 
 abbrev pub the_context : NamesView → Scope → ℕ → Context
@@ -41,11 +44,21 @@ declared_is tree names scope xs ys k n j many more count arguments temporaries i
     let counted : n ≡ length (names_list a) + length (names_list b) = count ∙ ap (λ (i : ℕ). i + j) first ∙ ap (λ (i : ℕ). length (names_list a) + i) second in
     ap (λ (s : Scope). the_context names s n) scoped ∙ ap (λ (i : ℕ). the_context names (frames a b (length (names_list a))) i) counted
 
+-- its variables are few
+pub few_is : (t : MethodView) (names : NamesView) (a : Around) → fault t names ≡ None → context a ≡ methods.context t names → IsFew a
+few_is t names a sound here =
+    subst (λ (c : Context). AllBelow 256 (numbers c.scope)) (sym here)
+    (below_more (methods.own_variables t names) 256 (numbers (methods.context t names).scope) (omega (arith, few_variables names t sound)) (all_below names t sound))
+
 -- the nodes of a method, made in its context
-pub sketch_is : (t : MethodView) (names : NamesView) (a : Around) (ss : List Statement) (s : Statements) (old new : Sketch) → literals_of old ≡ [] → context a ≡ methods.context t names → statements_view ss ≡ t.body
+pub sketch_is : (t : MethodView) (names : NamesView) (a : Around) (ss : List Statement) (s : Statements) (old new : Sketch) → fault t names ≡ None → literals_of old ≡ [] → context a ≡ methods.context t names → statements_view ss ≡ t.body
     → Builds (body_naming a ss) (IsBody s) old new → IsSketchOf t names new s
-sketch_is t names a ss s old new none here text b =
-    let made = b.part (runs_in new) (λ i m h. h) in
+sketch_is t names a ss s old new sound none here text b =
+    let named = λ (x : StatementsView) (c : Context) (ls : List LiteralView). (statements_body x c ls).literals in
+    let literals : literals_of new ≡ (body t names).literals =
+    b.literals ∙ ap (λ (x : StatementsView). named x (context a) (literals_of old)) text ∙ ap (λ (c : Context). named t.body c (literals_of old)) here ∙ ap (λ (ls : List LiteralView). named t.body (methods.context t names) ls) none in
+    let few : length (literals_of new) ≤ 256 = omega (arith, ap (λ (ls : List LiteralView). length ls) literals, length-append (body t names).literals (methods.last_literals t names), few_literals names t sound) in
+    let made = b.part (runs_in new) (record { nodes = λ i m h. h; few = few }) in
     let at_body = subst (λ (x : StatementsView). IsBody s (runs_in new) (statements_body x (context a) (literals_of old)).part) text made in
     let at_context = subst (λ (c : Context). IsBody s (runs_in new) (statements_body t.body c (literals_of old)).part) here at_body in
     subst (λ (ls : List LiteralView). IsBody s (runs_in new) (statements_body t.body (methods.context t names) ls).part) none at_context

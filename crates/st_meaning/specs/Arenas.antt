@@ -2,7 +2,7 @@
 use Rattle.std.specs.Prelude.{ℕ, Bool, true, false, List, [], ◌∷◌, ◌++◌, slice_get, Option, Some, None}
 use Rattle.st_emit.specs.declared.step.Constant.TheVariants.{Receiver}
 use Rattle.st_meaning.specs.declared.deed.Value.{Value}
-use Rattle.st_meaning.specs.declared.deed.Value.TheVariants.{Constant}
+use Rattle.st_meaning.specs.Values.{constant_value}
 use Rattle.st_meaning.specs.declared.arena.Statements.{Statements}
 use Rattle.st_meaning.specs.declared.arena.Message.{Message}
 use Rattle.st_meaning.specs.declared.arena.Start.{Start}
@@ -60,7 +60,7 @@ module _ (most : ℕ) (before : List Meaning) (n : ℕ) where
   -- a method without a ^ returns its receiver
   abbrev pub method_end : (returns : Bool) → Value → Run Value
   method_end true v = return_value most v
-  method_end false v = return_value most (Constant Receiver)
+  method_end false v = return_value most (constant_value Receiver)
 
   abbrev pub method_run : Statements → Run Value
   method_run s = nodes_run s.nodes.items >>= method_end s.returns

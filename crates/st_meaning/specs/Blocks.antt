@@ -1,6 +1,5 @@
 -- The blocks of a method: each has a trace and a walk of its own.
 use Rattle.std.specs.Prelude.{ℕ, zero, suc, ◌+◌, Bool, false, List, [], ◌∷◌}
-use Rattle.st_emit.specs.declared.step.Place.TheVariants.{Temporary}
 use Rattle.st_emit.specs.declared.step.Step.TheVariants.{Jump, JumpIf}
 use Rattle.st_emit.specs.declared.form.TwoSided.TheVariants.{TrueFirst, FalseFirst}
 use Rattle.st_emit.specs.Literals.{LiteralView}
@@ -10,6 +9,7 @@ use Rattle.st_emit.specs.Emitting.{for_value, for_effect, code_of, body_code, no
 use Rattle.st_emit.specs.declared.step.Step.TheVariants.{PushConstant}
 use Rattle.st_meaning.specs.declared.deed.Value.{Value}
 use Rattle.st_meaning.specs.declared.deed.Value.TheVariants.{First}
+use Rattle.st_meaning.specs.declared.deed.Variable.TheVariants.{Temporary}
 use Rattle.st_meaning.specs.Values.{AnswerView}
 use Rattle.st_meaning.specs.Runs.{Run, Outcome, gives, ◌>>=◌, assign_to, return_value}
 use Rattle.st_meaning.specs.Traces.{nil, body_value}

@@ -1,8 +1,9 @@
 -- What the code of a walk holds, as definitions see it.
-use Rattle.std.specs.Prelude.{◌≡◌, ◌≢◌, ℕ, ◌+◌, List, [], ◌∷◌, ◌++◌, length, reverse, drop, slice_get, Option, Some, None, Bool, true, false, if◌then◌else◌}
-use Rattle.st_emit.specs.declared.step.Constant.TheVariants.{True, False}
-use Rattle.st_emit.specs.declared.step.Place.{Place}
-use Rattle.st_emit.specs.declared.step.Place.TheVariants.{Field, Temporary, Literal, Shared}
+use Rattle.std.specs.Prelude.{◌≡◌, ◌≢◌, ◌≤◌, ℕ, zero, suc, ◌+◌, List, [], ◌∷◌, ◌++◌, length, reverse, drop, slice_get, Option, Some, None, Bool, true, false, if◌then◌else◌}
+use Rattle.st_meaning.specs.declared.deed.Variable.{Variable}
+use Rattle.st_meaning.specs.declared.deed.Variable.TheVariants.{Field, Temporary, Shared}
+use Rattle.st_emit.specs.declared.step.Step.{Step}
+use Rattle.st_emit.specs.declared.step.Step.TheVariants.{Push, Store, PopStore}
 use Rattle.st_meaning.specs.declared.deed.Value.{Value}
 use Rattle.st_resolved.specs.Instructions.{instruction}
 use Rattle.st_code.specs.Methods.{PartsView}
@@ -15,7 +16,7 @@ use Rattle.st_meaning.specs.declared.code.Walked.{Walked}
 use Rattle.st_meaning.specs.declared.code.Walked.TheVariants as walked
 use Rattle.st_meaning.specs.declared.code.Top.{Top}
 use Rattle.st_meaning.specs.declared.code.Top.TheVariants as top
-use Rattle.st_meaning.specs.Values.{DeedView}
+use Rattle.st_meaning.specs.Values.{DeedView, IsShort}
 use Rattle.st_meaning.specs.Deeds.{answers_view, deeds_view, Lists}
 use Rattle.st_meaning.specs.Runs.{Going, Outcome, went, over, long, Run}
 use Rattle.st_meaning.specs.Codes as codes
@@ -29,17 +30,22 @@ abbrev pub known : Option (Option Value) → Value → Value
 known (Some (Some v)) start = v
 known _ start = start
 
-abbrev pub held_of : Held → Place → Value
+abbrev pub held_of : Held → Variable → Value
 held_of h (Field n) = known (slice_get h.fields.items n) (First (Field n))
 held_of h (Temporary n) = known (slice_get h.temporaries.items n) (start_of h.arguments (Temporary n))
 held_of h (Shared n) = known (slice_get h.shared.items n) (First (Shared n))
-held_of h (Literal n) = First (Literal n)
 
 -- a table for the variables that code can name
 pub record IsTable (h : Held) : Type 0 where
   pub fields : length h.fields.items ≡ 64
   pub temporaries : length h.temporaries.items ≡ 64
   pub shared : length h.shared.items ≡ 64
+
+-- a course with its tables, which has made no more blocks than it has deeds, and has no more of these than it may
+pub record IsSound (c : Course) : Type 0 where
+  pub table : IsTable c.held
+  pub blocks : c.blocks ≤ length c.deeds.items
+  pub few : length c.deeds.items ≤ most
 
 -- a list with another value at a place
 pub record IsPut (old new : List (Option Value)) (n : ℕ) (v : Value) : Type 0 where
@@ -75,7 +81,7 @@ abbrev pub stack_view : List Value → List Value
 stack_view items = reverse items
 
 -- with this stack then
-abbrev pub walked_view : Walked → List Value → codes.Walked Value
+abbrev pub walked_view : Walked → List Value → codes.Walked Variable Value
 walked_view walked.Went s = codes.went s
 walked_view (walked.Stored p v) s = codes.stored p v s
 walked_view (walked.Sent receiver selector arguments above) s = codes.sent receiver selector.now arguments.items above s
@@ -87,7 +93,7 @@ walked_view (walked.Tested on v d) s = codes.tested on v d s
 walked_view walked.Stuck s = codes.stuck
 
 -- this is what an instruction does, and the stack is this one then
-abbrev pub Does : codes.Walked Value → (new : List Value) → Walked → Type 0
+abbrev pub Does : codes.Walked Variable Value → (new : List Value) → Walked → Type 0
 Does what new w = walked_view w (stack_view new) ≡ what
 
 -- the top of a stack, and what is below it
@@ -96,7 +102,7 @@ IsTop old (Some v) new = stack_view old ≡ v ∷ stack_view new
 IsTop old None new = stack_view old ≡ []
 
 -- what is done with the top of a stack
-abbrev pub top_walked : Top → List Value → codes.Walked Value
+abbrev pub top_walked : Top → List Value → codes.Walked Variable Value
 top_walked (top.Stored p) s = codes.on_top s (λ x rest. codes.stored p x s)
 top_walked (top.Popped p) s = codes.on_top s (λ x rest. codes.stored p x rest)
 top_walked top.Dropped s = codes.on_top s (λ x rest. codes.went rest)
@@ -104,11 +110,18 @@ top_walked top.Doubled s = codes.on_top s (λ x rest. codes.went (x ∷ s))
 top_walked top.Returned s = codes.on_top s (λ x rest. codes.returned x)
 top_walked (top.Tested on d) s = codes.on_top s (λ x rest. codes.tested on x d rest)
 
--- a boolean; every other value is none
+-- true or false, by their numbers; every other value is none
 abbrev pub boolean : Value → Option Bool
-boolean (Constant True) = Some true
-boolean (Constant False) = Some false
+boolean (Constant (suc zero)) = Some true
+boolean (Constant (suc (suc zero))) = Some false
 boolean v = None
+
+-- an instruction whose places have 8 bits
+abbrev pub NamesShort : Step → Type 0
+NamesShort (Push p) = IsShort p
+NamesShort (Store p) = IsShort p
+NamesShort (PopStore p) = IsShort p
+NamesShort step = Unit {0}
 
 -- whether a jump on a boolean jumps; a value that is none is the end
 abbrev pub Tests : Bool → Value → Course → Course → Option Bool → Type 0

@@ -88,12 +88,13 @@ module _ {H : Type 0} (m : ObjectMemory H) where
   text_at h (Some v) = option_map (λ (o : Object). o.units) (object_in h v)
 
   -- what a walk has, by what stands in the machine
-  abbrev pub values_in : State H → Values (Option Value)
+  abbrev pub values_in : State H → Values Place (Option Value)
   values_in s = record {
     constant = λ k. Some (constant_at s k);
     small = λ n. Some (small_at n);
     literal = λ n. option_map Some (literal_at s n);
     variable = variable_at s;
+    target = λ p. p;
     selector = λ n. text_at s.memory (literal_at s n);
   }
 
@@ -259,7 +260,7 @@ module _ {H : Type 0} (m : ObjectMemory H) where
 
   -- What the machine makes of s by this code, in a step that comes to o and leaves t, where u is s behind the code: it is what the
   -- code's part of a walk says.
-  abbrev pub Shows : (temporaries below : ℕ) → Code → Walked (Option Value) → (u t : State H) → Transition (State H) Outcome → Type 0
+  abbrev pub Shows : (temporaries below : ℕ) → Code → Walked Place (Option Value) → (u t : State H) → Transition (State H) Outcome → Type 0
   Shows k b code (went st) u t o = GoesOn b st u.registers.ip u t × Keeps k u t
   Shows k b code (stored p v st) u t o = GoesOn b st u.registers.ip u t × (variable_at t p ≡ v) × KeepsBut k p u t
   Shows k b code (ahead d st) u t o = GoesOn b st (u.registers.ip +ℤ pos d) u t × Keeps k u t

@@ -2,16 +2,16 @@
 use Rattle.std.specs.Prelude.{ℕ, ◌+◌, ◌*◌, nat_lt, List, [], length, if◌then◌else◌}
 use Rattle.st_scan.specs.Views.{MethodView}
 use Rattle.st_emit.specs.declared.step.Constant.TheVariants.{Nil}
-use Rattle.st_emit.specs.declared.step.Place.{Place}
-use Rattle.st_emit.specs.declared.step.Place.TheVariants.{Temporary}
 use Rattle.st_emit.specs.Names.{NamesView}
 use Rattle.st_emit.specs.Literals.{LiteralView}
 use Rattle.st_emit.specs.Selectors.{arity}
 use Rattle.st_emit.specs.Nodes.{Body}
 use Rattle.st_code.specs.Methods.{PartsView, body}
 use Rattle.st_meaning.specs.declared.deed.Value.{Value}
-use Rattle.st_meaning.specs.declared.deed.Value.TheVariants.{Constant, First}
-use Rattle.st_meaning.specs.Values.{AnswerView}
+use Rattle.st_meaning.specs.declared.deed.Value.TheVariants.{First}
+use Rattle.st_meaning.specs.declared.deed.Variable.{Variable}
+use Rattle.st_meaning.specs.declared.deed.Variable.TheVariants.{Temporary}
+use Rattle.st_meaning.specs.Values.{AnswerView, constant_value}
 use Rattle.st_meaning.specs.Runs.{Going, Outcome, went, over, long, stuck, unfinished}
 use Rattle.st_meaning.specs.Traces.{method_value}
 use Rattle.st_meaning.specs.Walks.{walk}
@@ -21,11 +21,11 @@ abbrev pub most : ℕ
 most = 1000000
 
 -- arguments, fields and shared variables hold what they held at the start; other temporaries start as nil
-abbrev pub start_of : (arguments : ℕ) → Place → Value
-start_of arguments (Temporary n) = if nat_lt n arguments then First (Temporary n) else Constant Nil
+abbrev pub start_of : (arguments : ℕ) → Variable → Value
+start_of arguments (Temporary n) = if nat_lt n arguments then First (Temporary n) else constant_value Nil
 start_of arguments p = First p
 
-abbrev pub before_all : (start : Place → Value) → List AnswerView → Going
+abbrev pub before_all : (start : Variable → Value) → List AnswerView → Going
 before_all start answers = record { deeds = []; answers = answers; held = start; blocks = 0; backs = 0 }
 
 -- So many turns are enough for each loop: the last one jumps back too often.

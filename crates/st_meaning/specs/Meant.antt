@@ -6,6 +6,7 @@ use Rattle.st_meaning.specs.declared.arena.Statements.{Statements}
 use Rattle.st_meaning.specs.declared.arena.Message.{Message}
 use Rattle.st_meaning.specs.declared.arena.Start.{Start}
 use Rattle.st_meaning.specs.declared.arena.Act.{Act}
+use Rattle.st_meaning.specs.Values.{variable_of}
 use Rattle.st_meaning.specs.Runs.{Run, gives, ◌>>=◌, assign_to, answer_to, in_order}
 use Rattle.st_meaning.specs.Traces.{sided, chosen, value_of, body_value, messages_value, nodes_values, method_value}
 use Rattle.st_meaning.specs.Meanings.{most}
@@ -13,7 +14,7 @@ use Rattle.st_meaning.specs.Arenas.{Meaning, start_run, act_run, acts_run, each,
 
 -- what is done to a value; a loop is no such thing
 abbrev pub tail_value : Tail → Value → ℕ → Run Value
-tail_value (assigned p) v n = assign_to most p v
+tail_value (assigned p) v n = assign_to most (variable_of p) v
 tail_value (sent above ms) v n = messages_value most ms above v n
 tail_value (side_of side a) v n = sided most side v (body_value most a n)
 tail_value (sides_of side a b) v n = chosen most side v (body_value most a n) (body_value most b n)

@@ -1,29 +1,26 @@
 -- What is done in a trace or a walk, one deed after the other.
-use Rattle.std.specs.Prelude.{ℕ, ◌+◌, ◌==◌, nat_lt, Bool, ◌&&◌, List, [], ◌∷◌, ◌++◌, length, if◌then◌else◌}
-use Rattle.st_emit.specs.declared.step.Constant.TheVariants.{True, False}
-use Rattle.st_emit.specs.declared.step.Place.{Place}
-use Rattle.st_emit.specs.declared.step.Place.TheVariants.{Field, Temporary, Literal, Shared}
-use Rattle.st_meaning.specs.declared.deed.Change.{Change}
+use Rattle.std.specs.Prelude.{ℕ, zero, suc, ◌+◌, ◌==◌, nat_lt, Bool, ◌&&◌, List, [], ◌∷◌, ◌++◌, length, if◌then◌else◌}
+use Rattle.st_meaning.specs.declared.deed.Variable.{Variable}
+use Rattle.st_meaning.specs.declared.deed.Variable.TheVariants.{Field, Temporary, Shared}
 use Rattle.st_meaning.specs.declared.deed.Value.{Value}
 use Rattle.st_meaning.specs.declared.deed.Value.TheVariants.{Constant, Block}
 use Rattle.st_meaning.specs.Values.{AnswerView, DeedView, sent, assigned, made, returned, unsure, same_variable}
 
 -- VARIABLES
 
-abbrev pub number_of : Place → ℕ
+abbrev pub number_of : Variable → ℕ
 number_of (Field n) = n
 number_of (Temporary n) = n
-number_of (Literal n) = n
 number_of (Shared n) = n
 
 -- what the variables hold once one has another value; no code names a variable from 64 on
-abbrev pub changed : Place → Value → (Place → Value) → Place → Value
+abbrev pub changed : Variable → Value → (Variable → Value) → Variable → Value
 changed p v held q = if nat_lt (number_of p) 64 && same_variable p q then v else held q
 
 -- after changes, one behind the other
-abbrev pub all_changed : List Change → (Place → Value) → Place → Value
+abbrev pub all_changed : List (Variable × Value) → (Variable → Value) → Variable → Value
 all_changed [] held = held
-all_changed (c ∷ cs) held = all_changed cs (changed c.variable c.value held)
+all_changed (c ∷ cs) held = all_changed cs (changed c.0 c.1 held)
 
 -- RUNS
 
@@ -32,7 +29,7 @@ all_changed (c ∷ cs) held = all_changed cs (changed c.variable c.value held)
 pub record Going : Type 0 where
   pub deeds : List DeedView
   pub answers : List AnswerView
-  pub held : Place → Value
+  pub held : Variable → Value
   pub blocks : ℕ
   pub backs : ℕ
 
@@ -84,7 +81,7 @@ module _ (most : ℕ) where
   unfoldable pub did : {A : Type 0} → DeedView → Run A → Run A
   did d next = λ g. if length g.deeds == most then long else next (record g { deeds = g.deeds ++ d ∷ [] })
 
-  unfoldable pub assign_to : Place → Value → Run Value
+  unfoldable pub assign_to : Variable → Value → Run Value
   assign_to p v = did (assigned p v) (λ g. went v (record g { held = changed p v g.held }))
 
   unfoldable pub answer_to : Value → List ℕ → List Value → Bool → Run Value
@@ -103,8 +100,8 @@ module _ (most : ℕ) where
   unfoldable pub jump_back : {A : Type 0} → Run A → Run A
   jump_back next = λ g. if g.backs == most then long else next (record g { backs = g.backs + 1 })
 
-  -- one way on true, another on false
+  -- one way on true, another on false, which have the numbers 1 and 2
   abbrev pub decide : {A : Type 0} → Value → (on_true on_false : Run A) → Run A
-  decide (Constant True) on_true on_false = on_true
-  decide (Constant False) on_true on_false = on_false
+  decide (Constant (suc zero)) on_true on_false = on_true
+  decide (Constant (suc (suc zero))) on_true on_false = on_false
   decide v on_true on_false = be_unsure v

@@ -1,5 +1,5 @@
 -- Nodes of an arena as they are made, each of a part of a tree.
-use Rattle.std.specs.Prelude.{◌≡◌, ℕ, ◌+◌, Bool, false, List, [], ◌∷◌, slice_get, Some, take}
+use Rattle.std.specs.Prelude.{◌≡◌, ◌≤◌, ℕ, ◌+◌, Bool, false, List, [], ◌∷◌, length, slice_get, Some, take}
 use Rattle.st_scan.specs.declared.tree.Expression.{Expression}
 use Rattle.st_scan.specs.declared.tree.Message.{Message as Sent}
 use Rattle.st_scan.specs.declared.tree.Statement.{Statement}
@@ -13,17 +13,20 @@ use Rattle.st_emit.specs.declared.form.TwoSided.TheVariants.{TrueFirst, FalseFir
 use Rattle.st_emit.specs.Names.{NamesView}
 use Rattle.st_emit.specs.Literals.{LiteralView, Naming, given, ◌>>=◌}
 use Rattle.st_emit.specs.Views.{literals_view}
+use Rattle.st_emit.specs.NameViews.{scope_view}
 use Rattle.st_emit.specs.Nodes.{Node, loop, Body, Tail, chosen, Nodes, Sending}
 use Rattle.st_emit.specs.Resolving.{Message as Resolved, all_nodes, sending, expression_node, nodes_of, messages_of, statements_body, names_in_statements}
 use Rattle.st_emit.specs.Around.{context, at_number, message_of, link_tail}
 use Rattle.st_emit.specs.Emits.{chained}
 use Rattle.st_code.specs.Methods.{body}
+use Rattle.st_resolved.specs.Seen.{AllBelow, numbers}
 use Rattle.st_meaning.specs.declared.arena.Statements.{Statements}
 use Rattle.st_meaning.specs.declared.arena.Message.{Message}
+use Rattle.st_meaning.specs.declared.arena.Act.{Act}
 use Rattle.st_meaning.specs.declared.sketch.Sketch.{Sketch}
 use Rattle.st_meaning.specs.Meanings.{most}
 use Rattle.st_meaning.specs.Arenas.{Meaning, runs_of}
-use Rattle.st_meaning.specs.Meant.{IsMessage, IsMessages, IsBody}
+use Rattle.st_meaning.specs.Meant.{IsAct, IsMessage, IsMessages, IsBody}
 
 -- WHAT IS MADE
 
@@ -37,11 +40,25 @@ runs_in s = runs_of most s.nodes.items
 abbrev pub Extends : (old new : List Meaning) → Type 0
 Extends old new = (i : ℕ) (m : Meaning) → slice_get old i ≡ Some m → slice_get new i ≡ Some m
 
+-- what stands in a sketch stands there still, with no fewer literals
+pub record Keeps (old new : Sketch) : Type 0 where
+  pub nodes : Extends (runs_in old) (runs_in new)
+  pub literals : length (literals_of old) ≤ length (literals_of new)
+
+-- a sketch whose nodes stand among these, with literals whose places have 8 bits
+pub record Stands (s : Sketch) (ms : List Meaning) : Type 0 where
+  pub nodes : Extends (runs_in s) ms
+  pub few : length (literals_of s) ≤ 256
+
 -- a sketch with a part more, which holds whatever stands behind it
 pub record Builds {A : Type 0} (naming : Naming A) (Is : List Meaning → A → Type 0) (old new : Sketch) : Type 0 where
   pub literals : literals_of new ≡ (naming (literals_of old)).literals
-  pub extends : Extends (runs_in old) (runs_in new)
-  pub part : (ms : List Meaning) → Extends (runs_in new) ms → Is ms (naming (literals_of old)).part
+  pub keeps : Keeps old new
+  pub part : (ms : List Meaning) → Stands new ms → Is ms (naming (literals_of old)).part
+
+-- the variables that are declared have numbers of 8 bits
+abbrev pub IsFew : Around → Type 0
+IsFew a = AllBelow 256 (numbers (scope_view a.scope.now))
 
 -- MESSAGES
 
@@ -89,6 +106,9 @@ MakesMessages above a ms old new made = Builds (cascade_naming above a ms) (IsMe
 
 abbrev pub messages_naming : (above : Bool) → Around → List Sent → Naming Tail
 messages_naming above a ms = link_tail above (sent_link (messages_view ms)) (context a)
+
+abbrev pub MakesSends : (above : Bool) → Around → List Sent → (old new : Sketch) → Act → Type 0
+MakesSends above a ms old new act = Builds (messages_naming above a ms) (IsAct act) old new
 
 abbrev pub sent_naming : Around → Sent → Naming Tail
 sent_naming a m = link_tail false (sent_link (message m.selector.items (expressions_view m.arguments.items) no_messages)) (context a)

@@ -4,9 +4,7 @@ use Rattle.std.specs.Global.{Vec}
 use Rattle.st_emit.specs.declared.form.OneSided.{OneSided}
 use Rattle.st_emit.specs.declared.form.TwoSided.{TwoSided}
 use Rattle.st_emit.specs.declared.form.Loop.{Loop}
-use Rattle.st_emit.specs.declared.step.Constant.{Constant}
 use Rattle.st_meaning.specs.declared.deed.Value.{Value}
-use Rattle.st_meaning.specs.declared.deed.Value.TheVariants.{Constant as Known}
 use Rattle.st_meaning.specs.Walks.{on_boolean}
 use Rattle.st_meaning.specs.declared.arena.Statements.{Statements}
 use Rattle.st_meaning.specs.declared.arena.Message.{Message}
@@ -87,8 +85,8 @@ abbrev pub IsCut : {A : Type 0} → Run A → Course → Type 0
 IsCut m old = Cut (m (going_view old))
 
 -- on this boolean a block is passed, with this value
-abbrev pub IsPassed : OneSided → (on : Bool) → Constant → Type 0
-IsPassed side on k = (v : Value) (a : Run Value) → sided most side v a ≡ on_boolean most on v (gives (Known k)) a
+abbrev pub IsPassed : OneSided → (on : Bool) → Value → Type 0
+IsPassed side on k = (v : Value) (a : Run Value) → sided most side v a ≡ on_boolean most on v (gives k) a
 
 -- on this boolean the first block is done, and else the second
 abbrev pub IsFirstOn : TwoSided → Bool → Type 0

@@ -10,20 +10,19 @@ use Rattle.st_emit.specs.declared.form.Loop.TheVariants.{WhileTrue, WhileFalse}
 use Rattle.st_emit.specs.Nodes.{Node, Body, nothing, last, next, returned, Messages, only, also, Nodes, none, node}
 use Rattle.st_emit.specs.Nodes as nodes
 use Rattle.st_meaning.specs.declared.deed.Value.{Value}
-use Rattle.st_meaning.specs.declared.deed.Value.TheVariants.{Constant}
-use Rattle.st_meaning.specs.Values.{literal_value, small_value}
+use Rattle.st_meaning.specs.Values.{constant_value, literal_value, small_value, variable_of}
 use Rattle.st_meaning.specs.Runs.{Run, went, unfinished, gives, ◌>>=◌, assign_to, answer_to, make_block, return_value, jump_back, decide, in_order}
 
 abbrev pub nil : Value
-nil = Constant Nil
+nil = constant_value Nil
 
 module _ (most : ℕ) where
   -- ifTrue: and ifFalse: give nil where their block isn't done, and: gives false, or: gives true
   abbrev pub sided : OneSided → Value → (a : Run Value) → Run Value
   sided IfTrue v a = decide most v a (gives nil)
   sided IfFalse v a = decide most v (gives nil) a
-  sided And v a = decide most v a (gives (Constant False))
-  sided Or v a = decide most v (gives (Constant True)) a
+  sided And v a = decide most v a (gives (constant_value False))
+  sided Or v a = decide most v (gives (constant_value True)) a
 
   abbrev pub chosen : TwoSided → Value → (a b : Run Value) → Run Value
   chosen TrueFirst v a b = decide most v a b
@@ -42,11 +41,11 @@ module _ (most : ℕ) where
   -- the value of a node, where each loop makes at most n turns
   abbrev mutual
     pub value_of : Node → ℕ → Run Value
-    value_of (nodes.constant k) n = gives (Constant k)
+    value_of (nodes.constant k) n = gives (constant_value k)
     value_of (nodes.small k) n = gives (small_value k)
     value_of (nodes.literal x place) n = gives (literal_value x place)
-    value_of (nodes.variable p) n = λ g. went (g.held p) g
-    value_of (nodes.assign p x) n = value_of x n >>= λ v. assign_to most p v
+    value_of (nodes.variable p) n = λ g. went (g.held (variable_of p)) g
+    value_of (nodes.assign p x) n = value_of x n >>= λ v. assign_to most (variable_of p) v
     value_of (nodes.block first arguments c body) n = make_block most
     value_of (nodes.send above r ms) n = value_of r n >>= λ v. messages_value ms above v n
     value_of (nodes.one_sided side x a) n = value_of x n >>= λ v. sided side v (body_value a n)
@@ -72,7 +71,7 @@ module _ (most : ℕ) where
 
   -- the statements of a method
   abbrev pub method_value : Body → ℕ → Run Value
-  method_value nothing n = return_value most (Constant Receiver)
-  method_value (last x) n = value_of x n >>= λ v. return_value most (Constant Receiver)
+  method_value nothing n = return_value most (constant_value Receiver)
+  method_value (last x) n = value_of x n >>= λ v. return_value most (constant_value Receiver)
   method_value (next x b) n = value_of x n >>= λ v. method_value b n
   method_value (returned x) n = value_of x n >>= λ v. return_value most v

@@ -1,13 +1,12 @@
 -- What code does in one context, from the meaning of each bytecode, where each send takes the next answer.
 use Rattle.std.specs.Prelude.{ℕ, zero, suc, ◌+◌, ◌-◌, Bool, true, false, List, ◌∷◌, drop, slice_get, Option, Some, None, option_map}
-use Rattle.st_emit.specs.declared.step.Place.{Place}
 use Rattle.st_emit.specs.declared.step.Step.{Step}
 use Rattle.st_emit.specs.Literals.{LiteralView, symbol}
 use Rattle.st_resolved.specs.declared.reading.Found.{Found}
 use Rattle.st_resolved.specs.Instructions.{instruction}
 use Rattle.st_meaning.specs.declared.deed.Value.{Value}
-use Rattle.st_meaning.specs.declared.deed.Value.TheVariants.{Constant}
-use Rattle.st_meaning.specs.Values.{literal_value, small_value}
+use Rattle.st_meaning.specs.declared.deed.Variable.{Variable}
+use Rattle.st_meaning.specs.Values.{constant_value, literal_value, small_value, variable_of}
 use Rattle.st_meaning.specs.Runs.{Going, stuck, unfinished, Run, ◌>>=◌, assign_to, answer_to, make_block, return_value, jump_back, decide}
 use Rattle.st_meaning.specs.Codes.{Values, Walked, walk_code}
 use Rattle.st_meaning.specs.Codes as codes
@@ -25,16 +24,17 @@ selector_of (Some (symbol text)) = Some text
 selector_of l = None
 
 -- what a walk has
-abbrev pub values_of : List LiteralView → (Place → Value) → Values Value
+abbrev pub values_of : List LiteralView → (Variable → Value) → Values Variable Value
 values_of literals held = record {
-  constant = λ k. Constant k;
+  constant = constant_value;
   small = small_value;
   literal = λ n. option_map (λ l. literal_value l n) (slice_get literals n);
-  variable = held;
+  variable = λ p. held (variable_of p);
+  target = variable_of;
   selector = λ n. selector_of (slice_get literals n);
 }
 
-abbrev pub values_at : List LiteralView → Going → Values Value
+abbrev pub values_at : List LiteralView → Going → Values Variable Value
 values_at literals g = values_of literals g.held
 
 module _ (most : ℕ) where
@@ -43,7 +43,7 @@ module _ (most : ℕ) where
   on_boolean false v jump go = decide most v go jump
 
   -- what becomes of an instruction, behind which the code goes on at this place
-  abbrev pub done : Walked Value → Next → ℕ → Run Value
+  abbrev pub done : Walked Variable Value → Next → ℕ → Run Value
   done (codes.went s) next at = next at s
   done (codes.stored p v s) next at = assign_to most p v >>= λ w. next at s
   done (codes.sent r text arguments above s) next at = answer_to most r text arguments above >>= λ v. next at (v ∷ s)

@@ -4,15 +4,16 @@ ghost use Rattle.std.specs.Prelude.{◌≡◌, ◌∷◌, [], Some, None, IfOk, 
 ghost use Rattle.st_emit.specs.Selectors.{colons, arity, sends_now};
 ghost use Rattle.st_emit.specs.Views.{literal_view, literals_view};
 ghost use Rattle.st_emit.specs.Resolving.{special_selectors, first_special};
-ghost use Rattle.st_meaning.specs.Values.{number_value, literal_value, small_value};
+ghost use Rattle.st_meaning.specs.Values.{constant_value, number_value, literal_value, small_value};
 ghost use Rattle.st_meaning.specs.Codes as codes;
 ghost use Rattle.st_meaning.specs.Walks.{selector_of, values_of};
-ghost use Rattle.st_meaning.specs.Courses.{stack_view, top_walked, IsTop, Does, held_of};
+ghost use Rattle.st_meaning.specs.Courses.{stack_view, top_walked, IsTop, Does, NamesShort, held_of};
 
-use crate::deed::{Value, ValueList, Variable};
+use crate::deed::{CONTEXT, FALSE, NIL, RECEIVER, TRUE, Value, ValueList, Variable};
 use crate::held::Held;
 use crate::message::sends;
-use st_emit::{Literal, Place, SPECIAL_SENDS, Step};
+use crate::short::{byte_of, variable_of};
+use st_emit::{Constant, Literal, Place, SPECIAL_SENDS, Step};
 use st_scan::Signed;
 use std::alloc::{AllocError, Global};
 
@@ -44,6 +45,19 @@ pub enum Walked<'p> {
     Stuck,
 }
 
+/// The value that a pseudo variable is.
+pub fn constant_value(constant: Constant) -> Value
+    ensures { result ≡ constant_value constant }
+{
+    match constant {
+        Constant::Receiver => RECEIVER,
+        Constant::True => TRUE,
+        Constant::False => FALSE,
+        Constant::Nil => NIL,
+        Constant::Context => CONTEXT,
+    }
+}
+
 /// A number that a code pushes: from -1 to 2, by one more.
 pub fn small_value(n: usize) -> Value
     ensures { result ≡ small_value n }
@@ -57,7 +71,7 @@ pub fn small_value(n: usize) -> Value
 }
 
 /// The value of a number that is a literal at a place: a SmallInteger is itself.
-pub fn number_value(n: Signed, place: usize) -> Value
+pub fn number_value(n: Signed, place: u8) -> Value
     ensures { result ≡ number_value n place }
 {
     if n.minus && n.size <= 16_384 {
@@ -70,7 +84,7 @@ pub fn number_value(n: Signed, place: usize) -> Value
 }
 
 /// The value of a literal at a place.
-fn literal_value(literal: &Literal, place: usize) -> Value
+fn literal_value(literal: &Literal, place: u8) -> Value
     ensures { result ≡ literal_value (literal_view literal.now) place }
 {
     match literal {
@@ -261,19 +275,19 @@ fn on_top<'p>(stack: &mut ValueList, what: Top) -> Result<Walked<'p>, AllocError
 fn pushes_literal<'p>(
     stack: &mut ValueList,
     literals: &[Literal],
-    place: usize,
+    place: u8,
 ) -> Result<Walked<'p>, AllocError>
     ensures { IfOk result (Does (codes.on_some (option_map (λ l. literal_value l place)
         (slice_get (literals_view literals.now) place)) (λ x. codes.went (x ∷ stack_view stack.old.items)))
         stack.new.items) }
 {
-    match literals.get(place) {
+    match literals.get(place as usize) {
         Some(literal) => pushed(stack, literal_value(literal, place)),
         None => Ok(Walked::Stuck),
     }
 }
 
-/// What an instruction does with a stack.
+/// What an instruction does with a stack. The numbers of its places have 8 bits, as have all that bytes say.
 pub fn walk_code<'p>(
     alloc: Global,
     stack: &mut ValueList,
@@ -281,16 +295,17 @@ pub fn walk_code<'p>(
     literals: &'p [Literal],
     step: Step,
 ) -> Result<Walked<'p>, AllocError>
+    requires { NamesShort step }
     ensures { IfOk result (Does (codes.walk_code (values_of (literals_view literals.now) (held_of held.now))
         step (stack_view stack.old.items)) stack.new.items) }
 {
     match step {
-        Step::Push(Place::Literal(n)) => pushes_literal(stack, literals, n),
-        Step::Push(variable) => pushed(stack, held.value(variable)),
-        Step::PushConstant(constant) => pushed(stack, Value::Constant(constant)),
+        Step::Push(Place::Literal(n)) => pushes_literal(stack, literals, byte_of(n)),
+        Step::Push(place) => pushed(stack, held.value(variable_of(place))),
+        Step::PushConstant(constant) => pushed(stack, constant_value(constant)),
         Step::PushNumber(n) => pushed(stack, small_value(n)),
-        Step::Store(variable) => on_top(stack, Top::Stored(variable)),
-        Step::PopStore(variable) => on_top(stack, Top::Popped(variable)),
+        Step::Store(place) => on_top(stack, Top::Stored(variable_of(place))),
+        Step::PopStore(place) => on_top(stack, Top::Popped(variable_of(place))),
         Step::Pop => on_top(stack, Top::Dropped),
         Step::Duplicate => on_top(stack, Top::Doubled),
         Step::Send {
@@ -318,7 +333,7 @@ pub fn walk_code<'p>(
             )
         }
         Step::SendSpecial(code) => sends_special(alloc, stack, code),
-        Step::ReturnConstant(constant) => Ok(Walked::Returned(Value::Constant(constant))),
+        Step::ReturnConstant(constant) => Ok(Walked::Returned(constant_value(constant))),
         Step::ReturnTop | Step::ReturnBlock => on_top(stack, Top::Returned),
         Step::Jump(distance) | Step::JumpPast(distance) => Ok(Walked::Ahead(distance)),
         Step::JumpBack(distance) => Ok(Walked::Back(distance)),

@@ -1,10 +1,10 @@
 //! How far a walk has come.
 
-ghost use Rattle.std.specs.Prelude.{◌≡◌, ◌==◌, ◌++◌, [], ◌∷◌, true, false, length, IfOk, IfErr, OnOk};
+ghost use Rattle.std.specs.Prelude.{◌≡◌, ◌==◌, ◌+◌, ◌++◌, [], ◌∷◌, true, false, length, IfOk, IfErr, OnOk};
 ghost use Rattle.st_meaning.specs.Deeds.{deed_view, deeds_view, answers_view};
 ghost use Rattle.st_meaning.specs.Runs.{did, ends, take_answer, over, went, long, assign_to, answer_to, make_block, jump_back};
 ghost use Rattle.st_meaning.specs.Meanings.{most, start_of, before_all};
-ghost use Rattle.st_meaning.specs.Courses.{going_view, with_deed, with_back, Goes, IsLong, IsTable};
+ghost use Rattle.st_meaning.specs.Courses.{going_view, with_deed, with_back, Goes, IsLong, IsSound};
 
 use crate::deed::{Answer, Deed, Deeds, Value, ValueList, Variable};
 use crate::fault::MeaningFault;
@@ -22,7 +22,7 @@ pub struct Course<'a> {
     pub deeds: Deeds,
     pub answers: &'a [Answer],
     pub held: Held,
-    pub blocks: usize,
+    pub blocks: u32,
     pub backs: usize,
 }
 
@@ -35,7 +35,7 @@ impl<'a> Course<'a> {
     ) -> Result<Course<'a>, AllocError>
         ensures begins { IfOk result (λ c.
             going_view c ≡ before_all (start_of arguments) (answers_view answers.now)) }
-        ensures table { IfOk result (λ c. IsTable c.held) }
+        ensures sound { IfOk result IsSound }
     {
         Ok(Course {
             deeds: Vec::new(alloc),
@@ -49,10 +49,14 @@ impl<'a> Course<'a> {
     /// One more deed.
     #[tactic(auto, using(crate::proofs::Coursing::one_more, crate::proofs::Coursing::many_deeds))]
     pub fn did(&mut self, deed: Deed) -> Result<(), MeaningFault>
+        requires { IsSound self.old }
         ensures went { OnOk result (going_view self.new ≡ with_deed (deed_view deed) (going_view self.old)) }
         ensures few { OnOk result ((length self.old.deeds.items == most) ≡ false) }
         ensures long { IfErr result (IsLong ((length self.old.deeds.items == most) ≡ true)) }
+        ensures one_more { OnOk result (length self.new.deeds.items ≡ length self.old.deeds.items + 1) }
+        ensures blocks { self.new.blocks ≡ self.old.blocks }
         ensures held { self.new.held ≡ self.old.held }
+        ensures sound { IsSound self.new }
     {
         if self.deeds.len() == MOST {
             return Err(MeaningFault::Long);
@@ -64,11 +68,11 @@ impl<'a> Course<'a> {
     /// A value is assigned to a variable.
     #[tactic(auto, using(crate::proofs::Coursing::assign_on, crate::proofs::Coursing::assign_long, crate::proofs::Coursing::many_deeds))]
     pub fn assign(&mut self, variable: Variable, value: Value) -> Result<(), MeaningFault>
-        requires { IsTable self.old.held }
+        requires { IsSound self.old }
         ensures went { OnOk result (
             assign_to most variable value (going_view self.old) ≡ went value (going_view self.new)) }
         ensures long { IfErr result (IsLong (assign_to most variable value (going_view self.old) ≡ long)) }
-        ensures table { IsTable self.new.held }
+        ensures sound { IsSound self.new }
     {
         self.did(Deed::Assign { variable, value })?;
         self.held.change(variable, value);
@@ -85,12 +89,12 @@ impl<'a> Course<'a> {
         arguments: ValueList,
         above: bool,
     ) -> Result<Option<Value>, MeaningFault>
-        requires { IsTable self.old.held }
+        requires { IsSound self.old }
         ensures went { IfOk result (λ o. Goes (answer_to most receiver selector.now arguments.items above
             (going_view self.old)) o (going_view self.new)) }
         ensures long { IfErr result (IsLong (answer_to most receiver selector.now arguments.items above
             (going_view self.old) ≡ long)) }
-        ensures table { IsTable self.new.held }
+        ensures sound { IsSound self.new }
     {
         let selector = selector.to_vec(alloc)?;
         self.did(Deed::Send {
@@ -104,10 +108,10 @@ impl<'a> Course<'a> {
 
     /// The next answer, if there is one.
     fn take_answer(&mut self) -> Option<Value>
-        requires { IsTable self.old.held }
+        requires { IsSound self.old }
         ensures went { Goes (take_answer (going_view self.old).answers (going_view self.old)) result
             (going_view self.new) }
-        ensures table { IsTable self.new.held }
+        ensures sound { IsSound self.new }
     {
         match self.answers {
             [] => None,
@@ -122,23 +126,25 @@ impl<'a> Course<'a> {
     /// A block is made.
     #[tactic(auto, using(crate::proofs::Coursing::make_on, crate::proofs::Coursing::make_long, crate::proofs::Coursing::many_deeds))]
     pub fn make(&mut self) -> Result<Value, MeaningFault>
+        requires { IsSound self.old }
         ensures went { IfOk result (λ v.
             make_block most (going_view self.old) ≡ went v (going_view self.new)) }
         ensures long { IfErr result (IsLong (make_block most (going_view self.old) ≡ long)) }
-        ensures held { self.new.held ≡ self.old.held }
+        ensures sound { IsSound self.new }
     {
         let number = self.blocks;
         self.did(Deed::Block { number })?;
-        self.blocks = sum(number, 1)?;
+        self.blocks = number + 1;
         Ok(Value::Block(number))
     }
 
     /// One more jump back.
     pub fn back(&mut self) -> Result<(), MeaningFault>
+        requires { IsSound self.old }
         ensures went { OnOk result (going_view self.new ≡ with_back (going_view self.old)) }
         ensures few { OnOk result ((self.old.backs == most) ≡ false) }
         ensures long { IfErr result (IsLong ((self.old.backs == most) ≡ true)) }
-        ensures held { self.new.held ≡ self.old.held }
+        ensures sound { IsSound self.new }
     {
         if self.backs == MOST {
             return Err(MeaningFault::Long);

@@ -5,8 +5,7 @@ ghost use Rattle.st_meaning.specs.Runs.{changed, all_changed};
 ghost use Rattle.st_meaning.specs.Meanings.{start_of};
 ghost use Rattle.st_meaning.specs.Courses.{known, held_of, IsTable, IsPut};
 
-use crate::deed::{Change, Value, Variable};
-use st_emit::{Constant, Place};
+use crate::deed::{NIL, Value, Variable};
 use std::alloc::{AllocError, Global};
 
 /// How many variables of a kind code can name.
@@ -26,12 +25,12 @@ fn start_of(arguments: usize, variable: Variable) -> Value
     ensures { result ≡ start_of arguments variable }
 {
     match variable {
-        Place::Temporary(n) => if n < arguments {
+        Variable::Temporary(n) => if (n as usize) < arguments {
             Value::First(variable)
         } else {
-            Value::Constant(Constant::Nil)
+            NIL
         },
-        _ => Value::First(variable),
+        Variable::Field(_) | Variable::Shared(_) => Value::First(variable),
     }
 }
 
@@ -72,42 +71,40 @@ impl Held {
     {
         let start = start_of(self.arguments, variable);
         match variable {
-            Place::Field(n) => known(&self.fields, n, start),
-            Place::Temporary(n) => known(&self.temporaries, n, start),
-            Place::Shared(n) => known(&self.shared, n, start),
-            Place::Literal(_) => start,
+            Variable::Field(n) => known(&self.fields, n as usize, start),
+            Variable::Temporary(n) => known(&self.temporaries, n as usize, start),
+            Variable::Shared(n) => known(&self.shared, n as usize, start),
         }
     }
 
     /// Gives a variable another value.
-    #[tactic(auto, using(crate::proofs::Puts::field_put, crate::proofs::Puts::temporary_put, crate::proofs::Puts::shared_put, crate::proofs::Puts::far, crate::proofs::Puts::no_variable))]
+    #[tactic(auto, using(crate::proofs::Puts::field_put, crate::proofs::Puts::temporary_put, crate::proofs::Puts::shared_put, crate::proofs::Puts::far))]
     pub fn change(&mut self, variable: Variable, value: Value)
         requires { IsTable self.old }
         ensures held { held_of self.new ≡ changed variable value (held_of self.old) }
         ensures table { IsTable self.new }
     {
         match variable {
-            Place::Field(n) => if n < NAMED {
-                put(&mut self.fields, n, value);
+            Variable::Field(n) => if (n as usize) < NAMED {
+                put(&mut self.fields, n as usize, value);
             },
-            Place::Temporary(n) => if n < NAMED {
-                put(&mut self.temporaries, n, value);
+            Variable::Temporary(n) => if (n as usize) < NAMED {
+                put(&mut self.temporaries, n as usize, value);
             },
-            Place::Shared(n) => if n < NAMED {
-                put(&mut self.shared, n, value);
+            Variable::Shared(n) => if (n as usize) < NAMED {
+                put(&mut self.shared, n as usize, value);
             },
-            Place::Literal(_) => {}
         }
     }
 
     /// Makes changes, one behind the other.
-    pub fn change_all(&mut self, changes: &[Change])
+    pub fn change_all(&mut self, changes: &[(Variable, Value)])
         requires { IsTable self.old }
         ensures held { held_of self.new ≡ all_changed changes.now (held_of self.old) }
         ensures table { IsTable self.new }
     {
         for change in changes {
-            self.change(change.variable, change.value);
+            self.change(change.0, change.1);
         }
     }
 }

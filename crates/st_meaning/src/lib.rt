@@ -10,15 +10,18 @@ mod held;
 mod laws;
 mod message;
 mod method_trace;
+mod short;
 mod sketch;
 mod steps;
 mod tracing;
 mod walking;
 
-pub use deed::{Answer, AnswerList, Change, ChangeList, Deed, Deeds, Value, ValueList, Variable};
+pub use deed::{
+    Answer, AnswerList, CONTEXT, ChangeList, Deed, Deeds, FALSE, NIL, RECEIVER, TRUE, Value,
+    ValueList, Variable,
+};
 pub use fault::MeaningFault;
 pub use laws::code_means;
 pub use method_trace::trace;
-pub use st_emit::{Constant, Place};
 pub use steps::step_walks;
 pub use walking::walk;

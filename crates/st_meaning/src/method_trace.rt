@@ -1,8 +1,9 @@
 //! The trace of a method's tree.
 
-ghost use Rattle.std.specs.Prelude.{◌≡◌, ◌++◌, IfOk, IfErr};
+ghost use Rattle.std.specs.Prelude.{◌≡◌, ◌++◌, None, IfOk, IfErr};
 ghost use Rattle.st_scan.specs.Views.{method_view};
 ghost use Rattle.st_emit.specs.NameViews.{names_view, frame_view, scope_view};
+ghost use Rattle.st_code.specs.Methods.{fault};
 ghost use Rattle.st_meaning.specs.Deeds.{answers_view, deeds_view, Lists, IsFault};
 ghost use Rattle.st_meaning.specs.Meanings.{Trace};
 ghost use Rattle.st_meaning.specs.Sketches.{IsSketchOf};
@@ -36,6 +37,7 @@ fn sketched<'t>(
     tree: &'t MethodTree,
     names: &'t Names,
 ) -> Result<(Sketch, Statements), AllocError>
+    requires { fault (method_view tree.now) (names_view names.now) ≡ None }
     ensures { IfOk result (λ r. IsSketchOf (method_view tree.now) (names_view names.now) r.0 r.1) }
 {
     let first = tree.arguments.len();
@@ -64,15 +66,17 @@ fn sketched<'t>(
     Ok((sketch, inside))
 }
 
-/// The trace of a method's tree under the names of its class: the messages it sends, the assignments, the blocks it makes
-/// and what it returns, where each message takes the next answer. It ends where the method returns, or finds no boolean
-/// where one has to be, or where the answers end. A loop turns once more than it may jump back, so none is cut short.
+/// The trace of a method's tree, whose code has no fault, under the names of its class: the messages it sends, the
+/// assignments, the blocks it makes and what it returns, where each message takes the next answer. It ends where the
+/// method returns, or finds no boolean where one has to be, or where the answers end. A loop turns once more than it may
+/// jump back, so none is cut short.
 pub fn trace(
     alloc: Global,
     tree: &MethodTree,
     names: &Names,
     answers: &AnswerList,
 ) -> Result<Deeds, MeaningFault>
+    requires { fault (method_view tree.now) (names_view names.now) ≡ None }
     ensures list { IfOk result (λ r. Lists (Trace (method_view tree.now) (names_view names.now)
         (answers_view answers.now.items)) (deeds_view r.items)) }
     ensures fault { IfErr result (IsFault (Trace (method_view tree.now) (names_view names.now)

@@ -11,13 +11,14 @@ ghost use Rattle.st_emit.specs.Nodes.{is_above};
 ghost use Rattle.st_emit.specs.Resolving.{name_node, content_node, number_node};
 ghost use Rattle.st_emit.specs.Shapes.{IsCascade};
 ghost use Rattle.st_meaning.specs.Meant.{IsNode, IsStart, IsAct, IsArguments, IsBody};
-ghost use Rattle.st_meaning.specs.Sketches.{Builds, MakesMessage, MakesMessages, literals_of, node_naming, chain_naming};
-ghost use Rattle.st_meaning.specs.Sketches.{begun_naming, arguments_naming, messages_naming, sent_naming, two_naming};
+ghost use Rattle.st_meaning.specs.Sketches.{IsFew, Builds, MakesMessage, MakesMessages, MakesSends, literals_of, node_naming};
+ghost use Rattle.st_meaning.specs.Sketches.{chain_naming, begun_naming, arguments_naming, sent_naming, two_naming};
 ghost use Rattle.st_meaning.specs.Sketches.{link_naming, body_naming, loop_naming};
 
 use crate::arena::{Act, Arena, Message, MessageList, Node, NodePlaces, Start, Statements};
-use crate::code::{number_value, small_value};
+use crate::code::{constant_value, number_value, small_value};
 use crate::deed::Value;
+use crate::short::{byte_of, variable_of};
 use st_emit::{
     Around, Draft, Literal, Lookup, Repetition, Shape, TwoSided, by_selector, constant_named,
     emit_value, first_repetition, literal_of, lookup_behind, names_in_statements, only_message,
@@ -59,12 +60,16 @@ impl Sketch {
 
 /// What a name means.
 fn named(sketch: &mut Sketch, around: Around<'_>, name: &Name) -> Result<Start, AllocError>
+    requires { IsFew around }
     ensures { IfOk result (λ s. Builds (name_node (context around.entry) (name_view name.now)) (IsStart s)
         sketch.old sketch.new) }
 {
     match constant_named(&name.text) {
-        Some(constant) => Ok(Start::Known(Value::Constant(constant))),
-        None => Ok(Start::Held(place_of_name(&mut sketch.draft, around, name)?)),
+        Some(constant) => Ok(Start::Known(constant_value(constant))),
+        None => {
+            let place = place_of_name(&mut sketch.draft, around, name)?;
+            Ok(Start::Held(variable_of(place)))
+        }
     }
 }
 
@@ -79,7 +84,7 @@ fn number(sketch: &mut Sketch, n: Signed) -> Result<Start, AllocError>
         minus: n.minus,
         size: n.size,
     })?;
-    Ok(Start::Known(number_value(n, place)))
+    Ok(Start::Known(number_value(n, byte_of(place))))
 }
 
 /// A literal.
@@ -91,7 +96,7 @@ fn literal(alloc: Global, sketch: &mut Sketch, what: &Content) -> Result<Start, 
         return number(sketch, *n);
     }
     let place = sketch.draft.named(literal_of(alloc, what)?)?;
-    Ok(Start::Known(Value::Literal(place)))
+    Ok(Start::Known(Value::Literal(byte_of(place))))
 }
 
 /// Arguments, in order; and the next number.
@@ -102,6 +107,7 @@ fn arguments(
     around: Around<'_>,
     es: &[Expression],
 ) -> Result<(NodePlaces, usize), AllocError>
+    requires { IsFew around }
     ensures built { IfOk result (λ r.
         Builds (arguments_naming around.entry es.now) (IsArguments r.0.items) sketch.old sketch.new) }
     ensures next { IfOk result (λ r. r.1 ≡ after_all around.entry es.now) }
@@ -125,6 +131,7 @@ fn message(
     lookup: Lookup,
     m: &Sent,
 ) -> Result<(Message, usize), AllocError>
+    requires { IsFew around }
     ensures built { IfOk result (λ r.
         MakesMessage (is_above lookup) around.entry m.now sketch.old sketch.new r.0) }
     ensures next { IfOk result (λ r. r.1 ≡ after_all around.entry m.now.arguments.items) }
@@ -150,6 +157,7 @@ fn cascade(
     lookup: Lookup,
     messages: &[Sent],
 ) -> Result<(MessageList, usize), AllocError>
+    requires { IsFew around }
     ensures built { IfOk result (λ r.
         MakesMessages (is_above lookup) around.entry messages.now sketch.old sketch.new r.0.items) }
     ensures next { IfOk result (λ r. r.1 ≡ after_messages around.entry messages.now) }
@@ -179,6 +187,7 @@ fn sent(
     around: Around<'_>,
     m: &Sent,
 ) -> Result<(Act, usize), AllocError>
+    requires { IsFew around }
     ensures built { IfOk result (λ r.
         Builds (sent_naming around.entry m.now) (IsAct r.0) sketch.old sketch.new) }
     ensures next { IfOk result (λ r. r.1 ≡ after_all around.entry m.now.arguments.items) }
@@ -222,6 +231,8 @@ fn two_sided(
     a: &[Statement],
     b: &[Statement],
 ) -> Result<(Act, usize), AllocError>
+    requires few { IsFew around }
+    requires few_behind { IsFew behind }
     ensures built { IfOk result (λ r.
         Builds (two_naming side around.entry behind.entry a.now b.now) (IsAct r.0) sketch.old sketch.new) }
     ensures next { IfOk result (λ r. r.1 ≡ after_statements behind.entry b.now) }
@@ -249,6 +260,7 @@ fn linked(
     lookup: Lookup,
     link: Link<'_>,
 ) -> Result<(Act, usize), AllocError>
+    requires { IsFew around }
     ensures built { IfOk result (λ r.
         Builds (link_naming (is_above lookup) around.entry link.entry) (IsAct r.0) sketch.old sketch.new) }
     ensures next { IfOk result (λ r. r.1 ≡ after_link around.entry link.entry) }
@@ -256,7 +268,7 @@ fn linked(
     match link {
         Link::Assign(target) => {
             let place = place_of_name(&mut sketch.draft, around, target)?;
-            Ok((Act::Assign(place), around.next))
+            Ok((Act::Assign(variable_of(place)), around.next))
         }
         Link::Send(messages) => match only_message(lookup, messages) {
             Some(m) => sent(alloc, sketch, around, m),
@@ -281,9 +293,10 @@ fn sends(
     lookup: Lookup,
     messages: &[Sent],
 ) -> Result<(Act, usize), AllocError>
-    requires { IsCascade (is_above lookup) (messages_view messages.now) }
+    requires few { IsFew around }
+    requires cascade { IsCascade (is_above lookup) (messages_view messages.now) }
     ensures built { IfOk result (λ r.
-        Builds (messages_naming (is_above lookup) around.entry messages.now) (IsAct r.0) sketch.old sketch.new) }
+        MakesSends (is_above lookup) around.entry messages.now sketch.old sketch.new r.0) }
     ensures next { IfOk result (λ r. r.1 ≡ after_messages around.entry messages.now) }
 {
     let above = is_above(lookup);
@@ -308,6 +321,7 @@ pub fn body(
     around: Around<'_>,
     statements: &[Statement],
 ) -> Result<(Statements, usize), AllocError>
+    requires { IsFew around }
     ensures built { IfOk result (λ r.
         Builds (body_naming around.entry statements.now) (IsBody r.0) sketch.old sketch.new) }
     ensures next { IfOk result (λ r. r.1 ≡ after_statements around.entry statements.now) }
@@ -345,6 +359,7 @@ fn looped(
     around: Around<'_>,
     repetition: Repetition<'_>,
 ) -> Result<(Start, usize), AllocError>
+    requires { IsFew around }
     ensures built { IfOk result (λ r.
         Builds (loop_naming around.entry repetition.entry) (IsStart r.0) sketch.old sketch.new) }
     ensures next { IfOk result (λ r. r.1 ≡ after_loop around.entry repetition.entry) }
@@ -361,7 +376,8 @@ fn begun(
     around: Around<'_>,
     e: &Expression,
 ) -> Result<(Start, usize), AllocError>
-    requires { IsFirst (expression_view e.now) }
+    requires few { IsFew around }
+    requires first { IsFirst (expression_view e.now) }
     ensures built { IfOk result (λ r.
         Builds (node_naming around.entry e.now) (IsStart r.0) sketch.old sketch.new) }
     ensures next { IfOk result (λ r. r.1 ≡ after around.entry e.now) }
@@ -387,7 +403,8 @@ fn beginning<'t>(
     first: &'t Expression,
     links: &[Link<'t>],
 ) -> Result<(Start, usize, usize), AllocError>
-    requires { IsFirst (expression_view first.now) }
+    requires few { IsFew around }
+    requires first { IsFirst (expression_view first.now) }
     ensures built { IfOk result (λ r.
         Builds (begun_naming around.entry first.now links.now r.2) (IsStart r.0) sketch.old sketch.new) }
     ensures next { IfOk result (λ r. r.1 ≡ after_begun around.entry first.now links.now r.2) }
@@ -415,20 +432,24 @@ fn follow<'t>(
     first: &'t Expression,
     links: &[Link<'t>],
 ) -> Result<(usize, usize), AllocError>
-    requires { IsFirst (expression_view first.now) }
+    requires few { IsFew around }
+    requires first { IsFirst (expression_view first.now) }
     ensures built { IfOk result (λ r.
         Builds (chain_naming around.entry first.now links.now) (IsNode r.0) sketch.old sketch.new) }
     ensures next { IfOk result (λ r. r.1 ≡ after_chain around.entry first.now links.now) }
 {
     let (start, mut next, taken) = beginning(alloc, sketch, around, first, links)?;
-    let mut acts = Vec::new(alloc);
+    let mut node = Node {
+        start,
+        acts: Vec::new(alloc),
+    };
     for i in taken..links.len() {
         let lookup = lookup_behind(i, first);
         let (act, behind) = linked(alloc, sketch, Around { next, ..around }, lookup, links[i])?;
-        acts.push(act)?;
+        node.acts.push(act)?;
         next = behind;
     }
-    let place = sketch.put(Node { start, acts })?;
+    let place = sketch.put(node)?;
     Ok((place, next))
 }
 
@@ -440,6 +461,7 @@ fn value(
     around: Around<'_>,
     e: &Expression,
 ) -> Result<(usize, usize), AllocError>
+    requires { IsFew around }
     ensures built { IfOk result (λ r.
         Builds (node_naming around.entry e.now) (IsNode r.0) sketch.old sketch.new) }
     ensures next { IfOk result (λ r. r.1 ≡ after around.entry e.now) }

@@ -2,7 +2,7 @@
 
 ghost use Rattle.std.specs.Prelude.{◌≡◌, [], IfOk, IfErr, OnOk};
 ghost use Rattle.st_meaning.specs.Meanings.{most};
-ghost use Rattle.st_meaning.specs.Courses.{IsLong, IsTable};
+ghost use Rattle.st_meaning.specs.Courses.{IsLong, IsSound};
 ghost use Rattle.st_meaning.specs.Traced.{Gives, GivesAll, IsOver, IsPassed, IsFirstOn, IsLeftOn, IsCut};
 ghost use Rattle.st_meaning.specs.Traced.{EndsTurn, IsTurnCut, Repeats, IsRepeatCut};
 ghost use Rattle.st_meaning.specs.Traced.{node_in, start_in, acts_in, act_in, messages_in, message_in, arguments_in};
@@ -10,14 +10,11 @@ ghost use Rattle.st_meaning.specs.Traced.{sided_in, chosen_in, body_in, nodes_in
 
 use crate::arena::{Act, Message, Node, Start, Statements};
 use crate::course::Course;
-use crate::deed::{Deed, Value, ValueList};
+use crate::deed::{Deed, FALSE, NIL, RECEIVER, TRUE, Value, ValueList};
 use crate::fault::MeaningFault;
 use crate::walking::test;
-use st_emit::{Constant, Loop, OneSided, TwoSided};
+use st_emit::{Loop, OneSided, TwoSided};
 use std::alloc::Global;
-
-/// What stands where nothing has a value.
-const NIL: Value = Value::Constant(Constant::Nil);
 
 /// How a turn of a loop ends: another one follows, the loop is left, or the method is at its end.
 enum TurnEnd {
@@ -27,14 +24,14 @@ enum TurnEnd {
 }
 
 /// The boolean on which the block of a form is passed, and what is its value then.
-fn passed(side: OneSided) -> (bool, Constant)
+fn passed(side: OneSided) -> (bool, Value)
     ensures { IsPassed side result.0 result.1 }
 {
     match side {
-        OneSided::IfTrue => (false, Constant::Nil),
-        OneSided::IfFalse => (true, Constant::Nil),
-        OneSided::And => (false, Constant::False),
-        OneSided::Or => (true, Constant::True),
+        OneSided::IfTrue => (false, NIL),
+        OneSided::IfFalse => (true, NIL),
+        OneSided::And => (false, FALSE),
+        OneSided::Or => (true, TRUE),
     }
 }
 
@@ -67,10 +64,10 @@ fn node(
     place: usize,
     bound: usize,
 ) -> Result<Option<Value>, MeaningFault>
-    requires { IsTable course.old.held }
+    requires { IsSound course.old }
     ensures goes { IfOk result (Gives (node_in nodes.now bound place) course.old course.new) }
     ensures long { IfErr result (IsLong (IsCut (node_in nodes.now bound place) course.old)) }
-    ensures table { IsTable course.new.held }
+    ensures sound { IsSound course.new }
 {
     if place >= nodes.len() {
         return Ok(Some(NIL));
@@ -92,10 +89,10 @@ fn start(
     start: &Start,
     bound: usize,
 ) -> Result<Option<Value>, MeaningFault>
-    requires { IsTable course.old.held }
+    requires { IsSound course.old }
     ensures goes { IfOk result (Gives (start_in before.now bound start.now) course.old course.new) }
     ensures long { IfErr result (IsLong (IsCut (start_in before.now bound start.now) course.old)) }
-    ensures table { IsTable course.new.held }
+    ensures sound { IsSound course.new }
 {
     match start {
         Start::Known(value) => Ok(Some(*value)),
@@ -120,10 +117,10 @@ fn acts(
     begun: Value,
     bound: usize,
 ) -> Result<Option<Value>, MeaningFault>
-    requires { IsTable course.old.held }
+    requires { IsSound course.old }
     ensures goes { IfOk result (Gives (acts_in before.now bound acts.now begun) course.old course.new) }
     ensures long { IfErr result (IsLong (IsCut (acts_in before.now bound acts.now begun) course.old)) }
-    ensures table { IsTable course.new.held }
+    ensures sound { IsSound course.new }
 {
     let mut value = begun;
     for one in acts {
@@ -145,10 +142,10 @@ fn act(
     value: Value,
     bound: usize,
 ) -> Result<Option<Value>, MeaningFault>
-    requires { IsTable course.old.held }
+    requires { IsSound course.old }
     ensures goes { IfOk result (Gives (act_in before.now bound act.now value) course.old course.new) }
     ensures long { IfErr result (IsLong (IsCut (act_in before.now bound act.now value) course.old)) }
-    ensures table { IsTable course.new.held }
+    ensures sound { IsSound course.new }
 {
     match act {
         Act::Assign(variable) => {
@@ -174,12 +171,12 @@ fn sends(
     receiver: Value,
     bound: usize,
 ) -> Result<Option<Value>, MeaningFault>
-    requires { IsTable course.old.held }
+    requires { IsSound course.old }
     ensures goes { IfOk result
         (Gives (messages_in before.now bound above receiver messages.now) course.old course.new) }
     ensures long { IfErr result
         (IsLong (IsCut (messages_in before.now bound above receiver messages.now) course.old)) }
-    ensures table { IsTable course.new.held }
+    ensures sound { IsSound course.new }
 {
     let mut value = receiver;
     for one in messages {
@@ -202,12 +199,12 @@ fn message(
     receiver: Value,
     bound: usize,
 ) -> Result<Option<Value>, MeaningFault>
-    requires { IsTable course.old.held }
+    requires { IsSound course.old }
     ensures goes { IfOk result
         (Gives (message_in before.now bound above receiver message.now) course.old course.new) }
     ensures long { IfErr result
         (IsLong (IsCut (message_in before.now bound above receiver message.now) course.old)) }
-    ensures table { IsTable course.new.held }
+    ensures sound { IsSound course.new }
 {
     match arguments(alloc, course, before, &message.arguments, bound)? {
         Some(values) => course.answer(alloc, receiver, &message.selector, values, above),
@@ -224,10 +221,10 @@ fn arguments(
     places: &[usize],
     bound: usize,
 ) -> Result<Option<ValueList>, MeaningFault>
-    requires { IsTable course.old.held }
+    requires { IsSound course.old }
     ensures goes { IfOk result (GivesAll (arguments_in before.now bound places.now) course.old course.new) }
     ensures long { IfErr result (IsLong (IsCut (arguments_in before.now bound places.now) course.old)) }
-    ensures table { IsTable course.new.held }
+    ensures sound { IsSound course.new }
 {
     let mut values = Vec::new(alloc);
     for place in places {
@@ -250,17 +247,17 @@ fn one_sided(
     value: Value,
     bound: usize,
 ) -> Result<Option<Value>, MeaningFault>
-    requires { IsTable course.old.held }
+    requires { IsSound course.old }
     ensures goes { IfOk result
         (Gives (sided_in before.now bound side value inside.now) course.old course.new) }
     ensures long { IfErr result
         (IsLong (IsCut (sided_in before.now bound side value inside.now) course.old)) }
-    ensures table { IsTable course.new.held }
+    ensures sound { IsSound course.new }
 {
     let (on, other) = passed(side);
     match test(course, on, value)? {
         Some(passes) => if passes {
-            Ok(Some(Value::Constant(other)))
+            Ok(Some(other))
         } else {
             body(alloc, course, before, inside, bound)
         },
@@ -280,12 +277,12 @@ fn two_sided(
     value: Value,
     bound: usize,
 ) -> Result<Option<Value>, MeaningFault>
-    requires { IsTable course.old.held }
+    requires { IsSound course.old }
     ensures goes { IfOk result
         (Gives (chosen_in before.now bound side value first.now second.now) course.old course.new) }
     ensures long { IfErr result
         (IsLong (IsCut (chosen_in before.now bound side value first.now second.now) course.old)) }
-    ensures table { IsTable course.new.held }
+    ensures sound { IsSound course.new }
 {
     match test(course, first_on(side), value)? {
         Some(is_first) => if is_first {
@@ -306,10 +303,10 @@ fn body(
     inside: &Statements,
     bound: usize,
 ) -> Result<Option<Value>, MeaningFault>
-    requires { IsTable course.old.held }
+    requires { IsSound course.old }
     ensures goes { IfOk result (Gives (body_in before.now bound inside.now) course.old course.new) }
     ensures long { IfErr result (IsLong (IsCut (body_in before.now bound inside.now) course.old)) }
-    ensures table { IsTable course.new.held }
+    ensures sound { IsSound course.new }
 {
     match statements(alloc, course, before, &inside.nodes, bound)? {
         Some(value) => if inside.returns {
@@ -331,10 +328,10 @@ fn statements(
     places: &[usize],
     bound: usize,
 ) -> Result<Option<Value>, MeaningFault>
-    requires { IsTable course.old.held }
+    requires { IsSound course.old }
     ensures goes { IfOk result (Gives (nodes_in before.now bound places.now) course.old course.new) }
     ensures long { IfErr result (IsLong (IsCut (nodes_in before.now bound places.now) course.old)) }
-    ensures table { IsTable course.new.held }
+    ensures sound { IsSound course.new }
 {
     let mut value = NIL;
     for place in places {
@@ -357,12 +354,12 @@ fn looped(
     repeated: &Statements,
     bound: usize,
 ) -> Result<Option<Value>, MeaningFault>
-    requires { IsTable course.old.held }
+    requires { IsSound course.old }
     ensures goes { IfOk result
         (Gives (loop_in before.now bound kind condition.now repeated.now) course.old course.new) }
     ensures long { IfErr result
         (IsLong (IsCut (loop_in before.now bound kind condition.now repeated.now) course.old)) }
-    ensures table { IsTable course.new.held }
+    ensures sound { IsSound course.new }
 {
     let mut left = bound;
     while left > 0 {
@@ -387,12 +384,12 @@ fn turn(
     repeated: &Statements,
     bound: usize,
 ) -> Result<TurnEnd, MeaningFault>
-    requires { IsTable course.old.held }
+    requires { IsSound course.old }
     ensures goes { IfOk result
         (EndsTurn before.now bound kind condition.now repeated.now course.old course.new) }
     ensures long { IfErr result
         (IsLong (IsTurnCut before.now bound kind condition.now repeated.now course.old)) }
-    ensures table { IsTable course.new.held }
+    ensures sound { IsSound course.new }
 {
     match body(alloc, course, before, condition, bound)? {
         Some(value) => match test(course, leaves_on(kind), value)? {
@@ -416,10 +413,10 @@ fn again(
     repeated: &Statements,
     bound: usize,
 ) -> Result<TurnEnd, MeaningFault>
-    requires { IsTable course.old.held }
+    requires { IsSound course.old }
     ensures goes { IfOk result (Repeats before.now bound repeated.now course.old course.new) }
     ensures long { IfErr result (IsLong (IsRepeatCut before.now bound repeated.now course.old)) }
-    ensures table { IsTable course.new.held }
+    ensures sound { IsSound course.new }
 {
     match body(alloc, course, before, repeated, bound)? {
         Some(_) => {
@@ -438,7 +435,7 @@ pub fn method(
     inside: &Statements,
     bound: usize,
 ) -> Result<(), MeaningFault>
-    requires { IsTable course.old.held }
+    requires { IsSound course.old }
     ensures over { OnOk result (IsOver (method_in nodes.now bound inside.now) course.old course.new) }
     ensures long { IfErr result (IsLong (IsCut (method_in nodes.now bound inside.now) course.old)) }
 {
@@ -446,9 +443,7 @@ pub fn method(
         Some(value) => if inside.returns {
             course.did(Deed::Return { value })
         } else {
-            course.did(Deed::Return {
-                value: Value::Constant(Constant::Receiver),
-            })
+            course.did(Deed::Return { value: RECEIVER })
         },
         None => Ok(()),
     }

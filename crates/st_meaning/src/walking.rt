@@ -2,36 +2,52 @@
 
 ghost use Rattle.std.specs.Prelude.{◌≡◌, ◌+◌, ◌*◌, IfOk, IfErr};
 ghost use Rattle.st_code.specs.MethodDrafts.{parts_view};
+ghost use Rattle.st_meaning.specs.declared.deed.Value.TheVariants.{Constant};
 ghost use Rattle.st_meaning.specs.Deeds.{answers_view, deeds_view, Lists, IsFault};
 ghost use Rattle.st_meaning.specs.Meanings.{most, Walk};
 ghost use Rattle.st_meaning.specs.Courses.{boolean, Tests, IsLongTest, IsBehind, Continues, IsTooLong};
-ghost use Rattle.st_meaning.specs.Courses.{becomes, advances, Jumps, IsLongJump, IsLong, IsTable};
+ghost use Rattle.st_meaning.specs.Courses.{becomes, advances, Jumps, IsLongJump, IsLong, IsSound};
 
 use crate::code::{Walked, arity, walk_code};
 use crate::course::{Course, MOST};
 use crate::deed::{AnswerList, Deed, Deeds, Value, ValueList};
 use crate::fault::MeaningFault;
 use st_code::MethodParts;
-use st_emit::{Constant, sum};
+use st_emit::sum;
 use st_resolved::instruction;
 use std::alloc::{AllocError, Global};
+
+/// The boolean that a pseudo variable is, by its number.
+fn boolean_of(n: u8) -> Option<bool>
+    ensures { result ≡ boolean (Constant n) }
+{
+    match n {
+        1 => Some(true),
+        2 => Some(false),
+        _ => None,
+    }
+}
 
 /// The boolean that a value is.
 fn boolean(value: Value) -> Option<bool>
     ensures { result ≡ boolean value }
 {
     match value {
-        Value::Constant(Constant::True) => Some(true),
-        Value::Constant(Constant::False) => Some(false),
-        _ => None,
+        Value::Constant(n) => boolean_of(n),
+        Value::Number(_) => None,
+        Value::First(_) => None,
+        Value::Literal(_) => None,
+        Value::Block(_) => None,
+        Value::Answer(_) => None,
     }
 }
 
 /// Whether a jump on this boolean jumps. Where a value is no boolean, that is the last deed.
 pub fn test(course: &mut Course<'_>, on: bool, value: Value) -> Result<Option<bool>, MeaningFault>
+    requires { IsSound course.old }
     ensures jumps { IfOk result (Tests on value course.old course.new) }
     ensures long { IfErr result (IsLong (IsLongTest on value course.old)) }
-    ensures held { course.new.held ≡ course.old.held }
+    ensures sound { IsSound course.new }
 {
     let Some(holds) = boolean(value) else {
         course.did(Deed::Unsure { value })?;
@@ -66,9 +82,10 @@ fn jump_on(
     distance: usize,
     at: usize,
 ) -> Result<Option<usize>, MeaningFault>
+    requires { IsSound course.old }
     ensures goes { IfOk result (Jumps on value distance at course.old course.new) }
     ensures long { IfErr result (IsLong (IsLongJump on value distance at course.old)) }
-    ensures held { course.new.held ≡ course.old.held }
+    ensures sound { IsSound course.new }
 {
     let Some(jumps) = test(course, on, value)? else {
         return Ok(None);
@@ -88,11 +105,11 @@ fn done(
     walked: Walked<'_>,
     at: usize,
 ) -> Result<Option<usize>, MeaningFault>
-    requires { IsTable course.old.held }
+    requires { IsSound course.old }
     ensures goes { IfOk result (Continues (becomes walked.entry at stack.old.items course.old)
         stack.new.items course.new) }
     ensures long { IfErr result (IsLong (IsTooLong (becomes walked.entry at stack.old.items course.old))) }
-    ensures table { IsTable course.new.held }
+    ensures sound { IsSound course.new }
 {
     match walked {
         Walked::Went => Ok(Some(at)),
@@ -135,12 +152,12 @@ fn advance(
     parts: &MethodParts,
     at: usize,
 ) -> Result<Option<usize>, MeaningFault>
-    requires { IsTable course.old.held }
+    requires { IsSound course.old }
     ensures goes { IfOk result (Continues (advances (parts_view parts.now) at stack.old.items course.old)
         stack.new.items course.new) }
     ensures long { IfErr result (IsLong (IsTooLong
         (advances (parts_view parts.now) at stack.old.items course.old))) }
-    ensures table { IsTable course.new.held }
+    ensures sound { IsSound course.new }
 {
     if at >= parts.bytes.len() {
         return Ok(None);

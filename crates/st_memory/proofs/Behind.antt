@@ -14,6 +14,7 @@ use Rattle.st_memory.specs.declared.change.Change.{Change}
 use Rattle.st_memory.specs.declared.change.Change.TheVariants.{Field, Fields}
 use Rattle.st_memory.specs.Drafts.{made_table, with_made, draft_table, written, all_written, pointer_fields, after_change, no_change, replayed, named_object, highest}
 use Rattle.st_memory.specs.Making.{made_object}
+use Rattle.st_model.proofs.TableLemmas.{entry_past}
 
 -- tables end to end
 
@@ -25,11 +26,6 @@ entry_left (e ∷ t) u (suc k) l = entry_left t u k (omega (arith, l))
 entry_right : (t u : Table) (k : ℕ) → entry (t ++ u) (length t + k) ≡ entry u k
 entry_right [] u k = let e : 0 + k ≡ k = omega arith in ap (entry u) e
 entry_right (e ∷ t) u k = let q : suc (length t) + k ≡ suc (length t + k) = omega arith in ap (entry (e ∷ (t ++ u))) q ∙ entry_right t u k
-
-pub entry_past : (t : Table) (k : ℕ) → length t ≤ k → entry t k ≡ None
-entry_past [] k l = refl
-entry_past (e ∷ t) zero l = absurd (omega (arith, l))
-entry_past (e ∷ t) (suc k) l = entry_past t k (omega (arith, l))
 
 entry_made : (ms : List Made) (n k : ℕ) (d : Made) → k < n → k < length ms → entry (made_table (take n ms)) k ≡ Some (made_object (slice_index_or ms k d))
 entry_made [] n k d l m = absurd (omega (arith, m))

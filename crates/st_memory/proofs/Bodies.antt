@@ -10,6 +10,7 @@ use Rattle.st_model.specs.Objects.{Object, holds_fields, is_pointers, is_words, 
 use Rattle.st_model.specs.Table.{Table, entry}
 use Rattle.st_model.specs.Formed.{IsFormed}
 use Rattle.st_model.specs.View.{View, IsWhole, is_live, object_of, nothing}
+use Rattle.st_model.proofs.KindTests.{words_fields}
 
 formed_entry : (e : Option Object) → ((o : Object) → e ≡ Some o → IsFormed o) → is_some e ≡ true → IsFormed (unwrap_or e nothing)
 formed_entry None all live = cc
@@ -30,17 +31,11 @@ most_words : (b : Bool) (f u : ℕ) → (b ≡ true → f ≡ 0) → (if b then 
 most_words true f u none l = let z = none refl in omega (arith, z, l)
 most_words false f u none l = omega (arith, l)
 
-words_hold : (k : Kind) → is_words k ≡ true → holds_fields k ≡ false
-words_hold kind.Pointers e = cc
-words_hold kind.Words e = refl
-words_hold kind.Bytes e = cc
-words_hold kind.Method e = cc
-
 pub most_units : {v : View} (x : Value) → IsWhole v → is_live v.objects x ≡ true → 2 * length (object_of v.objects x).fields + length (object_of v.objects x).units ≤ 131066
 most_units {v} x whole live =
     let o = object_of v.objects x in
     let formed = formed_object v x whole live in
-    most_words (is_words o.kind) (length o.fields) (length o.units) (λ words. ap length (formed.fieldless (words_hold o.kind words))) formed.size
+    most_words (is_words o.kind) (length o.fields) (length o.units) (λ words. ap length (formed.fieldless (words_fields o.kind words))) formed.size
 
 few_fields : (k : Kind) (f u : ℕ) → is_pointers k ≡ true → (if is_words k then 2 + u else 2 + f + (u + 1) / 2) ≤ 65535 → (if is_pointers k then f else 2 * f + u) ≤ 65533
 few_fields kind.Pointers f u e l = omega (arith, l)

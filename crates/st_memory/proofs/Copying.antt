@@ -1,20 +1,14 @@
 -- What stands in the fields while they are copied one after the other.
-use Rattle.std.proofs.Common.{◌≡◌, ◌≢◌, ℕ, suc, ◌+◌, ◌-◌, ◌<◌, ◌≤◌, List, length, true, false, Some, refl, sym, ◌∙◌, ap, arith, ◌⊎◌, inl, inr}
+use Rattle.std.proofs.Common.{◌≡◌, ◌≢◌, ℕ, suc, ◌+◌, ◌-◌, ◌<◌, ◌≤◌, List, length, true, Some, refl, sym, ◌∙◌, ap, arith, ◌⊎◌, inl, inr}
 use Rattle.std.proofs.lemmas.Option.{get_or_from_slice_get}
 use Rattle.std.specs.Prelude.{slice_get}
 use Rattle.st_model.specs.declared.kind.Kind.{Kind}
 use Rattle.st_model.specs.declared.kind.Kind.TheVariants as kind
 use Rattle.st_model.specs.Values.{Value}
-use Rattle.st_model.specs.Objects.{is_pointers, is_method, nil}
+use Rattle.st_model.specs.Objects.{nil}
 use Rattle.st_model.specs.Table.{Table}
 use Rattle.st_model.specs.View.{Has, is_live, object_of, with_stored, with_fields, field_of, fields_from}
 use Rattle.st_model.proofs.Transfers.{same_or_not, live_with_fields, count_with_fields, kind_with_fields, field_with_fields-other, field_with_fields-below, field_with_fields-above, fields_from-length, fields_from-more, with_fields-more, stored-below}
-
-pub no_method : (k : Kind) → is_pointers k ≡ true → is_method k ≡ false
-no_method kind.Pointers e = refl
-no_method kind.Words e = cc
-no_method kind.Bytes e = cc
-no_method kind.Method e = cc
 
 module _ (t u : Table) (v : Value) (to n : ℕ) (xs : List Value) (i : ℕ) (has : Has t v to n) (is : u ≡ with_fields t v i xs) where
   pub live_after : (s : Value) → is_live t s ≡ true → is_live u s ≡ true

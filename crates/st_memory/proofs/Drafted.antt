@@ -25,6 +25,7 @@ use Rattle.st_memory.proofs.Fresh.{class_fresh, kind_fresh, fields_fresh}
 use Rattle.st_memory.proofs.Looking.{Got, result_got, Looks, reads_got, got_reads, reads_moved, or_got, checked, looked, look_at, fetch_looks, count_looks, header_looks, literal_looks, method_field_looks, last_looks, byte_looks, class_in, class_look, class_looks, look_same, look_alike, method_same, count_same, class_look_alike, class_look_same, counted, uncounted, fetch_died, fetch_is}
 use Rattle.st_memory.proofs.Writing.{field_like}
 use Rattle.st_memory.proofs.Replaying.{replayed_like}
+use Rattle.st_model.proofs.Runs.{get-past}
 
 -- why fields can't be counted is why there aren't any
 pub lacks_died : (t : Table) (v : Value) (k : Dead) (from n : ℕ) → look_at is_pointers (λ o. Some (length o.fields)) dead.Field v t ≡ Died k → Lacks t v from n k
@@ -72,11 +73,6 @@ field_same t u v i e has = record {
   pointers = subst (λ (o : Object). is_pointers o.kind ≡ true) (object_same t u v e) has.pointers;
   place = subst (λ (o : Object). i < length o.fields) (object_same t u v e) has.place;
 }
-
-past_end : {A : Type 0} (xs : List A) (i : ℕ) → length xs ≤ i → slice_get xs i ≡ None
-past_end [] i l = refl
-past_end (x ∷ xs) zero l = absurd (omega (arith, l))
-past_end (x ∷ xs) (suc i) l = past_end xs i (omega (arith, l))
 
 got_field : (xs : List Value) (i : ℕ) → i < length xs → (y : Value) × (slice_get xs i ≡ Some y)
 got_field [] i l = absurd (omega (arith, l))
@@ -232,7 +228,7 @@ module _ (t : Table) (ms : List Made) (n : ℕ) (cs : List Change) (k : ℕ) (v 
   pub fetch_past : (c i : ℕ) → Reads (count_fields apart v) itself now (Ok c) → c ≤ i → Reads (fetch_field apart v i) word now (Err dead.Field)
   fetch_past c i h l =
       let r = count_now c h in
-      let none : field_value now v i ≡ None = past_end (object_of now v).fields i (let q = r.1 in omega (arith, l, q)) in
+      let none : field_value now v i ≡ None = get-past (object_of now v).fields i (let q = r.1 in omega (arith, l, q)) in
       given (fetch_field apart v i) (fetch_field apart v i) (fetch_field table v i) word _ (fetch_looks v i) (fetch_field-as apart_tabular v i) now now (Err dead.Field)
       (fetch_is now v i r.2 r.0 ∙ ap (or_got dead.Field) none)
 

@@ -10,14 +10,14 @@ use Rattle.st_model.specs.Objects.{Object, is_pointers, with_field}
 use Rattle.st_model.specs.Machine.{is_there}
 use Rattle.st_model.specs.Table.{Table, table, entry, changed, exchanged, joined, total_used}
 use Rattle.st_model.specs.View.{nothing, is_live, object_of, with_exchanged, with_stored, Has}
-use Rattle.st_model.proofs.TableLemmas.{changed-some, changed-other}
+use Rattle.st_model.proofs.TableLemmas.{changed-some, changed-other, entry_past}
 use Rattle.st_model.proofs.WholeLemmas.{named, length-changed}
 use Rattle.st_model.proofs.Exchanging.{exchanged_is, entry-exchanged, length-exchanged, total_used-exchanged}
 use Rattle.st_memory.specs.declared.change.Change.TheVariants.{Field, Fields}
 use Rattle.st_memory.specs.declared.change.Exchange.{Exchange}
 use Rattle.st_memory.specs.Drafts.{written, all_written, pointer_fields, after_change, named_object, AllThere, no_exchange, exchanged_by, name_before, value_before, value_first, AreOf, Names}
 use Rattle.st_memory.proofs.Writing.{written_like}
-use Rattle.st_memory.proofs.Behind.{entry_past, entry_joined, changed_joined}
+use Rattle.st_memory.proofs.Behind.{entry_joined, changed_joined}
 
 pub same_table : (t u : Table) → length t ≡ length u → ((j : ℕ) → entry t j ≡ entry u j) → t ≡ u
 same_table [] [] l f = refl

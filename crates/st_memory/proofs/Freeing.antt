@@ -17,7 +17,8 @@ use Rattle.st_memory.specs.declared.change.Change.{Change}
 use Rattle.st_memory.specs.Drafts.{with_made, draft_table, named_object, no_made}
 use Rattle.st_memory.proofs.Looking.{some_state}
 use Rattle.st_memory.proofs.Replaying.{replayed_like}
-use Rattle.st_memory.proofs.Behind.{base_entry, made_entry, entry_past, draft_length}
+use Rattle.st_memory.proofs.Behind.{base_entry, made_entry, draft_length}
+use Rattle.st_model.proofs.TableLemmas.{entry_past}
 
 -- counting on past one place
 

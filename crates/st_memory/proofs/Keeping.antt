@@ -20,9 +20,10 @@ use Rattle.st_memory.specs.Making.{made_object}
 use Rattle.st_memory.proofs.Fresh.{there_fresh}
 use Rattle.st_memory.proofs.Writing.{written_like, written_here, written_else}
 use Rattle.st_memory.proofs.Replaying.{got_take, got_drop, replayed_like}
-use Rattle.st_memory.proofs.Behind.{entry_past, entry_joined, base_entry}
+use Rattle.st_memory.proofs.Behind.{entry_joined, base_entry}
+use Rattle.st_model.proofs.TableLemmas.{entry_past}
 
-got_below : {A : Type 0} (xs : List A) (i : ℕ) (x : A) → slice_get xs i ≡ Some x → i < length xs
+pub got_below : {A : Type 0} (xs : List A) (i : ℕ) (x : A) → slice_get xs i ≡ Some x → i < length xs
 got_below [] i x e = cc
 got_below (y ∷ xs) zero x e = omega arith
 got_below (y ∷ xs) (suc i) x e = let l = got_below xs i x e in omega (arith, l)

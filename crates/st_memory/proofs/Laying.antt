@@ -5,13 +5,15 @@ use Rattle.std.proofs.Math.Seq.{take-add}
 use Rattle.st_model.specs.declared.kind.Kind.{Kind}
 use Rattle.st_model.specs.declared.kind.Kind.TheVariants as kind
 use Rattle.st_model.specs.Values.{Value, Small, Ref}
-use Rattle.st_model.specs.Objects.{Object, is_bytes, is_pointers, is_words, holds_fields, with_units, object_with_unit, first_unit, size_of}
+use Rattle.st_model.specs.Objects.{Object, is_bytes, is_words, with_units, object_with_unit, first_unit, size_of}
 use Rattle.st_model.specs.Table.{Table, entry, changed}
 use Rattle.st_model.specs.View.{View, IsWhole, is_live, object_of, with_unit, nothing}
 use Rattle.st_model.proofs.TableLemmas.{changed-other}
 use Rattle.st_model.proofs.Transfers.{same_or_not}
 use Rattle.st_memory.specs.Copied.{HasBytes, laid, units_from, with_units_in, with_run, with_bytes_of}
 use Rattle.st_memory.proofs.Bodies.{no_fields}
+use Rattle.st_model.proofs.Entries.{changed-again}
+use Rattle.st_model.proofs.KindTests.{text_fields, text_pointers, text_words}
 
 -- lists
 
@@ -123,13 +125,6 @@ length-taken (v ∷ vs) (suc from) (suc k) l = length-taken vs from (suc k) (ome
 
 -- tables
 
-changed_again : (t : Table) (n : ℕ) (a b : Object) → changed (changed t n a) n b ≡ changed t n b
-changed_again [] n a b = refl
-changed_again (None ∷ t) zero a b = refl
-changed_again (Some o ∷ t) zero a b = refl
-changed_again (None ∷ t) (suc n) a b = ap (λ u. None ∷ u) (changed_again t n a b)
-changed_again (Some o ∷ t) (suc n) a b = ap (λ u. Some o ∷ u) (changed_again t n a b)
-
 changed_none : (t : Table) (n : ℕ) → is_some (entry t n) ≡ true → changed t n (unwrap_or (entry t n) nothing) ≡ t
 changed_none [] n e = cc
 changed_none (None ∷ t) zero e = cc
@@ -190,7 +185,7 @@ module _ (t : Table) (v : Value) (us : List ℕ) where
       by_value (Ref n) e =
           let o = unwrap_or (entry t n) nothing in
           ap (λ y. changed (changed t n (with_units o us)) n (object_with_unit (unwrap_or y nothing) i x)) (entry_changed t n (with_units o us) e)
-          ∙ changed_again t n (with_units o us) (with_units o (slice_set us i x))
+          ∙ changed-again t n (with_units o us) (with_units o (slice_set us i x))
 
   pub units_again : (vs : List ℕ) → is_live t v ≡ true → with_units_in (with_units_in t v us) v vs ≡ with_units_in t v vs
   unfolding with_units_in is_live object_of
@@ -201,7 +196,7 @@ module _ (t : Table) (v : Value) (us : List ℕ) where
       by_value (Ref n) e =
           let o = unwrap_or (entry t n) nothing in
           ap (λ y. changed (changed t n (with_units o us)) n (with_units (unwrap_or y nothing) vs)) (entry_changed t n (with_units o us) e)
-          ∙ changed_again t n (with_units o us) (with_units o vs)
+          ∙ changed-again t n (with_units o us) (with_units o vs)
 
 pub units_none : (t : Table) (v : Value) → is_live t v ≡ true → with_units_in t v (object_of t v).units ≡ t
 unfolding with_units_in is_live object_of
@@ -210,30 +205,12 @@ units_none t (Ref n) e = changed_none t n e
 
 -- where the bytes of an object stand
 
-bytes_words : (k : Kind) → is_bytes k ≡ true → is_words k ≡ false
-bytes_words kind.Pointers e = cc
-bytes_words kind.Words e = cc
-bytes_words kind.Bytes e = refl
-bytes_words kind.Method e = cc
-
-bytes_fields : (k : Kind) → is_bytes k ≡ true → holds_fields k ≡ false
-bytes_fields kind.Pointers e = cc
-bytes_fields kind.Words e = cc
-bytes_fields kind.Bytes e = refl
-bytes_fields kind.Method e = cc
-
-bytes_pointers : (k : Kind) → is_bytes k ≡ true → is_pointers k ≡ false
-bytes_pointers kind.Pointers e = cc
-bytes_pointers kind.Words e = cc
-bytes_pointers kind.Bytes e = refl
-bytes_pointers kind.Method e = cc
-
 module _ {v : View} {x : Value} {i n : ℕ} (whole : IsWhole v) (has : HasBytes v.objects x i n) where
   pub no_words : is_words (object_of v.objects x).kind ≡ false
-  no_words = bytes_words (object_of v.objects x).kind has.kind
+  no_words = text_words (object_of v.objects x).kind has.kind
 
   pub first_is_none : first_unit (object_of v.objects x) ≡ 0
-  first_is_none = let f = no_fields x whole has.live (bytes_fields (object_of v.objects x).kind has.kind) in omega (arith, f)
+  first_is_none = let f = no_fields x whole has.live (text_fields (object_of v.objects x).kind has.kind) in omega (arith, f)
 
   pub above_first : first_unit (object_of v.objects x) ≤ i
   above_first = let f = first_is_none in omega (arith, f)
@@ -242,7 +219,7 @@ module _ {v : View} {x : Value} {i n : ℕ} (whole : IsWhole v) (has : HasBytes 
   below_size =
       let o = object_of v.objects x in
       let b = has.bytes in
-      subst (λ p. i + n ≤ (if p then length o.fields else 2 * length o.fields + length o.units)) (sym (bytes_pointers o.kind has.kind)) (omega (arith, b))
+      subst (λ p. i + n ≤ (if p then length o.fields else 2 * length o.fields + length o.units)) (sym (text_pointers o.kind has.kind)) (omega (arith, b))
 
 module _ (t u : Table) (s v : Value) (from to n : ℕ) (us : List ℕ) (source : HasBytes t s from n) (target : HasBytes t v to n) (same : length us ≡ length (object_of t v).units) (is : u ≡ with_units_in t v us) where
   live_of : (x : Value) → is_live t x ≡ true → is_live u x ≡ true

@@ -1,3 +1,4 @@
+mod AtOneLook
 mod Bearing
 pub mod Behind
 pub mod Bodies
@@ -19,5 +20,5 @@ pub mod Stretches
 mod Swapping
 pub mod Unbounded
 pub mod Units
-mod Wide
+pub mod Wide
 pub mod Writing

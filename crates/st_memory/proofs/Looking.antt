@@ -15,6 +15,7 @@ use Rattle.st_model.specs.Table.{Table, table, entry}
 use Rattle.st_model.specs.View.{nothing, is_live, object_of}
 use Rattle.st_model.specs.Calls.{Reads, transition_of}
 use Rattle.st_memory.specs.Drafts.{HasField, IsLike, AreLike, field_value, named_object}
+use Rattle.st_model.proofs.KindTests.{method_pointers}
 
 -- what a step gives that leaves the state as it is
 
@@ -205,15 +206,9 @@ module _ {A : Type 0} (test : Kind → Bool) (f : Object → Option A) (cause : 
   look_alike t u (Small n) same like = refl
   look_alike t u (Ref n) same like = looked_alike (entry t n) (entry u n) same (alike_named t u (Ref n) like)
 
-not_pointers : (k : Kind) → is_method k ≡ true → is_pointers k ≡ false
-not_pointers kind.Pointers e = cc
-not_pointers kind.Words e = cc
-not_pointers kind.Bytes e = cc
-not_pointers kind.Method e = refl
-
 -- methods that are alike are the same
 pub method_same : {A : Type 0} (f : Object → Option A) (x y : Object) → IsLike x y → is_method y.kind ≡ true → f x ≡ f y
-method_same f x y like m = ap f (like.same (not_pointers y.kind m))
+method_same f x y like m = ap f (like.same (method_pointers y.kind m))
 
 pub count_same : (x y : Object) → IsLike x y → is_pointers y.kind ≡ true → ◌≡◌ {A = Option ℕ} (Some (length x.fields)) (Some (length y.fields))
 count_same x y like p = ap (λ n. Some n) like.count

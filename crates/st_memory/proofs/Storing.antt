@@ -26,8 +26,9 @@ use Rattle.st_memory.specs.declared.change.Change.TheVariants.{Fields}
 use Rattle.st_memory.specs.Tabular.{apart_tabular}
 use Rattle.st_memory.specs.Drafts.{AllThere, with_made, draft_table, written, all_written, after_change}
 use Rattle.st_memory.proofs.Writing.{written_like}
-use Rattle.st_memory.proofs.Behind.{entry_past, length_replayed, length-with_made}
+use Rattle.st_memory.proofs.Behind.{length_replayed, length-with_made}
 use Rattle.st_memory.proofs.Replaying.{back, back_value}
+use Rattle.st_model.proofs.TableLemmas.{entry_past}
 
 -- what is there has a word before the end of the table
 
@@ -65,7 +66,7 @@ module _ (v : Value) (i : ℕ) (x : Value) (s : State Table) (live : is_live s.m
       let r : nat_lt i (length (object_of s.memory v).fields) ≡ false = grind (arith, nat_tests) in
       simp (run-then, run-next, after-went, after-died, run-live v s live, run-passed dead.Kind _ s kind, run-failed dead.Field _ s r) refl
 
-stored_absent : (n i : ℕ) (x : Value) (s : State Table) (e : Option Object) → stored_at table n i x s e false ≡ Died dead.Kind
+pub stored_absent : (n i : ℕ) (x : Value) (s : State Table) (e : Option Object) → stored_at table n i x s e false ≡ Died dead.Kind
 unfolding stored_at
 stored_absent n i x s None = refl
 stored_absent n i x s (Some o) = refl

@@ -33,7 +33,7 @@ read_more us into at i w l h got =
 
 -- one more is written
 
-nothing_laid : (to : ℕ) (us : List ℕ) → laid to [] us ≡ us
+pub nothing_laid : (to : ℕ) (us : List ℕ) → laid to [] us ≡ us
 nothing_laid zero us = refl
 nothing_laid (suc to) [] = refl
 nothing_laid (suc to) (u ∷ us) = ap (λ q. u ∷ q) (nothing_laid to us)

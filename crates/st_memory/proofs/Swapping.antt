@@ -11,6 +11,7 @@ use Rattle.st_model.specs.View.{is_live, with_exchanged, Lacks, SmallInteger, Go
 use Rattle.st_model.specs.Calls.{Changes, itself}
 use Rattle.st_model.proofs.Runs.{run-exchange}
 use Rattle.st_model.proofs.Tabular.{exchange-as}
+use Rattle.std.proofs.lemmas.Bool.{and_right}
 
 small_first : (v w : Value) (s : State Table) → is_small v ≡ true → (exchange table v w).run s ≡ Died dead.Small
 unfolding exchange die
@@ -30,10 +31,6 @@ there_false a b s x y e = ap (exchanged_there table a b s) e
 and_left : (x y : Bool) → x ≡ false → (x && y) ≡ false
 and_left true y e = cc
 and_left false y e = refl
-
-and_right : (x y : Bool) → y ≡ false → (x && y) ≡ false
-and_right true y e = e
-and_right false y e = refl
 
 gone_first : (v w : Value) (s : State Table) → is_small v ≡ false → is_small w ≡ false → is_live s.memory v ≡ false → (exchange table v w).run s ≡ Died dead.Kind
 unfolding exchange exchange_named is_live

@@ -87,7 +87,7 @@ module _ {m : ObjectMemory Table} (h : IsTabular m) where
     unfolding find
     find-same class = find_within-same 32767 class
 
-half_bounded : (v : Value) → half_word bounded_table v ≡ half_word table v
+pub half_bounded : (v : Value) → half_word bounded_table v ≡ half_word table v
 unfolding half_word
 half_bounded (Small n) = refl
 half_bounded (Ref n) = refl

@@ -1,12 +1,12 @@
 -- Words and bytes that are read of an object.
-use Rattle.std.proofs.Common.{◌≡◌, ℕ, true, false, List, Result, refl, ap}
+use Rattle.std.proofs.Common.{◌≡◌, ℕ, true, List, Result, ap}
 use Rattle.std.specs.Prelude.{slice_get, Option, Some}
 use Rattle.st_model.specs.declared.dead.Dead.{Dead}
 use Rattle.st_model.specs.declared.dead.Dead.TheVariants as dead
 use Rattle.st_model.specs.declared.kind.Kind.{Kind}
 use Rattle.st_model.specs.declared.kind.Kind.TheVariants as kind
 use Rattle.st_model.specs.Values.{Value, Ref}
-use Rattle.st_model.specs.Objects.{Object, is_words, is_pointers, has_bytes}
+use Rattle.st_model.specs.Objects.{Object, is_words, has_bytes}
 use Rattle.st_model.specs.Steps.{fetch_word, fetch_byte}
 use Rattle.st_model.specs.Table.{Table, table, bounded_table, apart}
 use Rattle.st_model.specs.Calls.{Reads, itself}
@@ -19,24 +19,13 @@ use Rattle.st_memory.specs.Making.{made_object, alone}
 use Rattle.st_memory.proofs.Looking.{byte_in, word_looks, fetch_byte_looks}
 use Rattle.st_memory.proofs.Drafted.{moved, look_base, made_reads}
 use Rattle.st_memory.proofs.Moved.{read_names, look_names}
-
-words_not : (k : Kind) → is_words k ≡ true → is_pointers k ≡ false
-words_not kind.Pointers e = cc
-words_not kind.Words e = refl
-words_not kind.Bytes e = cc
-words_not kind.Method e = cc
-
-bytes_not : (k : Kind) → has_bytes k ≡ true → is_pointers k ≡ false
-bytes_not kind.Pointers e = cc
-bytes_not kind.Words e = cc
-bytes_not kind.Bytes e = refl
-bytes_not kind.Method e = refl
+use Rattle.st_model.proofs.KindTests.{bytes_pointers, words_pointers}
 
 words_same : {A : Type 0} (f : Object → Option A) (x y : Object) → IsLike x y → is_words y.kind ≡ true → f x ≡ f y
-words_same f x y like e = ap f (like.same (words_not y.kind e))
+words_same f x y like e = ap f (like.same (words_pointers y.kind e))
 
 bytes_same : {A : Type 0} (f : Object → Option A) (x y : Object) → IsLike x y → has_bytes y.kind ≡ true → f x ≡ f y
-bytes_same f x y like e = ap f (like.same (bytes_not y.kind e))
+bytes_same f x y like e = ap f (like.same (bytes_pointers y.kind e))
 
 module _ (t : Table) (ms : List Made) (n : ℕ) (cs : List Change) (k : ℕ) (v : Value) (i : ℕ) where
   pub word_base : (r : Result ℕ Dead) → named_object (with_made t ms n) v ≡ named_object t v → Reads (fetch_word bounded_table v i) itself t r → Reads (fetch_word apart v i) itself (draft_table t ms n cs k) r

@@ -8,10 +8,11 @@ ghost use Rattle.st_model.specs.Calls.{Reads, Changes, itself};
 ghost use Rattle.st_model.specs.View.{IsKnown, Has, Lacks, is_live, object_of};
 
 use crate::body::{count_fields, first_unit};
+use crate::context_fields::ContextFields;
 use crate::made::Made;
 use crate::memory::Memory;
 use crate::objects::Objects;
-use crate::transfer::copy_fields;
+use crate::stores::{store_live_field, transfer_live_fields};
 use st_model::{Dead, Demand, Kind, Oop, Word, literals};
 
 /// Whether an object of this kind has bytes.
@@ -26,7 +27,7 @@ fn has_bytes(kind: Kind) -> bool
 
 /// The object that a word names.
 #[tactic(auto, using(st_model::proofs::Runs::runs, crate::proofs::Wide::far, crate::proofs::Wide::lacks, crate::proofs::Wide::small_not_live))]
-fn live_object<M: Memory>(m: &M, o: Word) -> Result<Oop, Dead>
+pub(crate) fn live_object<M: Memory>(m: &M, o: Word) -> Result<Oop, Dead>
     ensures object { let t = (M.view m.now).objects in
         Reads (object table (word o)) (λ (x : Oop). object_of t (value x)) t result }
     ensures same { IfOk result (λ x. value x ≡ word o) }
@@ -50,7 +51,7 @@ fn live_object<M: Memory>(m: &M, o: Word) -> Result<Oop, Dead>
 
 /// The object of kind Pointers that a word names, where it has so many fields from one on.
 #[tactic(auto, using(crate::proofs::Wide::lacks))]
-fn live_fields<M: Memory>(m: &M, o: Word, n: u32, from: u32) -> Result<Oop, Dead>
+pub(crate) fn live_fields<M: Memory>(m: &M, o: Word, n: u32, from: u32) -> Result<Oop, Dead>
     ensures same { IfOk result (λ x. value x ≡ word o) }
     ensures has { IfOk result (λ x. Has (M.view m.now).objects (value x) from n) }
     ensures small { IfOk result (λ x. from + n ≤ 131066) }
@@ -127,6 +128,30 @@ impl<M: Memory> Objects for M {
         } else {
             Err(Dead::Kind)
         }
+    }
+
+    #[inline(always)]
+    #[tactic(auto, using(st_model::proofs::Runs::runs, crate::proofs::Wide::bounded), unfolding(st_model::specs::Steps::fetch_field, st_model::specs::Steps::count_fields))]
+    fn context_fields(&self, context: Word) -> Option<ContextFields> {
+        let object = match live_object(self, context) {
+            Ok(object) => object,
+            Err(_) => return None,
+        };
+        if !self.kind(object).is_pointers() {
+            return None;
+        }
+        let count = self.size(object);
+        if count < 6 {
+            return None;
+        }
+        let place = self.place(object);
+        Some(ContextFields {
+            instruction_pointer: Word::from(self.placed_pointer(object, place, 1)),
+            stack_pointer: Word::from(self.placed_pointer(object, place, 2)),
+            method: Word::from(self.placed_pointer(object, place, 3)),
+            receiver: Word::from(self.placed_pointer(object, place, 5)),
+            count,
+        })
     }
 
     #[tactic(auto, using(st_model::proofs::Runs::runs, crate::proofs::Wide::bounded, crate::proofs::Wide::classes))]
@@ -297,25 +322,10 @@ impl<M: Memory> Objects for M {
         }
     }
 
-    #[tactic(auto, using(st_model::proofs::Runs::runs, crate::proofs::Wide::bounded, crate::proofs::Wide::run_set_gone), unfolding(st_model::specs::Steps::store_field))]
     fn store_field(&mut self, o: Word, i: u32, x: Word) -> Result<(), Dead> {
-        let object = live_object(self, o)?;
-        if !self.kind(object).is_pointers() {
-            return Err(Dead::Kind);
-        }
-        if i >= self.size(object) {
-            return Err(Dead::Field);
-        }
-        match live_value(self, x) {
-            Some(value) => {
-                self.set_pointer(object, i, value);
-                Ok(())
-            }
-            None => Err(Dead::Kind),
-        }
+        store_live_field(self, o, i, x)
     }
 
-    #[tactic(auto, using(crate::proofs::Moving::moving))]
     fn transfer(
         &mut self,
         n: u32,
@@ -324,13 +334,7 @@ impl<M: Memory> Objects for M {
         target: Word,
         to: u32,
     ) -> Result<(), Dead> {
-        if n == 0 {
-            return Ok(());
-        }
-        let source = live_fields(self, source, n, from)?;
-        let target = live_fields(self, target, n, to)?;
-        copy_fields(self, n, source, from, target, to);
-        Ok(())
+        transfer_live_fields(self, n, source, from, target, to)
     }
 
     fn exchange(&mut self, a: Word, b: Word) -> Result<(), Dead> {

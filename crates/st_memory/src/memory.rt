@@ -1,11 +1,12 @@
-ghost use Rattle.std.specs.Prelude.{◌≡◌, ◌<◌, ◌≤◌, ◌+◌, ◌-◌, ◌/◌, length, slice_get, Some, true, false, IfSome, IfNone};
+ghost use Rattle.std.specs.Prelude.{ℕ, ◌≡◌, ◌<◌, ◌≤◌, ◌+◌, ◌-◌, ◌/◌, length, slice_get, Some, true, false, IfSome, IfNone};
 ghost use Rattle.st_model.specs.declared.oop.Oop.{Oop};
-ghost use Rattle.st_model.specs.Values.{value, Ref};
+ghost use Rattle.st_model.specs.Values.{Value, value, Ref};
 ghost use Rattle.st_model.specs.Objects.{is_method, is_words, size_of, words_of, first_unit, one};
 ghost use Rattle.st_model.specs.Table.{total_used, first_free, placed};
 ghost use Rattle.st_model.specs.Formed.{IsHeader, IsMakeable, fresh};
 ghost use Rattle.st_model.specs.View.{View, IsKnown, is_live, object_of, IsWhole, IsPlace, held_at, with_held, with_stored, with_unit, with_exchanged, is_instance, table_of, SettlesTo, demand_of, fits};
 ghost use Rattle.st_memory.specs.Copied.{units_from, with_run};
+ghost use Rattle.st_memory.specs.Places.{KeepsPlaces, KeepsPlacesIn};
 ghost use Rattle.st_memory.specs.Searched.{Finds};
 
 use st_model::{Demand, Kind, Oop, RootPlace};
@@ -14,6 +15,9 @@ use st_model::{Demand, Kind, Oop, RootPlace};
 pub trait Memory: Drop {
     /// What it contains: the objects by halved pointers, what is held, and the head.
     ghost view: { Self → View };
+
+    /// At which place the body of an object stands. Calls that have a clause `places` leave it there.
+    ghost stands: { Self → Value → ℕ → Type 0 };
 
     /// Whether o is the pointer of a kept object.
     fn live(&self, o: Oop) -> bool
@@ -72,7 +76,8 @@ pub trait Memory: Drop {
         ensures objects { (view self.new).objects
             ≡ with_stored (view self.old).objects (value o) at (value v) }
         ensures held { (view self.new).held ≡ (view self.old).held }
-        ensures head { (view self.new).head ≡ (view self.old).head };
+        ensures head { (view self.new).head ≡ (view self.old).head }
+        ensures places { KeepsPlaces (stands self.old) (stands self.new) };
 
     /// Stores v in word `at` of an object of kind Words.
     fn set_word(&mut self, o: Oop, at: u32, v: u16)
@@ -188,11 +193,13 @@ pub trait Memory: Drop {
         requires known { IsKnown (view self.old).objects (value o) }
         ensures held { (view self.new).held ≡ with_held (view self.old).held place (value o) }
         ensures objects { (view self.new).objects ≡ (view self.old).objects }
-        ensures head { (view self.new).head ≡ (view self.old).head };
+        ensures head { (view self.new).head ≡ (view self.old).head }
+        ensures places { KeepsPlaces (stands self.old) (stands self.new) };
 
     /// Drops all objects but the largest set of which each is a root or is referred to by a member.
     fn settle(&mut self)
-        ensures { SettlesTo (view self.old) (view self.new) };
+        ensures settles { SettlesTo (view self.old) (view self.new) }
+        ensures places { KeepsPlacesIn (view self.new).objects (stands self.old) (stands self.new) };
 
     /// How many objects are kept, and how many words they have.
     fn used(&self) -> Demand
@@ -244,8 +251,56 @@ pub trait Memory: Drop {
     /// Remembers the method that the search finds for a selector in a class, or doesn't.
     fn remember(&mut self, _class: Oop, _selector: Oop, _method: Oop)
         requires { Finds (view self.old).objects (value _class) (value _selector) (value _method) }
-        ensures { view self.new ≡ view self.old }
+        ensures view { view self.new ≡ view self.old }
+        ensures places { KeepsPlaces (stands self.old) (stands self.new) }
     {}
+
+    /// The place at which the body of an object stands.
+    fn place(&self, o: Oop) -> u32
+        requires { is_live (view self.now).objects (value o) ≡ true }
+        ensures { stands self.now (value o) result };
+
+    /// Field `at` of an object whose body stands at a place; of a Method 0 is the header, and the literals follow.
+    fn placed_pointer(&self, o: Oop, _place: u32, at: u32) -> Oop
+        requires live { is_live (view self.now).objects (value o) ≡ true }
+        requires place { stands self.now (value o) _place }
+        requires range { at < length (object_of (view self.now).objects (value o)).fields }
+        ensures field { slice_get (object_of (view self.now).objects (value o)).fields at
+            ≡ Some (value result) }
+        ensures header { IsHeader (object_of (view self.now).objects (value o)) at (value result) }
+        ensures known { IsKnown (view self.now).objects (value result) }
+    {
+        self.pointer(o, at)
+    }
+
+    /// Byte `at` of an object of kind Bytes or Method whose body stands at a place; of a Method from the first bytecode on.
+    fn placed_byte(&self, o: Oop, _place: u32, at: u32) -> u8
+        requires live { is_live (view self.now).objects (value o) ≡ true }
+        requires place { stands self.now (value o) _place }
+        requires kind { is_words (object_of (view self.now).objects (value o)).kind ≡ false }
+        requires above { first_unit (object_of (view self.now).objects (value o)) ≤ at }
+        requires range { at < size_of (object_of (view self.now).objects (value o)) }
+        ensures { let object = object_of (view self.now).objects (value o) in
+            slice_get object.units (at - first_unit object) ≡ Some result }
+    {
+        self.byte(o, at)
+    }
+
+    /// Stores v in field `at` of an object whose body stands at a place; in a Method's header only what counts the same literals.
+    fn set_placed_pointer(&mut self, o: Oop, _place: u32, at: u32, v: Oop)
+        requires live { is_live (view self.old).objects (value o) ≡ true }
+        requires place { stands self.old (value o) _place }
+        requires range { at < length (object_of (view self.old).objects (value o)).fields }
+        requires known { IsKnown (view self.old).objects (value v) }
+        requires header { IsHeader (object_of (view self.old).objects (value o)) at (value v) }
+        ensures objects { (view self.new).objects
+            ≡ with_stored (view self.old).objects (value o) at (value v) }
+        ensures held { (view self.new).held ≡ (view self.old).held }
+        ensures head { (view self.new).head ≡ (view self.old).head }
+        ensures places { KeepsPlaces (stands self.old) (stands self.new) }
+    {
+        self.set_pointer(o, at, v);
+    }
 
     /// What stands in an object or is held is a SmallInteger or live, each object is what its kind says, and all is
     /// within the capacities.

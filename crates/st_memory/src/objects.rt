@@ -1,5 +1,5 @@
 ghost use Rattle.std.specs.Option.{option_map};
-ghost use Rattle.std.specs.Prelude.{◌≡◌, ◌≢◌, ℕ, ◌+◌, ◌≤◌, Ok, Some, IfOk, IfSome};
+ghost use Rattle.std.specs.Prelude.{◌≡◌, ◌≢◌, ℕ, ◌+◌, ◌≤◌, true, Ok, Some, IfOk, IfSome};
 ghost use Rattle.st_model.specs.Values.{Ref, word};
 ghost use Rattle.st_model.specs.Objects.{place_of};
 ghost use Rattle.st_model.specs.declared.page.PageObject.TheVariants.{MethodClass};
@@ -12,6 +12,7 @@ ghost use Rattle.st_model.specs.Calls.{Reads, Changes, itself};
 ghost use Rattle.st_model.specs.View.{View};
 ghost use Rattle.st_memory.specs.Making.{CanMake};
 
+use crate::context_fields::ContextFields;
 use st_model::{Dead, Demand, Kind, Word};
 
 /// The objects that the row of a bytecode reads and changes: those of a memory, or those of a draft over one, which
@@ -45,6 +46,27 @@ pub trait Objects {
     fn count_fields(&self, o: Word) -> Result<u32, Dead>
         ensures counts { Reads (count_fields names (word o)) itself (table self.now) result }
         ensures small { IfOk result (λ n. n ≤ 65533) };
+
+    /// The fields of a context that keep its registers, read at one look; or None, and each is to be read by itself. A context
+    /// is of kind Pointers and has six fields at least; all that stands in these is there.
+    fn context_fields(&self, _context: Word) -> Option<ContextFields>
+        ensures instruction_pointer { IfSome result (λ f. Reads (fetch_field names (word _context) 1) word
+            (table self.now) (Ok f.instruction_pointer)) }
+        ensures stack_pointer { IfSome result (λ f. Reads (fetch_field names (word _context) 2) word
+            (table self.now) (Ok f.stack_pointer)) }
+        ensures method { IfSome result (λ f. Reads (fetch_field names (word _context) 3) word
+            (table self.now) (Ok f.method)) }
+        ensures receiver { IfSome result (λ f. Reads (fetch_field names (word _context) 5) word
+            (table self.now) (Ok f.receiver)) }
+        ensures count { IfSome result (λ f. Reads (count_fields names (word _context)) itself
+            (table self.now) (Ok f.count)) }
+        ensures context_there { IfSome result (λ f. is_there names (table self.now) (word _context) ≡ true) }
+        ensures method_there { IfSome result (λ f. is_there names (table self.now) (word f.method) ≡ true) }
+        ensures receiver_there { IfSome result (λ f. is_there names (table self.now) (word f.receiver)
+            ≡ true) }
+    {
+        None
+    }
 
     /// The class of an object.
     fn fetch_class(&self, o: Word) -> Result<Word, Dead>

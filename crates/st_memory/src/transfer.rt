@@ -1,6 +1,7 @@
 ghost use Rattle.std.specs.Prelude.{◌≡◌, ◌+◌, ◌≤◌};
 ghost use Rattle.st_model.specs.Values.{value};
 ghost use Rattle.st_model.specs.View.{Has, with_fields, fields_from};
+ghost use Rattle.st_memory.specs.Places.{KeepsPlaces};
 
 use crate::memory::Memory;
 use st_model::Oop;
@@ -15,6 +16,7 @@ fn copy_from_first<M: Memory>(m: &mut M, n: u32, source: Oop, from: u32, target:
         (M.view m.new).objects ≡ with_fields old (value target) to (fields_from old (value source) from n) }
     ensures held { (M.view m.new).held ≡ (M.view m.old).held }
     ensures head { (M.view m.new).head ≡ (M.view m.old).head }
+    ensures places { KeepsPlaces (M.stands m.old) (M.stands m.new) }
 {
     for done in 0..n {
         let x = m.pointer(source, from + done);
@@ -32,6 +34,7 @@ fn copy_from_last<M: Memory>(m: &mut M, n: u32, source: Oop, from: u32, target: 
         (M.view m.new).objects ≡ with_fields old (value target) to (fields_from old (value source) from n) }
     ensures held { (M.view m.new).held ≡ (M.view m.old).held }
     ensures head { (M.view m.new).head ≡ (M.view m.old).head }
+    ensures places { KeepsPlaces (M.stands m.old) (M.stands m.new) }
 {
     let mut left = n;
     while left > 0 {
@@ -50,6 +53,7 @@ pub fn copy_fields<M: Memory>(m: &mut M, n: u32, source: Oop, from: u32, target:
         (M.view m.new).objects ≡ with_fields old (value target) to (fields_from old (value source) from n) }
     ensures held { (M.view m.new).held ≡ (M.view m.old).held }
     ensures head { (M.view m.new).head ≡ (M.view m.old).head }
+    ensures places { KeepsPlaces (M.stands m.old) (M.stands m.new) }
 {
     if from < to {
         copy_from_last(m, n, source, from, target, to);

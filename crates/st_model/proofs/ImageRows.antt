@@ -1,10 +1,10 @@
 -- Worked rows of image files, computed from the definitions: an image of 24 objects, and the same with one word changed.
 use Rattle.std.proofs.Common.{◌≡◌, ℕ, ◌+◌, ◌/◌, ◌%◌, zero, suc, List, [], ◌∷◌, ◌++◌, Bool, true, false, not, ◌&&◌, ◌||◌, slice_set, replicate, refl, lit<, lit≤, Some}
-use Rattle.std.specs.Prelude.{pos, nat_le, is_some}
+use Rattle.std.specs.Prelude.{pos, nat_le, is_some, take, length}
 use Rattle.std.specs.List.{list_any}
 use Rattle.st_model.specs.declared.kind.Kind.TheVariants as kind
 use Rattle.st_model.specs.declared.dead.Dead.TheVariants as dead
-use Rattle.st_model.specs.declared.fault.ImageFault.TheVariants.{Size, Overlap, Class, Field, Method, Root}
+use Rattle.st_model.specs.declared.fault.ImageFault.TheVariants.{Short, Capacity, Size, Overlap, Class, Field, Method, Root}
 use Rattle.st_model.specs.declared.head.ImageHead.{ImageHead}
 use Rattle.st_model.specs.Image.{number16, number32, has_letters, image_head, flags, form_of, entries_of, entry_start, place, is_used, size, class, body, names}
 use Rattle.st_model.specs.Faults.{Fails, short_fails, lengths_fail, capacity_fails, size_fails, class_fails, is_field, field_fails, method_fails, root_fails, roots}
@@ -223,6 +223,47 @@ wrong_header = (refl, refl)
 wrong_root : Fails head (put_word 1112 32 image) (Root 44)
 unfolding opened image head put_word Fails
 wrong_root = ((15, lit< tt, refl), refl)
+
+-- HOSTILE FILES: cut, a capacity below the entries in use, two objects in one place. No row before the one that fails does so.
+
+-- a byte is cut off its 1156
+whole : length image ≡ 1156
+unfolding image
+whole = refl
+
+cut : Fails head (take 1155 image) Short
+unfolding opened image head Fails
+cut = refl
+
+-- a capacity of 23 entries, where 24 are in use
+small_read : image_head (put_word 18 23 image) ≡ record head { entries = 23 }
+unfolding opened image head put_word
+small_read = refl
+
+small : Fails (record head { entries = 23 }) (put_word 18 23 image) Capacity
+unfolding opened image head put_word Fails
+small = refl
+
+small_first : short_fails (record head { entries = 23 }) (put_word 18 23 image) || lengths_fail (record head { entries = 23 }) ≡ false
+unfolding opened image head put_word
+small_first = refl
+
+not_small : capacity_fails (record head { entries = 24 }) (put_word 18 24 image) ≡ false
+unfolding opened image head put_word
+not_small = refl
+
+-- the entry of @2 has the location of @4, and no pointers are before these
+shared : Fails head (put_word 1030 2 image) (Overlap 2 4)
+unfolding opened image head put_word Fails
+shared = (refl, refl, lit< tt, (2, ((refl, lit≤ tt, lit< tt), (refl, lit≤ tt, lit< tt))))
+
+shared_first : short_fails head (put_word 1030 2 image) || lengths_fail head || capacity_fails head (put_word 1030 2 image) ≡ false
+unfolding opened image head put_word
+shared_first = refl
+
+shared_sizes : none (size_fails head (put_word 1030 2 image)) 33 ≡ true
+unfolding opened image head put_word none
+shared_sizes = refl
 
 -- THE START
 

@@ -26,7 +26,7 @@ fits : (xs : List ℕ) (i x : ℕ) → (length (slice_set xs i x) == length xs) 
 fits xs i x = let e = length-set xs i x in grind (arith, nat_tests)
 
 -- one cause, whatever would have been answered
-died : {A B : Type 0} (a k : Dead) → (let x : Transition (State Table) A = Died a in x ≡ Died k) → (let x : Transition (State Table) B = Died a in x ≡ Died k)
+pub died : {A B : Type 0} (a k : Dead) → (let x : Transition (State Table) A = Died a in x ≡ Died k) → (let x : Transition (State Table) B = Died a in x ≡ Died k)
 died a k e = let q : a ≡ k = cc in ap (λ c. Died c) q
 
 module _ (m : ObjectMemory Table) (tabular : IsTabular m) where

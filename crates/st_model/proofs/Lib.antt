@@ -1,5 +1,5 @@
 pub mod Words
-mod Looking
+pub mod Looking
 pub mod CopyingBits
 pub mod Painting
 pub mod Resting
@@ -30,13 +30,20 @@ pub mod Making
 mod ImageRows
 mod OperationRows
 mod DecodedRows
+mod CodeTable
 mod IntegerRows
 mod Floors
 pub mod Opened
+pub mod IntegerTests
+pub mod Entries
+pub mod SameValues
+pub mod SmallBits
+pub mod KindTests
 mod Rows
 mod SendRows
 mod ArithmeticRows
-pub mod StorageRows
+mod StorageRows
+mod ForgeRows
 mod LargeRows
 mod StorageBounds
 mod BitBltRows

@@ -16,7 +16,7 @@ use Rattle.st_model.specs.Loading.{IsLoading}
 use Rattle.st_model.proofs.FormedLemmas.{formed_field, formed_unit, words_of-with_field, words_of-object_with_unit}
 use Rattle.st_model.proofs.WholeLemmas.{named, length-changed, total_used-changed, none_changed, changed_is}
 
-entry-set_same : (t : Table) (n : ℕ) (o : Object) → n < length t → entry (set t n (Some o)) n ≡ Some o
+pub entry-set_same : (t : Table) (n : ℕ) (o : Object) → n < length t → entry (set t n (Some o)) n ≡ Some o
 entry-set_same [] n o l = absurd (omega (arith, l))
 entry-set_same (e ∷ t) zero o l = refl
 entry-set_same (e ∷ t) (suc n) o l = entry-set_same t n o (omega (arith, l))
@@ -39,7 +39,7 @@ total_used-set weight (Some a ∷ t) (suc n) o l e = let r = total_used-set weig
 loading_as : (v w : View) → w.objects ≡ v.objects → w.held ≡ v.held → w.head ≡ v.head → IsLoading v → IsLoading w
 loading_as v w objects held head loading = subst IsLoading (λ i. record { objects = sym objects i; held = sym held i; head = sym head i }) loading
 
-none_of : (x : Option Object) → is_some x ≡ false → x ≡ None
+pub none_of : (x : Option Object) → is_some x ≡ false → x ≡ None
 none_of None h = refl
 none_of (Some o) h = cc
 
@@ -156,12 +156,12 @@ whole_loaded v loading complete = record {
 length-none : (n : ℕ) → ◌≡◌ {A = ℕ} (length {A = Option Object} (replicate n None)) n
 length-none n = length-replicate n None
 
-entry-none : (n k : ℕ) → entry (replicate n None) k ≡ None
+pub entry-none : (n k : ℕ) → entry (replicate n None) k ≡ None
 entry-none zero k = refl
 entry-none (suc n) zero = refl
 entry-none (suc n) (suc k) = entry-none n k
 
-total_used-none : (weight : Object → ℕ) (n : ℕ) → total_used weight (replicate n None) ≡ 0
+pub total_used-none : (weight : Object → ℕ) (n : ℕ) → total_used weight (replicate n None) ≡ 0
 total_used-none weight zero = refl
 total_used-none weight (suc n) = total_used-none weight n
 

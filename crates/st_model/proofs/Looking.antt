@@ -135,7 +135,7 @@ pub answered : {A : Type 0} (a b : A) (s u : State Table) → (answer a).run s �
 unfolding answer
 answered a b s u e = cc
 
-found_went : (x : Option Object) (s u : State Table) (o : Object) → (found x).run s ≡ Went o u → x ≡ Some o
+pub found_went : (x : Option Object) (s u : State Table) (o : Object) → (found x).run s ≡ Went o u → x ≡ Some o
 unfolding found die answer
 found_went None s u o e = cc
 found_went (Some p) s u o e = cc

@@ -1,7 +1,7 @@
 -- A memory stays whole where an object is made at the least free pointer and the capacities have room for it.
 use Rattle.std.proofs.Common.{◌≡◌, ℕ, ◌+◌, ◌<◌, ◌≤◌, zero, suc, Bool, true, false, [], ◌∷◌, length, set, replicate, refl, sym, ap, ◌∙◌, subst, arith, inl, inr, length-set, is_some}
 use Rattle.std.specs.Prelude.{Some, None, ◌&&◌, nat_le}
-use Rattle.std.proofs.lemmas.Bool.{cases_eq, cases_lt}
+use Rattle.std.proofs.lemmas.Bool.{cases_eq, cases_lt, and_parts}
 use Rattle.std.proofs.lemmas.Bool.Decides.{nat_tests}
 use Rattle.st_model.specs.declared.demand.Demand.{Demand}
 use Rattle.st_model.specs.Values.{Value, Small, Ref, is_small, AllLive}
@@ -67,15 +67,11 @@ first_free_most [] = omega arith
 first_free_most (None ∷ t) = let r = first_none_most t in omega (arith, r)
 first_free_most (Some a ∷ t) = let r = first_none_most t in omega (arith, r)
 
-both : (a b : Bool) → (a && b) ≡ true → (a ≡ true) × (b ≡ true)
-both true b h = (refl, h)
-both false b h = cc
-
 pub room_entries : (v : View) (d : Demand) → fits v d ≡ true → total_used one v.objects + d.entries ≤ v.head.entries
-room_entries v d h = let a = (both (nat_le (total_used one v.objects + d.entries) v.head.entries) (nat_le (total_used words_of v.objects + d.words) v.head.words) h).0 in grind (arith, nat_tests)
+room_entries v d h = let a = (and_parts (nat_le (total_used one v.objects + d.entries) v.head.entries) (nat_le (total_used words_of v.objects + d.words) v.head.words) h).0 in grind (arith, nat_tests)
 
 pub room_words : (v : View) (d : Demand) → fits v d ≡ true → total_used words_of v.objects + d.words ≤ v.head.words
-room_words v d h = let a = (both (nat_le (total_used one v.objects + d.entries) v.head.entries) (nat_le (total_used words_of v.objects + d.words) v.head.words) h).1 in grind (arith, nat_tests)
+room_words v d h = let a = (and_parts (nat_le (total_used one v.objects + d.entries) v.head.entries) (nat_le (total_used words_of v.objects + d.words) v.head.words) h).1 in grind (arith, nat_tests)
 
 -- what was there is there
 

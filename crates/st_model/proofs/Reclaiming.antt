@@ -20,15 +20,15 @@ length-settled (e ∷ t) keep = ap (λ n. suc n) (length-settled t (λ k. keep (
 abbrev with_one : (ℕ → Bool) → ℕ → ℕ → Bool
 with_one set n k = if k == n then true else set k
 
-one_or_set : (set : ℕ → Bool) (n k : ℕ) (b : Bool) → (k == n) ≡ b → IsTrue (if b then true else set k) → (k ≡ n) ⊎ IsTrue (set k)
+pub one_or_set : (set : ℕ → Bool) (n k : ℕ) (b : Bool) → (k == n) ≡ b → IsTrue (if b then true else set k) → (k ≡ n) ⊎ IsTrue (set k)
 one_or_set set n k true e h = inl (grind (arith, nat_tests))
 one_or_set set n k false e h = inr h
 
-set_within : (set : ℕ → Bool) (n k : ℕ) (b : Bool) → IsTrue (set k) → IsTrue (if b then true else set k)
+pub set_within : (set : ℕ → Bool) (n k : ℕ) (b : Bool) → IsTrue (set k) → IsTrue (if b then true else set k)
 set_within set n k true h = refl
 set_within set n k false h = h
 
-one_within : (set : ℕ → Bool) (n : ℕ) → IsTrue (with_one set n n)
+pub one_within : (set : ℕ → Bool) (n : ℕ) → IsTrue (with_one set n n)
 one_within set n = let e : (n == n) ≡ true = grind (arith, nat_tests) in rw e refl
 
 module _ (t : Table) (roots : List Value) (set : ℕ → Bool) (settled : IsSettled table t roots set) where
@@ -63,7 +63,7 @@ module _ (t : Table) (roots : List Value) (set : ℕ → Bool) (settled : IsSett
     fields = all_stay o.fields l.fields (λ n r. inr (record { from = k; object = o; member = m; is = e; refers = inr r }));
   }
 
-table_finite : (t : Table) (k : ℕ) → IsTrue (table.kept t k) → k < length t
+pub table_finite : (t : Table) (k : ℕ) → IsTrue (table.kept t k) → k < length t
 table_finite t k h = let o = some_is (entry t k) h in entry_before t k o.0 o.1
 
 pub reclaim_closed : (d : State Table) → IsClosed d → IsClosed (reclaim table d)

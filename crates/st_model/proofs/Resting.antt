@@ -14,7 +14,7 @@ use Rattle.st_model.specs.Primitives.{pop_words, answer_with}
 use Rattle.st_model.proofs.Tabular.{top-as, pop-as, push-as}
 use Rattle.st_model.proofs.Looking.{object-looks, check-looks, then-went, next-went, passed, object-went}
 
-changed-itself : (t : Table) (n : ℕ) (o : Object) → entry t n ≡ Some o → changed t n o ≡ t
+pub changed-itself : (t : Table) (n : ℕ) (o : Object) → entry t n ≡ Some o → changed t n o ≡ t
 changed-itself [] n o e = refl
 changed-itself (None ∷ t) zero o e = refl
 changed-itself (Some a ∷ t) zero o e = let q : a ≡ o = cc in ap (λ (b : Object). Some b ∷ t) (sym q)

@@ -15,6 +15,7 @@ use Rattle.st_model.specs.Values.{integer_of}
 use Rattle.st_model.specs.Contexts.{home_by}
 use Rattle.st_model.specs.Formed.{IsWord}
 use Rattle.st_model.specs.View.{IsKnown, is_live, object_of, with_stored, with_exchanged, with_unit, nothing}
+use Rattle.std.proofs.lemmas.Bool.{and_from}
 
 pub run-then : {A B : Type 0} (m : Step Table A) (f : A → Step Table B) (s : State Table) → (m >>= f).run s ≡ after (m.run s) (λ a t. (f a).run t)
 unfolding ◌>>=◌
@@ -177,10 +178,6 @@ run-store_method_field v i x s live kind range known word =
     let r : nat_lt i (length (object_of s.memory v).fields) ≡ true = grind (arith, nat_tests) in
     simp (run-then, run-next, after-went, run-live v s live, run-passed dead.Kind _ s kind, run-passed dead.Field _ s r, run-set_field v i x s live (known_there s.memory x known word)) refl
 
-both_live : (a b : Bool) → a ≡ true → b ≡ true → (a && b) ≡ true
-both_live true b e f = f
-both_live false b e f = cc
-
 there_exchanged : (a b : ℕ) (s : State Table) (x : Bool) → x ≡ true → exchanged_there table a b s x ≡ Went tt (record s { memory = exchanged s.memory a b })
 unfolding exchanged_there
 there_exchanged a b s true e = refl
@@ -191,7 +188,7 @@ pub run-exchange : (v w : Value) (s : State Table) → is_live s.memory v ≡ tr
 unfolding exchange exchange_named is_live with_exchanged
 run-exchange (Small a) w s e f = cc
 run-exchange (Ref a) (Small b) s e f = cc
-run-exchange (Ref a) (Ref b) s e f = there_exchanged a b s _ (both_live _ _ e f)
+run-exchange (Ref a) (Ref b) s e f = there_exchanged a b s _ (and_from _ _ e f)
 
 units_live : (n : ℕ) (us : List ℕ) (s : State Table) (a : Option Object) → is_some a ≡ true → length us ≡ length (unwrap_or a nothing).units
     → units_set table n us s a (fit_units us a) ≡ Went tt (record s { memory = changed s.memory n (with_units (unwrap_or a nothing) us) })

@@ -12,19 +12,19 @@ pub or_cases : (a b : Bool) → IsTrue (or a b) → IsTrue a ⊎ IsTrue b
 or_cases true b h = inl refl
 or_cases false b h = inr h
 
-or_left : (a b : Bool) → IsTrue a → IsTrue (or a b)
+pub or_left : (a b : Bool) → IsTrue a → IsTrue (or a b)
 or_left true b h = refl
 or_left false b h = cc
 
-or_right : (a b : Bool) → IsTrue b → IsTrue (or a b)
+pub or_right : (a b : Bool) → IsTrue b → IsTrue (or a b)
 or_right true b h = refl
 or_right false b h = h
 
-both : (a b : Bool) → IsTrue (a && b) → IsTrue a × IsTrue b
+pub both : (a b : Bool) → IsTrue (a && b) → IsTrue a × IsTrue b
 both true b h = (refl, h)
 both false b h = cc
 
-and_true : (a b : Bool) → IsTrue a → IsTrue b → IsTrue (a && b)
+pub and_true : (a b : Bool) → IsTrue a → IsTrue b → IsTrue (a && b)
 and_true true b h k = k
 and_true false b h k = cc
 
@@ -38,10 +38,10 @@ pub below_true : (n : ℕ) (f : ℕ → Bool) → IsTrue (any_below n f) → (k 
 below_true zero f h = cc
 below_true (suc n) f h = elim (or_cases (f n) (any_below n f) h) [ inl k ↦ (n, k) | inr k ↦ below_true n f k ]
 
-last_case : (k n : ℕ) → k < suc n → (k ≡ n) ⊎ (k < n)
+pub last_case : (k n : ℕ) → k < suc n → (k ≡ n) ⊎ (k < n)
 last_case k n l = grind arith
 
-true_below : (n k : ℕ) (f : ℕ → Bool) → k < n → IsTrue (f k) → IsTrue (any_below n f)
+pub true_below : (n k : ℕ) (f : ℕ → Bool) → k < n → IsTrue (f k) → IsTrue (any_below n f)
 true_below zero k f l h = absurd (omega arith)
 true_below (suc n) k f l h = elim (last_case k n l) [
   | inl e ↦ or_left (f n) (any_below n f) (subst (λ x. IsTrue (f x)) e h)
@@ -52,7 +52,7 @@ test_cases : (b : Bool) → IsTrue b ⊎ (b ≡ false)
 test_cases true = inl refl
 test_cases false = inr refl
 
-bool_cases : (b : Bool) → (b ≡ true) ⊎ (b ≡ false)
+pub bool_cases : (b : Bool) → (b ≡ true) ⊎ (b ≡ false)
 bool_cases true = inl refl
 bool_cases false = inr refl
 
@@ -176,7 +176,7 @@ is_page [] test q a h = absurd a
 is_page (p ∷ qs) test q (inl e) h = or_left (test p) (any_of_page qs test) (subst (λ x. IsTrue (test x)) (sym e) h)
 is_page (p ∷ qs) test q (inr a) h = or_right (test p) (any_of_page qs test) (is_page qs test q a h)
 
-not_so : (b : Bool) → (IsTrue b → ⊥) → b ≡ false
+pub not_so : (b : Bool) → (IsTrue b → ⊥) → b ≡ false
 not_so true f = absurd (f refl)
 not_so false f = refl
 

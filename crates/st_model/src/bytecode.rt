@@ -1,6 +1,8 @@
 ghost use Rattle.std.specs.Prelude.{◌≡◌, ◌<◌, ◌≤◌};
 ghost use Rattle.st_model.specs.Decoded.{decoded, operand_of, IsNumbered, IsNumberedOperand};
 
+use crate::codes::CODES;
+
 /// A variable or constant that a bytecode names.
 #[derive(Clone, Copy)]
 pub enum Operand {
@@ -100,105 +102,19 @@ pub fn extended_operand(byte: u8) -> Operand
     ensures numbered { IsNumberedOperand result }
 {
     let number = byte % 64;
-    match byte {
-        0..=63 => Operand::ReceiverVariable(number),
-        64..=127 => Operand::TemporaryVariable(number),
-        128..=191 => Operand::LiteralConstant(number),
-        192..=255 => Operand::LiteralVariable(number),
-    }
-}
-
-/// What a first byte below 128 means: what pushes, stores and pops, or returns.
-fn decode_below_128(byte: u8) -> Bytecode
-    requires { byte < 128 }
-    ensures code { result ≡ decoded byte }
-    ensures numbered { IsNumbered result }
-{
-    match byte {
-        0..=15 => Bytecode::Push(Operand::ReceiverVariable(byte)),
-        16..=31 => Bytecode::Push(Operand::TemporaryVariable(byte - 16)),
-        32..=63 => Bytecode::Push(Operand::LiteralConstant(byte - 32)),
-        64..=95 => Bytecode::Push(Operand::LiteralVariable(byte - 64)),
-        96..=103 => Bytecode::StoreAndPop(Operand::ReceiverVariable(byte - 96)),
-        104..=111 => Bytecode::StoreAndPop(Operand::TemporaryVariable(byte - 104)),
-        112 => Bytecode::PushReceiver,
-        113 => Bytecode::PushConstant(Constant::True),
-        114 => Bytecode::PushConstant(Constant::False),
-        115 => Bytecode::PushConstant(Constant::Nil),
-        116 => Bytecode::PushConstant(Constant::MinusOne),
-        117 => Bytecode::PushConstant(Constant::Zero),
-        118 => Bytecode::PushConstant(Constant::One),
-        119 => Bytecode::PushConstant(Constant::Two),
-        120 => Bytecode::ReturnReceiver,
-        121 => Bytecode::ReturnConstant(Constant::True),
-        122 => Bytecode::ReturnConstant(Constant::False),
-        123 => Bytecode::ReturnConstant(Constant::Nil),
-        124 => Bytecode::ReturnTopToSender,
-        125 => Bytecode::ReturnTopToCaller,
-        126.. => Bytecode::Unused,
-    }
-}
-
-/// What a first byte from 128 to 175 means: what goes on with another byte, moves the top, or jumps.
-fn decode_below_176(byte: u8) -> Bytecode
-    requires low { 128 ≤ byte }
-    requires high { byte < 176 }
-    ensures code { result ≡ decoded byte }
-    ensures numbered { IsNumbered result }
-{
-    match byte {
-        ..=128 => Bytecode::ExtendedPush,
-        129 => Bytecode::ExtendedStore,
-        130 => Bytecode::ExtendedStoreAndPop,
-        131 => Bytecode::ExtendedSend,
-        132 => Bytecode::DoubleExtendedSend,
-        133 => Bytecode::ExtendedSuperSend,
-        134 => Bytecode::DoubleExtendedSuperSend,
-        135 => Bytecode::PopStack,
-        136 => Bytecode::DuplicateTop,
-        137 => Bytecode::PushActiveContext,
-        138..=143 => Bytecode::Unused,
-        144..=151 => Bytecode::ShortUnconditionalJump(byte - 144),
-        152..=159 => Bytecode::ShortJumpOnFalse(byte - 152),
-        160..=167 => Bytecode::LongUnconditionalJump(byte - 160),
-        168..=171 => Bytecode::LongJumpOnTrue(byte - 168),
-        172.. => Bytecode::LongJumpOnFalse(byte - 172),
-    }
-}
-
-/// What a first byte from 176 on means: a send.
-fn decode_send(byte: u8) -> Bytecode
-    requires { 176 ≤ byte }
-    ensures code { result ≡ decoded byte }
-    ensures numbered { IsNumbered result }
-{
-    match byte {
-        ..=191 => Bytecode::ArithmeticSend(byte - 176),
-        192..=197 | 203..=207 => Bytecode::SpecialSend(byte - 176),
-        198..=202 => Bytecode::PrimitiveSend(byte - 176),
-        208..=223 => Bytecode::LiteralSend {
-            literal: byte - 208,
-            arguments: 0,
-        },
-        224..=239 => Bytecode::LiteralSend {
-            literal: byte - 224,
-            arguments: 1,
-        },
-        240..=255 => Bytecode::LiteralSend {
-            literal: byte - 240,
-            arguments: 2,
-        },
+    match byte / 64 {
+        0 => Operand::ReceiverVariable(number),
+        1 => Operand::TemporaryVariable(number),
+        2 => Operand::LiteralConstant(number),
+        3.. => Operand::LiteralVariable(number),
     }
 }
 
 /// What the first byte of a bytecode means.
+#[inline(always)]
 pub fn decode(byte: u8) -> Bytecode
     ensures code { result ≡ decoded byte }
     ensures numbered { IsNumbered result }
 {
-    match byte {
-        0..=127 => decode_below_128(byte),
-        128..=175 => decode_below_176(byte),
-        176..=255 => decode_send(byte),
-    }
+    CODES[byte as usize]
 }

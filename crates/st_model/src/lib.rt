@@ -10,6 +10,7 @@ ghost use Rattle.st_model.specs.Objects.{NilObject, FalseObject, TrueObject, Sma
 
 mod bytecode;
 mod call;
+mod codes;
 mod dead;
 mod deed;
 mod demand;

@@ -8,7 +8,7 @@ use Rattle.st_model.specs.declared.demand.Demand.{Demand}
 use Rattle.st_model.specs.declared.oop.Oop.{Oop}
 use Rattle.st_model.specs.Values.{value}
 use Rattle.st_model.specs.Objects.{Object, words_of}
-use Rattle.st_model.specs.Table.{Table, entry, total_used}
+use Rattle.st_model.specs.Table.{entry, total_used}
 use Rattle.st_plain.specs.declared.entry.Entry.{Entry}
 use Rattle.st_plain.specs.declared.objects.Objects.{Objects}
 use Rattle.st_plain.specs.Lists.{slot, new_entry, entry_object, entry_total, slot_number, entry_words, entry_fields, entry_units, IsPlaced, AllPlaced}
@@ -16,12 +16,8 @@ use Rattle.st_plain.specs.ListsPlain.{Extent, objects_of, with_taken}
 use Rattle.st_plain.proofs.Slots.{entry-listed, entry-slot, slice_get-slot}
 use Rattle.st_plain.proofs.Looking.{total_more}
 use Rattle.st_plain.proofs.Counting.{used_is}
-
-pub same_objects : (t u : Table) → length t ≡ length u → ((j : ℕ) → entry t j ≡ entry u j) → t ≡ u
-same_objects [] [] l f = refl
-same_objects [] (b ∷ u) l f = absurd (omega (arith, l))
-same_objects (a ∷ t) [] l f = absurd (omega (arith, l))
-same_objects (a ∷ t) (b ∷ u) l f = λ i. f 0 i ∷ same_objects t u (omega (arith, l)) (λ j. f (suc j)) i
+use Rattle.st_memory.proofs.Exchanged.{same_table}
+use Rattle.st_counted.proofs.Referring.{entry-set_same, entry-set_other}
 
 pub total_part : (w : Entry → ℕ) (es : List (Option Entry)) (k : ℕ) → entry_total w (take k es) ≤ entry_total w es
 total_part w es zero = omega arith
@@ -51,18 +47,6 @@ slot_none o k h =
     let p = o.pointers.items in
     let u = o.units.items in
     none_of (slot o.entries.items k) (entry_object p u) (sym (entry-listed p u o.entries.items k) ∙ h)
-
-pub entry-set_same : (t : Table) (n : ℕ) (x : Option Object) → n < length t → entry (set t n x) n ≡ x
-entry-set_same [] n x l = absurd (omega (arith, l))
-entry-set_same (e ∷ t) zero x l = refl
-entry-set_same (e ∷ t) (suc n) x l = entry-set_same t n x (omega (arith, l))
-
-pub entry-set_other : (t : Table) (n k : ℕ) (x : Option Object) → k ≢ n → entry (set t n x) k ≡ entry t k
-entry-set_other [] n k x d = refl
-entry-set_other (e ∷ t) zero zero x d = absurd (d refl)
-entry-set_other (e ∷ t) zero (suc k) x d = refl
-entry-set_other (e ∷ t) (suc n) zero x d = refl
-entry-set_other (e ∷ t) (suc n) (suc k) x d = entry-set_other t n k x (λ q. d (ap (λ m. suc m) q))
 
 -- a place without an entry has no object
 pub entry_none : (o : Objects) (k : ℕ) → slot o.entries.items k ≡ None → entry (objects_of o) k ≡ None
@@ -108,7 +92,7 @@ module _ (other : Objects) (k nf nu : ℕ) (below : k < other.table_end) (taken 
 
 -- where all places are copied nothing is lost
 pub all_copied : (new other : Objects) (k : ℕ) → other.table_end ≤ k → ((j : ℕ) → j < k → entry (objects_of new) j ≡ entry (objects_of other) j) → ((j : ℕ) → k ≤ j → entry (objects_of new) j ≡ None) → objects_of new ≡ objects_of other
-all_copied new other k end below above = same_objects (objects_of new) (objects_of other) (long new ∙ sym (long other)) each
+all_copied new other k end below above = same_table (objects_of new) (objects_of other) (long new ∙ sym (long other)) each
   where
     long : (o : Objects) → length (objects_of o) ≡ 32768
     long o = length-map o.entries.items (option_map (entry_object o.pointers.items o.units.items)) ∙ o.laid_out.places

@@ -13,7 +13,7 @@ use Rattle.st_model.proofs.Exchanging.{other_of, exchanged_is}
 use Rattle.st_plain.specs.declared.entry.Entry.{Entry}
 use Rattle.st_plain.specs.Lists.{slot, entry_object, entry_total, listed_table, IsLaidOut, IsFull}
 use Rattle.st_plain.proofs.Slots.{slice_get-slot, slot-slice_get, entry-slot}
-use Rattle.st_plain.proofs.Stores.{changed-set}
+use Rattle.st_heap.proofs.Changing.{changed-set}
 
 -- a sum with another entry at a place
 total-replaced : (w : Entry → ℕ) (es : List (Option Entry)) (k : ℕ) (e f : Entry) → slot es k ≡ Some e → entry_total w (set es k (Some f)) + w e ≡ entry_total w es + w f

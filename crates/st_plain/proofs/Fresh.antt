@@ -14,6 +14,7 @@ use Rattle.st_model.proofs.Pointers.{value_of-even}
 use Rattle.st_plain.specs.declared.objects.Objects.{Objects}
 use Rattle.st_plain.specs.Lists.{cleared, entry_object}
 use Rattle.st_plain.specs.ListsPlain.{objects_of}
+use Rattle.st_model.proofs.LoadingLemmas.{entry-set_same}
 
 -- each pointer has its place in the table
 pub pointer_within : (o : Objects) (w : ℕ) → w < 65536 → w / 2 < length (objects_of o)
@@ -21,11 +22,6 @@ pointer_within o w small =
     let long = length-map o.entries.items (option_map (entry_object o.pointers.items o.units.items)) in
     let places = o.laid_out.places in
     omega (arith, long, places, small)
-
-entry-set : (t : Table) (n : ℕ) (o : Object) → n < length t → entry (set t n (Some o)) n ≡ Some o
-entry-set [] n o l = absurd (omega (arith, l))
-entry-set (e ∷ t) zero o l = refl
-entry-set (e ∷ t) (suc n) o l = entry-set t n o (omega (arith, l))
 
 changed-set : (t : Table) (n : ℕ) (a o : Object) → n < length t → changed (set t n (Some a)) n o ≡ set t n (Some o)
 changed-set [] n a o l = absurd (omega (arith, l))
@@ -36,17 +32,17 @@ changed-set (Some b ∷ t) (suc n) a o l = ap (λ u. Some b ∷ u) (changed-set 
 module _ (t : Table) (w : ℕ) (o : Object) (even : is_small (value_of w) ≡ false) (within : w / 2 < length t) where
   pub live_placed : is_live (with_object t (value_of w) o) (value_of w) ≡ true
   unfolding is_live with_object
-  live_placed = subst (λ v. is_live (with_object t v o) v ≡ true) (sym (value_of-even w even)) (ap is_some (entry-set t (w / 2) o within))
+  live_placed = subst (λ v. is_live (with_object t v o) v ≡ true) (sym (value_of-even w even)) (ap is_some (entry-set_same t (w / 2) o within))
 
   pub object_of-placed : object_of (with_object t (value_of w) o) (value_of w) ≡ o
   unfolding object_of with_object
-  object_of-placed = subst (λ v. object_of (with_object t v o) v ≡ o) (sym (value_of-even w even)) (ap (λ e. unwrap_or e nothing) (entry-set t (w / 2) o within))
+  object_of-placed = subst (λ v. object_of (with_object t v o) v ≡ o) (sym (value_of-even w even)) (ap (λ e. unwrap_or e nothing) (entry-set_same t (w / 2) o within))
 
   pub stored_placed : (i : ℕ) (x : Value) → with_stored (with_object t (value_of w) o) (value_of w) i x ≡ with_object t (value_of w) (with_field o i x)
   unfolding with_stored with_object object_of
   stored_placed i x =
       let n = w / 2 in
-      let there : unwrap_or (entry (set t n (Some o)) n) nothing ≡ o = ap (λ e. unwrap_or e nothing) (entry-set t n o within) in
+      let there : unwrap_or (entry (set t n (Some o)) n) nothing ≡ o = ap (λ e. unwrap_or e nothing) (entry-set_same t n o within) in
       subst (λ v. with_stored (with_object t v o) v i x ≡ with_object t v (with_field o i x)) (sym (value_of-even w even))
       (ap (λ b. changed (set t n (Some o)) n (with_field b i x)) there ∙ changed-set t n o (with_field o i x) within)
 

@@ -15,7 +15,7 @@ use Rattle.st_plain.specs.declared.objects.Objects.{Objects}
 use Rattle.st_plain.specs.Lists.{entry_object, IsFull}
 use Rattle.st_plain.specs.ListsPlain.{objects_of}
 use Rattle.st_plain.proofs.Slots.{is_some-entry}
-use Rattle.st_plain.proofs.Closed.{entry-set_same, entry-set_other}
+use Rattle.st_counted.proofs.Referring.{entry-set_same, entry-set_other}
 
 pub length-objects : (o : Objects) → length (objects_of o) ≡ 32768
 length-objects o = length-map o.entries.items (option_map (entry_object o.pointers.items o.units.items)) ∙ o.laid_out.places

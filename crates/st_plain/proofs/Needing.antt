@@ -1,44 +1,27 @@
 -- What is marked where the roots and what the objects refer to are marked.
-use Rattle.std.proofs.Common.{◌≡◌, ℕ, ◌<◌, zero, suc, Bool, true, false, ◌++◌, length, refl, sym, ap, ◌∙◌, subst, arith, inl, inr, ◌⊎◌}
+use Rattle.std.proofs.Common.{◌≡◌, ℕ, ◌<◌, Bool, true, false, ◌++◌, length, refl, sym, ap, ◌∙◌, inl, inr, ◌⊎◌}
 use Rattle.std.specs.Prelude.{Some, IsTrue, ◌==◌}
 use Rattle.st_model.specs.Objects.{Object, one}
 use Rattle.st_model.specs.Machine.{table_root, head_roots, device_roots}
 use Rattle.st_model.specs.Table.{Table, table, entry, settled_table, total_used}
-use Rattle.st_model.specs.Settled.{Refers, AnyRefTo, IsRoot, held_root, page_root, or, any_names, object_names, any_below, is_root}
+use Rattle.st_model.specs.Settled.{Refers, IsRoot, or, any_names, object_names, is_root}
 use Rattle.st_model.specs.View.{View, SettlesTo, view_roots}
-use Rattle.st_model.proofs.SettledIs.{or_cases, below_true, object_is, is_object, root_is, is_root-of}
+use Rattle.st_model.proofs.SettledIs.{or_cases, below_true, object_is, is_object, root_is, is_root-of, or_left, or_right, true_below}
 use Rattle.st_model.proofs.SettledLemmas.{is_some-of, some_is}
-use Rattle.st_simulation.proofs.Reclaimed.{table_finite_in}
 use Rattle.st_model.proofs.Settling.{DropsTo, left, left_is, settled}
-use Rattle.st_model.proofs.Rounds.{KeepsNeeded, all_kept, settled_all, moved_roots}
+use Rattle.st_model.proofs.Rounds.{KeepsNeeded, all_kept, settled_all}
 use Rattle.st_plain.specs.Held.{register_roots, names_held}
 use Rattle.st_plain.specs.Marked.{is_of_page}
 use Rattle.st_plain.specs.ListsPlain.{is_referred}
 use Rattle.st_plain.specs.Plain.{is_needed}
 use Rattle.st_plain.proofs.Marking.{any_names-append, or_step}
 use Rattle.st_plain.proofs.Holding.{twice}
-
-or_left : (a b : Bool) → IsTrue a → IsTrue (or a b)
-or_left true b h = refl
-or_left false b h = cc
-
-or_right : (a b : Bool) → IsTrue b → IsTrue (or a b)
-or_right true b h = refl
-or_right false b h = h
-
-below_some : (n k : ℕ) (f : ℕ → Bool) → k < n → IsTrue (f k) → IsTrue (any_below n f)
-below_some zero k f l h = absurd (omega (arith, l))
-below_some (suc n) k f l h = elim (last_case k n l) [
-  | inl e ↦ or_left (f n) (any_below n f) (subst (λ x. IsTrue (f x)) e h)
-  | inr m ↦ or_right (f n) (any_below n f) (below_some n k f m h)
-]
-  where
-    last_case : (k n : ℕ) → k < suc n → (k ≡ n) ⊎ (k < n)
-    last_case k n l = grind arith
+use Rattle.st_counted.proofs.Dropping.{moved_root}
+use Rattle.st_model.proofs.Reclaiming.{table_finite}
 
 is_referred-of : (t : Table) (m : ℕ) (o : Object) (n : ℕ) → entry t m ≡ Some o → Refers o n → IsTrue (is_referred t n)
 unfolding is_referred
-is_referred-of t m o n e r = below_some (length t) m (λ j. object_names (entry t j) n) (table_finite_in t m (is_some-of (entry t m) o e)) (is_object (entry t m) o n e r)
+is_referred-of t m o n e r = true_below (length t) m (λ j. object_names (entry t j) n) (table_finite t m (is_some-of (entry t m) o e)) (is_object (entry t m) o n e r)
 
 module _ (v : View) where
   -- the roots and what the objects refer to are needed
@@ -101,10 +84,6 @@ module _ (v : View) (n : ℕ) where
       turned or (λ a b c. sym (or_step a b c)) or_comm or_swap (is_referred v.objects n) registers devices (n == 1) symbols globals (is_of_page n)
       ∙ ap (λ b. or (or (or registers (or (or globals symbols) devices)) b) (is_referred v.objects n)) (twice (n == 1) _)
       ∙ ap (λ b. or (or b (is_of_page n)) (is_referred v.objects n)) (sym named_roots)
-
-moved_root : (first v : View) (n : ℕ) → v.held ≡ first.held → v.head ≡ first.head → IsRoot table v.objects (view_roots v) n → IsRoot table first.objects (view_roots first) n
-moved_root first v n held head (held_root r) = held_root (subst (λ xs. AnyRefTo n xs) (moved_roots first v held head) r)
-moved_root first v n held head (page_root q e) = page_root q e
 
 -- where a round takes nothing away, what is left is the largest set that supports itself
 pub settles_to : (first v w : View) → DropsTo first.objects v.objects (view_roots first) → v.held ≡ first.held → v.head ≡ first.head

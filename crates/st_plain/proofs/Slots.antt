@@ -9,6 +9,7 @@ use Rattle.st_model.specs.View.{nothing, is_live, object_of}
 use Rattle.st_model.proofs.Pointers.{value_of-even}
 use Rattle.st_plain.specs.declared.entry.Entry.{Entry}
 use Rattle.st_plain.specs.Lists.{entry_object, listed_table, slot, entry_of, IsPlaced, AllPlaced}
+use Rattle.st_heap.proofs.Changing.{none_of}
 
 pub entry_of-small : (es : List (Option Entry)) (v : Value) → is_small v ≡ true → entry_of es v ≡ None
 unfolding entry_of
@@ -70,10 +71,6 @@ slot_half es w n e half h =
 
 pub placed_entry : (nf nu : ℕ) (es : List (Option Entry)) (v : Value) (e : Entry) → AllPlaced nf nu es → entry_of es v ≡ Some e → IsPlaced nf nu e
 placed_entry nf nu es v e placed h = let r = slot-entry_of es v e h in placed r.0 e (slice_get-slot es r.0 e r.2)
-
-none_of : {A : Type 0} (x : Option A) → is_some x ≡ false → x ≡ None
-none_of None h = refl
-none_of (Some a) h = cc
 
 -- a pointer that no object has has no entry
 pub free_slot : (p : List Oop) (u : List ℕ) (es : List (Option Entry)) (w : ℕ) → is_small (value_of w) ≡ false → is_live (listed_table p u es) (value_of w) ≡ false → slot es (w / 2) ≡ None

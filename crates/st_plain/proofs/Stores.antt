@@ -7,12 +7,13 @@ use Rattle.std.proofs.lemmas.List.{drop-set-lt, take-set-le, drop-set-add, map-s
 use Rattle.std.proofs.Math.Seq.{take-set-lt}
 use Rattle.st_model.specs.declared.oop.Oop.{Oop}
 use Rattle.st_model.specs.Values.{Value, Ref, value}
-use Rattle.st_model.specs.Objects.{Object, with_field, object_with_unit}
+use Rattle.st_model.specs.Objects.{with_field, object_with_unit}
 use Rattle.st_model.specs.Table.{Table, entry, changed}
 use Rattle.st_model.specs.View.{with_stored, with_unit}
 use Rattle.st_plain.specs.declared.entry.Entry.{Entry}
 use Rattle.st_plain.specs.Lists.{entry_object, listed_table, entry_of, AllApart}
 use Rattle.st_plain.proofs.Slots.{slice_get-slot, slot-entry_of, entry-slot, object_of-listed}
+use Rattle.st_heap.proofs.Changing.{changed-set}
 
 -- a store inside a run is a store into what is taken of it
 run-set_inside : {A : Type 0} (n a k : ℕ) (xs : List A) (v : A) → k < n → take n (drop a (set xs (a + k) v)) ≡ set (take n (drop a xs)) k v
@@ -43,13 +44,6 @@ map-set_at f g (a ∷ xs) zero x y h e same =
     rest (b ∷ ys) s = λ i. s zero b refl i ∷ rest ys (λ j z r. s (suc j) z r) i
 map-set_at f g (a ∷ xs) (suc i) x y h e same =
     λ t. same zero a (λ q. absurd (omega (arith, q))) refl t ∷ map-set_at f g xs i x y h e (λ j z ne r. same (suc j) z (λ q. ne (omega (arith, q))) r) t
-
-pub changed-set : (t : Table) (i : ℕ) (a o : Object) → entry t i ≡ Some a → changed t i o ≡ set t i (Some o)
-changed-set [] i a o e = cc
-changed-set (None ∷ t) zero a o e = cc
-changed-set (Some b ∷ t) zero a o e = refl
-changed-set (None ∷ t) (suc i) a o e = ap (λ u. None ∷ u) (changed-set t i a o e)
-changed-set (Some b ∷ t) (suc i) a o e = ap (λ u. Some b ∷ u) (changed-set t i a o e)
 
 module _ (p : List Oop) (u : List ℕ) (es : List (Option Entry)) (apart : AllApart es) (i : ℕ) (e : Entry) (at : slice_get es i ≡ Some (Some e)) (k : ℕ) where
   -- a store into field k of the entry at place i

@@ -39,7 +39,7 @@ behind_one x b = back_low (x ∷ []) b
 
 -- RANKS
 
-wrapped_least : (b : Bool) (n : ℕ) → n ≤ wrapped_nesting b n
+pub wrapped_least : (b : Bool) (n : ℕ) → n ≤ wrapped_nesting b n
 wrapped_least true n = omega arith
 wrapped_least false n = omega arith
 

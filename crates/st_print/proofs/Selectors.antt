@@ -5,22 +5,19 @@ use Rattle.std.specs.List.{list_all}
 use Rattle.std.specs.Str.{byte}
 use Rattle.std.specs.Int.{is_in_range}
 use Rattle.std.specs.Char.{is_ascii_alphabetic, is_ascii_alphanumeric}
-use Rattle.std.proofs.lemmas.Bool.{and_parts, and_from, or_cases, leb-true, ne_eqb}
+use Rattle.std.proofs.lemmas.Bool.{and_parts, and_from, or_cases, ne_eqb}
 use Rattle.std.proofs.lemmas.List.{drop-drop}
 use Rattle.std.proofs.Math.Seq.{drop-append_seam}
 use Rattle.st_scan.specs.Pieces.{begins, is_name, is_operator, keywords_text}
 use Rattle.st_scan.specs.Bytes.{is_operator_byte}
 use Rattle.st_scan.proofs.Prefixes.{prefix-all}
-use Rattle.st_scan.proofs.Classes.{or_second, operator-sign}
+use Rattle.st_scan.proofs.Classes.{or_second, operator-sign, in_range}
 use Rattle.st_grammar.specs.Formed.{AreKeywords}
 use Rattle.st_print.specs.Words.{keyword_end, first_keyword, other_keywords}
 use Rattle.st_print.specs.Printed.{is_word}
 
 abbrev no_colon : ℕ → Bool
 no_colon b = not (eqb b (byte ":"))
-
-in_range : (low high b : ℕ) → is_in_range low high b ≡ true → (low ≤ b) × (b ≤ high)
-in_range low high b e = let parts = and_parts _ _ e in (leb-true low b parts.0, leb-true b high parts.1)
 
 plain : (b : ℕ) → is_ascii_alphanumeric b ≡ true → no_colon b ≡ true
 plain b e = elim (or_cases (is_in_range 48 57 b || is_in_range 65 90 b) (is_in_range 97 122 b) e) [

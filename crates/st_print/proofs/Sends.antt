@@ -20,8 +20,9 @@ use Rattle.st_print.specs.Words.{name, keyword, operator, mark, first_keyword, o
 use Rattle.st_print.specs.Printed.{is_word, receiver_rank, expression_words, next_messages, message_words, keyword_words, placed}
 use Rattle.st_print.proofs.Selectors.{first_of_some, no_keywords, operator_no_word}
 use Rattle.st_print.proofs.Spelled.{IsWord, Spells, first_of, spells_nothing, parted, last_of, one_of, keyword_fits, operator_fits}
-use Rattle.st_print.proofs.Trees.{super_same, ones_text-append, operations_end, operations_end-text, operations_end-fit, messages_append, messages_append-nil, with_message-append, name_has, operation_has, HasPart, part_has, after_names-end, after_operations-end}
+use Rattle.st_print.proofs.Trees.{super_same, operations_end, operations_end-text, operations_end-fit, messages_append, messages_append-nil, with_message-append, name_has, operation_has, HasPart, part_has, after_names-end, after_operations-end}
 use Rattle.st_print.proofs.Backs.{UnaryBack, BinaryBack, AnyBack, Back, from_unary, from_binary, from_any}
+use Rattle.st_grammar.proofs.Expressions.{ones_text-append}
 
 no_more : (es : ExpressionsView) → count_of es ≡ 0 → views.no_expressions ≡ es
 no_more views.no_expressions e = refl

@@ -1,13 +1,12 @@
 -- Trees of phrases that grow at their end; and what places have no part in.
 use Rattle.std.proofs.Common.{◌≡◌, ℕ, true, false, List, [], ◌∷◌, ◌++◌, refl, sym, ap, ◌∙◌, append_assoc}
 use Rattle.std.proofs.lemmas.List.{append-nil}
-use Rattle.st_scan.specs.Views.{NameView, ExpressionView, StatementsView, MessagesView, ExpressionsView, with_message, with_sent, is_super}
+use Rattle.st_scan.specs.Views.{ExpressionView, MessagesView, ExpressionsView, with_message, is_super}
 use Rattle.st_scan.specs.Views as views
 use Rattle.st_scan.specs.Placeless.{placeless}
 use Rattle.st_grammar.specs.declared.leaf.Leaf.{Leaf}
-use Rattle.st_grammar.specs.declared.leaf.Kind.{Kind}
 use Rattle.st_grammar.specs.Leaves.{operators}
-use Rattle.st_grammar.specs.Phrases.{One, names, Primary, Unary, Operations, Parts, Expression, Target, unary, binary, keyworded, no_operations, operation, no_parts, part, expression, ones_text, unary_text, operations_text, expression_text}
+use Rattle.st_grammar.specs.Phrases.{One, names, Primary, Unary, Operations, Parts, Expression, Target, unary, binary, keyworded, no_operations, operation, no_parts, part, expression, unary_text, operations_text, expression_text}
 use Rattle.st_grammar.specs.Trees.{bytes, name_at, sent, after_names, unary_tree, after_operations, expression_tree, has_message, UnaryFits, OperationsFit, ExpressionFits}
 
 -- `super` by its name alone
@@ -22,10 +21,6 @@ pub super_same : (t u : ExpressionView) → placeless t ≡ placeless u → is_s
 super_same t u e f = sym (super_placeless t) ∙ ap is_super e ∙ super_placeless u ∙ f
 
 -- LISTS
-
-pub ones_text-append : {ks : List Kind} (os ps : List (One ks)) → ones_text (os ++ ps) ≡ ones_text os ++ ones_text ps
-ones_text-append [] ps = refl
-ones_text-append (o ∷ os) ps = ap (λ (l : List Leaf). o.leaf ∷ l) (ones_text-append os ps)
 
 abbrev pub operations_end : Operations → One operators → Unary → Operations
 operations_end no_operations o u = operation o u no_operations

@@ -1,7 +1,7 @@
 -- A primitive on processes, or on devices or clocks, is found by its number, and fails where it takes another number of arguments.
-use Rattle.std.proofs.Common.{◌≡◌, ℕ, Bool, true, false, refl}
+use Rattle.std.proofs.Common.{◌≡◌, ℕ, true, false, refl}
 use Rattle.std.specs.Prelude.{◌==◌, if◌then◌else◌}
-use Rattle.st_model.specs.Machine.{ObjectMemory, State, Went, Step, answer}
+use Rattle.st_model.specs.Machine.{ObjectMemory, State, Went, answer}
 use Rattle.st_model.specs.Primitives.{taking}
 use Rattle.st_model.specs.Processes.{processes}
 use Rattle.st_model.specs.Processes as step
@@ -9,21 +9,7 @@ use Rattle.st_model.specs.Input.{input}
 use Rattle.st_model.specs.Input as act
 use Rattle.st_model.specs.Table.{Table}
 use Rattle.st_process.specs.Numbers.{process_takes, input_takes}
-
--- where each of these fails, so does the choice between them
-fails : (b c r : Bool) (p q : Step Table Bool) (s : State Table) → (r ≡ false → q.run s ≡ Went false s)
-    → (if b then c else r) ≡ false → (if b then (if c then p else answer false) else q).run s ≡ Went false s
-unfolding answer
-fails true true r p q s f e = cc
-fails true false r p q s f e = refl
-fails false c r p q s f e = f e
-
-none : (s : State Table) → (answer {H = Table} false).run s ≡ Went false s
-unfolding answer
-none s = refl
-
-taken : (c : Bool) (p : Step Table Bool) (s : State Table) → c ≡ true → (if c then p else answer false).run s ≡ p.run s
-taken c p s e = rw e refl
+use Rattle.st_frames.proofs.Numbered.{fails, none, taken}
 
 module _ (m : ObjectMemory Table) where
   pub process-fails : (k n : ℕ) (s : State Table) → process_takes k n ≡ false → (processes m k n).run s ≡ Went false s

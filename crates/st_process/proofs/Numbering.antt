@@ -1,6 +1,6 @@
 -- Steps that go by integers, by cases.
 use Rattle.std.proofs.Common.{◌≡◌, zero, suc, Bool, true, false, refl, ap, arith}
-use Rattle.std.specs.Prelude.{ℤ, pos, negsuc, ◌+ℤ◌, ◌-ℤ◌, ◌≤ℤ◌, ◌<ℤ◌, int_lt, int_le, if◌then◌else◌}
+use Rattle.std.specs.Prelude.{ℤ, pos, negsuc, ◌+ℤ◌, ◌-ℤ◌, ◌≤ℤ◌, ◌<ℤ◌, int_lt, if◌then◌else◌}
 use Rattle.std.proofs.lemmas.Int.{ints}
 use mir.Syntax.{w32}
 use mir.Val.{to_z, of_z}
@@ -9,21 +9,9 @@ use Rattle.st_model.specs.declared.dead.Dead.TheVariants as dead
 use Rattle.st_model.specs.Values.{Value, small_integer}
 use Rattle.st_model.specs.Machine.{ObjectMemory, State, Died, Went, Step, answer, die, ◌>>◌}
 use Rattle.st_model.specs.Table.{Table}
-use Rattle.st_model.specs.Steps.{check, store_field}
+use Rattle.st_model.specs.Steps.{store_field}
 use Rattle.st_model.specs.Processes.{list_number, sleep, let_wait, resume_over, wait_in, take_excess}
-use Rattle.st_model.proofs.Runs.{run-passed, run-failed}
-
-le_true : (a b : ℤ) → a ≤ℤ b → int_le a b ≡ true
-le_true (pos a) (pos b) l = grind (arith, ints, l)
-le_true (pos a) (negsuc b) l = grind (arith, ints, l)
-le_true (negsuc a) (pos b) l = grind (arith, ints, l)
-le_true (negsuc a) (negsuc b) l = grind (arith, ints, l)
-
-le_false : (a b : ℤ) → b <ℤ a → int_le a b ≡ false
-le_false (pos a) (pos b) l = grind (arith, ints, l)
-le_false (pos a) (negsuc b) l = grind (arith, ints, l)
-le_false (negsuc a) (pos b) l = grind (arith, ints, l)
-le_false (negsuc a) (negsuc b) l = grind (arith, ints, l)
+use Rattle.st_model.proofs.IntegerTests.{limit-within, limit-past}
 
 -- an integer that a field holds stays the same as it is passed on, and as 1 is added or taken away
 pub passed-is : (n : ℤ) → negsuc 16383 ≤ℤ n → n ≤ℤ pos 16383 → to_z w32 (of_z w32 n) ≡ n
@@ -58,12 +46,6 @@ module _ (m : ObjectMemory Table) (p a : Value) (x y : ℤ) (s : State Table) (f
   pub passed-not : int_lt (to_z w32 (of_z w32 x)) (to_z w32 (of_z w32 y)) ≡ false → (resume_over m p a (int_lt x y)).run s ≡ (sleep m p).run s
   unfolding resume_over
   passed-not e = let h : int_lt x y ≡ false = rw (first, second) at e in rw h refl
-
-pub limit-within : (k : Dead) (a b : ℤ) (s : State Table) → a ≤ℤ b → (check k (int_le a b)).run s ≡ Went tt s
-limit-within k a b s l = run-passed k (int_le a b) s (le_true a b l)
-
-pub limit-past : (k : Dead) (a b : ℤ) (s : State Table) → b <ℤ a → (check k (int_le a b)).run s ≡ Died k
-limit-past k a b s l = run-failed k (int_le a b) s (le_false a b l)
 
 pub ruleset limits = (limit-within, limit-past, passed-is, raised-is)
 

@@ -23,7 +23,7 @@ one_cut (d ∷ a) (e ∷ b) x y all long =
     let more = one_cut a b x y rest (omega (arith, long, same, length-append (entry d) (entries a), length-append (entry e) (entries b))) in
     ((λ i. first i ∷ more.0 i), more.1)
 
-stands : (c : Commit) → StandsAt (all_of c) (length (entries c.before))
+pub stands : (c : Commit) → StandsAt (all_of c) (length (entries c.before))
 stands c = record {
   count = length c.before;
   within = omega (arith, length-append c.before c.definitions);

@@ -22,7 +22,7 @@ use Rattle.st_recover.specs.Openings.{IsReadable, IsReopenedAs}
 use Rattle.st_recover.specs.declared.opened.Opened.{Opened}
 
 -- a memory that holds nothing but the registers is ready with an empty world
-filled_empty : filled (empty_world nil).devices ≡ no_devices
+pub filled_empty : filled (empty_world nil).devices ≡ no_devices
 unfolding no_devices
 filled_empty = refl
 

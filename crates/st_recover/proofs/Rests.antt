@@ -3,7 +3,7 @@ use Rattle.std.proofs.Common.{◌≡◌, ◌≤◌, ◌<◌, ◌+◌, ◌-◌, �
 use Rattle.std.specs.Prelude.{All}
 use Rattle.std.proofs.Math.ListN.{length-map}
 use Rattle.std.proofs.lemmas.List.{drop_more, take_rest, drop-map, get_or-drop}
-use Rattle.st_chunk.specs.Definitions.{Definition, IsDefinition, entry, entries}
+use Rattle.st_chunk.specs.Definitions.{Definition, IsDefinition}
 use Rattle.st_changes.specs.declared.definition.Definition as declared
 use Rattle.st_changes.specs.Views.{definition_of, definitions_of}
 use Rattle.st_recover.specs.declared.replay.Replay.{Replay}
@@ -47,14 +47,6 @@ listed n (installation.Refused cause) old new notes = let e = ap length notes.1 
 listed n installation.OutOfMemory old new notes = absurd notes
 
 -- FROM A PLACE ON
-
-entry_there : (d : Definition) → 1 ≤ length (entry d)
-entry_there d = omega arith
-
--- each entry has a byte or more
-pub entries_long : (ds : List Definition) → length ds ≤ length (entries ds)
-entries_long [] = omega arith
-entries_long (d ∷ ds) = omega (arith, entries_long ds, length-append (entry d) (entries ds), entry_there d)
 
 pub all_from : (n : ℕ) (ds : List Definition) → All IsDefinition ds → All IsDefinition (drop n ds)
 all_from n ds all k d less = subst IsDefinition (sym (get_or-drop n ds k d)) (all (n + k) d (omega (arith, length-drop n ds, less)))

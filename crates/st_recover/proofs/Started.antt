@@ -1,5 +1,5 @@
 -- What is read of an image under the values of its own head.
-use Rattle.std.proofs.Common.{◌≡◌, ℕ, ◌≤◌, List, length, refl, subst}
+use Rattle.std.proofs.Common.{◌≡◌, ℕ, ◌≤◌, List, length, subst}
 use Rattle.st_model.specs.Limits.{longest_image}
 use Rattle.st_model.specs.Image.{image_head}
 use Rattle.st_model.specs.Faults.{IsWellFormed, IsImageFault}
@@ -9,10 +9,7 @@ use Rattle.st_frames.specs.declared.frame.Frame.{Frame}
 use Rattle.st_image.specs.HeadValues.{no_values, head_over}
 use Rattle.st_image.specs.Reading.{IsStart}
 use Rattle.st_recover.specs.Openings.{IsReadable, IsFaulty}
-
-pub own_head : (bytes : List ℕ) → head_over no_values bytes ≡ image_head bytes
-unfolding head_over
-own_head bytes = refl
+use Rattle.st_image.proofs.Back.{own_head}
 
 pub readable : (read bytes : List ℕ) → read ≡ bytes → length read ≤ longest_image → IsWellFormed (head_over no_values read) read → IsReadable bytes
 readable read bytes same short formed =

@@ -4,18 +4,15 @@ use Rattle.std.specs.List.{list_all}
 use Rattle.std.specs.Str.{byte}
 use Rattle.std.specs.Int.{is_in_range}
 use Rattle.std.specs.Char.{is_ascii_alphabetic, is_ascii_alphanumeric}
-use Rattle.std.proofs.lemmas.Bool.{and_parts, or_cases, leb-true, ne_eqb}
+use Rattle.std.proofs.lemmas.Bool.{and_parts, or_cases, ne_eqb}
 use Rattle.st_scan.specs.Views.{ExpressionView, StatementsView, MessagesView, ExpressionsView, MethodView}
 use Rattle.st_scan.specs.Views as views
 use Rattle.st_scan.specs.Pieces.{begins, is_name, is_operator, keywords_text}
 use Rattle.st_scan.specs.Bytes.{is_operator_byte}
-use Rattle.st_scan.proofs.Classes.{or_second, operator-sign}
+use Rattle.st_scan.proofs.Classes.{or_second, operator-sign, in_range}
 use Rattle.st_grammar.specs.Formed.{IsSelector, ReceiverFormed, StatementsFormed, MessagesFormed, ArgumentsFormed, IsWellFormed, count_of}
 use Rattle.st_emit.specs.Selectors.{arity, colons}
 use Rattle.st_resolved.specs.Right.{RightExpression, RightStatements, RightMessages, RightAll, arguments_count}
-
-in_range : (low high b : ℕ) → is_in_range low high b ≡ true → (low ≤ b) × (b ≤ high)
-in_range low high b e = let parts = and_parts _ _ e in (leb-true low b parts.0, leb-true b high parts.1)
 
 no_colon : (b : ℕ) → is_ascii_alphanumeric b ≡ true → (b == 58) ≡ false
 no_colon b e = elim (or_cases (is_in_range 48 57 b || is_in_range 65 90 b) (is_in_range 97 122 b) e) [

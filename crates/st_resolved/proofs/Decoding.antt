@@ -13,10 +13,11 @@ use Rattle.st_emit.specs.declared.step.Place.TheVariants.{Field, Temporary, Lite
 use Rattle.st_emit.specs.declared.step.Step.{Step}
 use Rattle.st_emit.specs.declared.step.Step.TheVariants.{Push, PushConstant, PushNumber, Store, PopStore, Pop, Duplicate, Send, SendSuper, SendSpecial, ReturnConstant, ReturnTop, ReturnBlock, Jump, JumpBack, JumpIf, JumpPast}
 use Rattle.st_emit.specs.Steps.{size_of, bytes_of, all_bytes, named_by, long_send, long_send_size}
-use Rattle.st_resolved.specs.Instructions.{in_one, in_two, doubly, sending, returned_constant, place_of, place_in, long_count, long_on, long_jump_by, instruction, instruction_by, on_some, steps_up, steps_of, read_as, Fits, AllFit}
+use Rattle.st_resolved.specs.Instructions.{in_one, in_two, doubly, sending, returned_constant, place_of, long_count, long_on, instruction, instruction_by, on_some, steps_up, steps_of, read_as, Fits, AllFit}
 use Rattle.st_emit.proofs.Sizes.{size-bytes}
 use Rattle.st_resolved.specs.declared.reading.Found.{Found}
 use Rattle.st_resolved.proofs.Sizes.{step_some}
+use Rattle.std.proofs.lemmas.Bool.{and_parts}
 
 abbrev found : Step → ℕ → Option Found
 found x n = Some (record { step = x; size = n })
@@ -110,7 +111,7 @@ false_code k h = grind (arith, nat_tests)
 decoded_as : (c : ℕ) (x : Bytecode) (bs : List ℕ) → decoded c ≡ x → instruction (c ∷ bs) ≡ instruction_by x bs
 decoded_as c x bs e = ap (λ (b : Bytecode). instruction_by b bs) e
 
-below : (m n : ℕ) → nat_lt m n ≡ true → m < n
+pub below : (m n : ℕ) → nat_lt m n ≡ true → m < n
 below m n e = grind (arith, nat_tests)
 
 long_jump_back : (d : ℕ) (bs : List ℕ) → 1 ≤ d → d ≤ 1024 → instruction ((160 + (1024 - d) / 256) ∷ (1024 - d) % 256 ∷ bs) ≡ found (JumpBack d) 2
@@ -154,11 +155,6 @@ one_more d h = omega (arith, h)
 
 within : (d : ℕ) → (nat_le 1 d && nat_le d 8) ≡ true → (1 ≤ d) × (d ≤ 8)
 within d e = (grind (arith, nat_tests), grind (arith, nat_tests))
-
-both : (a b : Bool) → (a && b) ≡ true → (a ≡ true) × (b ≡ true)
-both true true e = (refl, refl)
-both true false e = absurd cc
-both false b e = absurd cc
 
 at_most : (m n : ℕ) → nat_le m n ≡ true → m ≤ n
 at_most m n e = grind (arith, nat_tests)
@@ -217,14 +213,14 @@ reads_back Pop rest h = refl
 reads_back Duplicate rest h = refl
 reads_back (Send n s) rest h =
     by_test (nat_lt s 16 && nat_le n 2) ((208 + 16 * n + s) ∷ []) (long_send 131 132 n s) 1 (long_send_size n s) rest (read_as (Send n s))
-    (λ e. let p = both (nat_lt s 16) (nat_le n 2) e in decoded_as (208 + 16 * n + s) (code.LiteralSend s n) rest (send_code n s (at_most n 2 p.1) (below s 16 p.0)) ∙ ap (λ (i : ℕ). found (Send i s) 1) (few_count n s (omega (arith, at_most n 2 p.1))))
+    (λ e. let p = and_parts (nat_lt s 16) (nat_le n 2) e in decoded_as (208 + 16 * n + s) (code.LiteralSend s n) rest (send_code n s (at_most n 2 p.1) (below s 16 p.0)) ∙ ap (λ (i : ℕ). found (Send i s) 1) (few_count n s (omega (arith, at_most n 2 p.1))))
     (λ e. by_test (nat_lt s 32 && nat_le n 7) (131 ∷ (n * 32 + s) ∷ []) (132 ∷ (n % 256) ∷ (s % 256) ∷ []) 2 3 rest (read_as (Send n s))
-    (λ f. let p = both (nat_lt s 32) (nat_le n 7) f in let q = send_back n s (at_most n 7 p.1) (below s 32 p.0) in
+    (λ f. let p = and_parts (nat_lt s 32) (nat_le n 7) f in let q = send_back n s (at_most n 7 p.1) (below s 32 p.0) in
     ap (λ i. found (Send i ((n * 32 + s) % 32)) 2) q.0 ∙ ap (λ j. found (Send n j) 2) q.1 ∙ ap (λ (i : ℕ). found (Send i s) 2) (few_count n s (omega (arith, at_most n 7 p.1))))
     (λ f. ap (λ j. found (Send (long_count (n % 256) j) j) 3) (small_mod s (omega arith)) ∙ ap (λ (i : ℕ). found (Send i s) 3) (count_back n s f)))
 reads_back (SendSuper n s) rest h =
     by_test (nat_lt s 32 && nat_le n 7) (133 ∷ (n * 32 + s) ∷ []) (134 ∷ (n % 256) ∷ (s % 256) ∷ []) 2 3 rest (read_as (SendSuper n s))
-    (λ f. let p = both (nat_lt s 32) (nat_le n 7) f in let q = send_back n s (at_most n 7 p.1) (below s 32 p.0) in
+    (λ f. let p = and_parts (nat_lt s 32) (nat_le n 7) f in let q = send_back n s (at_most n 7 p.1) (below s 32 p.0) in
     ap (λ i. found (SendSuper i ((n * 32 + s) % 32)) 2) q.0 ∙ ap (λ j. found (SendSuper n j) 2) q.1 ∙ ap (λ (i : ℕ). found (SendSuper i s) 2) (few_count n s (omega (arith, at_most n 7 p.1))))
     (λ f. ap (λ j. found (SendSuper (long_count (n % 256) j) j) 3) (small_mod s (omega arith)) ∙ ap (λ (i : ℕ). found (SendSuper i s) 3) (count_back n s f))
 reads_back (SendSpecial code) rest h = special_send code rest h.0 h.1

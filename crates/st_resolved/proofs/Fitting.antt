@@ -22,6 +22,7 @@ use Rattle.st_resolved.specs.Placed.{IsCount, IsFound, Placed, BodyPlaced, Messa
 use Rattle.st_resolved.specs.Instructions.{IsNumbered, Fits, AllFit}
 use Rattle.st_resolved.specs.Seen.{In, range, AllBelow, SeenPlace, StoredPlace, Fresh, Seen, BodySeen, MessagesSeen, NodesSeen}
 use Rattle.st_resolved.proofs.Seen.{below_more, below_both, below_range}
+use Rattle.std.proofs.lemmas.Bool.{and_parts}
 
 -- an instruction that fits but for how far it jumps
 abbrev pub Held : Step → Type 0
@@ -39,12 +40,7 @@ both_held : (a b : List Step) → AllHeld a → AllHeld b → AllHeld (a ++ b)
 both_held [] b h k = k
 both_held (s ∷ a) b h k = (h.0, both_held a b h.1 k)
 
-both : (a b : Bool) → (a && b) ≡ true → (a ≡ true) × (b ≡ true)
-both true true e = (refl, refl)
-both true false e = absurd cc
-both false b e = absurd cc
-
-at_most : (m n : ℕ) → nat_le m n ≡ true → m ≤ n
+pub at_most : (m n : ℕ) → nat_le m n ≡ true → m ≤ n
 at_most m n e = grind (arith, nat_tests)
 
 held_fits : (s : Step) → Held s → reaches s ≡ true → Fits s
@@ -68,7 +64,7 @@ held_fits ReturnBlock h r = h
 
 pub all_fit : (ss : List Step) → AllHeld ss → all_reach ss ≡ true → AllFit ss
 all_fit [] h r = tt
-all_fit (s ∷ ss) h r = let p = both (reaches s) (all_reach ss) r in (held_fits s h.0 p.0, all_fit ss h.1 p.1)
+all_fit (s ∷ ss) h r = let p = and_parts (reaches s) (all_reach ss) r in (held_fits s h.0 p.0, all_fit ss h.1 p.1)
 
 in_below : (ks : List ℕ) (k : ℕ) → In ks k → AllBelow 64 ks → k < 64
 in_below [] k h b = absurd h

@@ -1,9 +1,9 @@
 -- The literals and selectors that resolved nodes name stand at their places.
-use Rattle.std.proofs.Common.{◌≡◌, ◌≢◌, ℕ, zero, suc, ◌+◌, ◌-◌, ◌≤◌, ◌==◌, Bool, true, false, not, ◌&&◌, List, [], ◌∷◌, length, Option, Some, None, refl, sym, ap, ◌∙◌, subst, arith}
+use Rattle.std.proofs.Common.{◌≡◌, ◌≢◌, ℕ, ◌+◌, ◌-◌, ◌≤◌, ◌==◌, Bool, true, false, not, ◌&&◌, List, [], ◌∷◌, length, Option, Some, None, refl, sym, ap, ◌∙◌, subst, arith}
 use Rattle.std.proofs.lemmas.Bool.Decides.{nat_tests}
-use Rattle.std.specs.Prelude.{if◌then◌else◌, slice_get, map}
+use Rattle.std.specs.Prelude.{if◌then◌else◌, slice_get}
 use Rattle.st_scan.specs.declared.token.Signed.{Signed}
-use Rattle.st_scan.specs.Views.{is_super, NameView, ContentView, ExpressionView, StatementsView, MessagesView, ExpressionsView}
+use Rattle.st_scan.specs.Views.{is_super, ContentView, ExpressionView, StatementsView, MessagesView, ExpressionsView}
 use Rattle.st_scan.specs.Views as views
 use Rattle.st_emit.specs.declared.step.Constant.{Constant}
 use Rattle.st_emit.specs.declared.step.Place.{Place}
@@ -17,23 +17,13 @@ use Rattle.st_emit.specs.Names.{Variable, temporary, field, shared, constant_nam
 use Rattle.st_emit.specs.Literals.{LiteralView, small_number, Naming, given, ◌>>=◌, named_literal, literal_of}
 use Rattle.st_emit.specs.Literals as lits
 use Rattle.st_emit.specs.Nodes as nodes
-use Rattle.st_emit.specs.Nodes.{Sending, Node, Body, Tail, Messages, Nodes, body_of, with_tail, count}
+use Rattle.st_emit.specs.Nodes.{Sending, Node, Body, Tail, Nodes, body_of, with_tail, count}
 use Rattle.st_emit.specs.Resolving.{place_named, constant_or, literal_node, small_or, content_node, special_selector, special_selectors, special_code, code_at, first_special, block_copy, by_code, by_literal, sending, Message, all_nodes, message_nodes, plain_tail, formed, form_named, no_message, single_tail, sends_tail, tailed, before, Context, behind, inside, names_in, names_in_all, place_of_name, assign_tail, count_node, is_plain, expression_node, statements_body, messages_of, nodes_of}
-use Rattle.st_emit.specs.Selectors.{special_sends, arity}
-use Rattle.st_emit.proofs.SpecialSelectors.{special-arguments}
+use Rattle.st_emit.proofs.SpecialSelectors.{special_there}
 use Rattle.st_resolved.specs.Right.{IsRight, arguments_count, RightExpression, RightStatements, RightMessages, RightAll}
 use Rattle.st_resolved.proofs.Grows.{Extends, extends_on, Grows, AllGrow, MessagesGrow, grows_given, grows_then, grows_end, grows_all, grows_sending, grows_messages, grows_place, grows_sends, statements_grow, messages_grow}
 use Rattle.st_resolved.proofs.Places.{named_found}
-use Rattle.st_resolved.specs.Placed.{IsVariable, IsCount, IsFound, IsSpecial, IsSent, Placed, BodyPlaced, MessagesPlaced, NodesPlaced}
-
--- a special selector stands at its place
-get_first : (ss : List (List ℕ × ℕ)) (k n : ℕ) (text : List ℕ) → slice_get ss k ≡ Some (text, n) → slice_get (map (λ s. s.0) ss) k ≡ Some text
-get_first [] k n text e = absurd cc
-get_first (s ∷ ss) zero n text e = let is : s.0 ≡ text = cc in ap Some is
-get_first (s ∷ ss) (suc k) n text e = get_first ss k n text e
-
-special_there : (text : List ℕ) (k : ℕ) → special_selector text ≡ Some k → slice_get special_selectors k ≡ Some text
-special_there text k e = get_first special_sends k (arity text) text (special-arguments text k e)
+use Rattle.st_resolved.specs.Placed.{IsVariable, IsCount, IsFound, IsSent, Placed, BodyPlaced, MessagesPlaced, NodesPlaced}
 
 -- a number from -1 to 2, by one more
 small_by : (a m b c d : Bool) (k : ℕ) → (if a then Some 1 else (if m then (if b then Some 0 else None) else (if c then Some 2 else (if d then Some 3 else None)))) ≡ Some k → k ≤ 3

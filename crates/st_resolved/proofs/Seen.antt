@@ -7,24 +7,24 @@ use Rattle.st_scan.specs.Views.{is_super, NameView, ContentView, ExpressionView,
 use Rattle.st_scan.specs.Views as views
 use Rattle.st_emit.specs.declared.step.Constant.{Constant}
 use Rattle.st_emit.specs.declared.step.Place.{Place}
-use Rattle.st_emit.specs.declared.step.Place.TheVariants.{Field, Temporary, Literal, Shared}
+use Rattle.st_emit.specs.declared.step.Place.TheVariants.{Field, Temporary, Shared}
 use Rattle.st_emit.specs.declared.form.TwoSided.TheVariants.{TrueFirst, FalseFirst}
 use Rattle.st_emit.specs.declared.form.Form.{Form}
 use Rattle.st_emit.specs.declared.form.Form.TheVariants.{Message as Plain, One, Two, Repeated}
 use Rattle.st_emit.specs.Names.{NamesView, Scope, Declared, Variable, temporary, field, shared, constant_named, declared_as, field_named, shared_named, variable_named, own_variable, or_else, numbered, declared}
-use Rattle.st_emit.specs.Literals.{LiteralView, Named, small_number, Naming, given, ◌>>=◌, named_literal, literal_of}
+use Rattle.st_emit.specs.Literals.{LiteralView, small_number, Naming, given, ◌>>=◌, named_literal, literal_of}
 use Rattle.st_emit.specs.Literals as lits
 use Rattle.st_emit.specs.Nodes as nodes
 use Rattle.st_emit.specs.Nodes.{Sending, Node, Body, Tail, Messages, Nodes, body_of, with_tail}
 use Rattle.st_emit.specs.Resolving.{place_named, constant_or, literal_node, small_or, content_node, sending, Message, all_nodes, message_nodes, plain_tail, formed, form_named, no_message, single_tail, sends_tail, tailed, before, Context, behind, inside, names_in, names_in_all, names_in_statements, names_in_messages, place_of_name, assign_tail, count_node, is_plain, all_plain, expression_node, statements_body, messages_of, nodes_of}
 use Rattle.st_emit.proofs.Forms.{inside_is}
-use Rattle.st_code.specs.declared.fault.Fault.{Fault}
 use Rattle.st_code.specs.declared.fault.Cause.TheVariants.{Unknown, Store}
 use Rattle.st_code.specs.Faults.{fault_at, read_fault, store_fault, stored_fault, content_fault, expression_fault, statements_fault, messages_fault, expressions_fault, declare_fault}
 use Rattle.st_resolved.proofs.Grows.{Grows, AllGrow, MessagesGrow, grows_then, grows_end, grows_all, grows_sending, grows_messages, grows_place, grows_sends, statements_grow, messages_grow}
 use Rattle.st_resolved.proofs.Placing.{Puts, puts_given, puts_then, puts_end, puts_literal}
-use Rattle.st_resolved.specs.Seen.{In, range, AllBelow, numbers, unnumbered, assigns, IsScope, IsField, IsShared, IsWritten, SeenPlace, StoredPlace, Fresh, Seen, BodySeen, MessagesSeen, NodesSeen}
+use Rattle.st_resolved.specs.Seen.{In, range, AllBelow, numbers, unnumbered, assigns, IsScope, SeenPlace, StoredPlace, Fresh, Seen, BodySeen, MessagesSeen, NodesSeen}
 use Rattle.st_resolved.proofs.Unnumbered.{or_none, read_alike, store_alike, more_names}
+use Rattle.std.proofs.lemmas.Bool.{and_right}
 
 -- NUMBERS
 
@@ -50,10 +50,6 @@ below_range first (suc n) =
     let more : first + 1 + n ≡ first + suc n = omega arith in
     (omega arith, subst (λ (k : ℕ). AllBelow k (range (first + 1) n)) more (below_range (first + 1) n))
 
-and_none : (a b : Bool) → b ≡ false → (a && b) ≡ false
-and_none true b e = e
-and_none false b e = refl
-
 -- the temporaries are those from one number to another
 module _ (from to : ℕ) where
   pub scope_more : (a b : Scope) → IsScope from to a → IsScope from to b → IsScope from to (a ++ b)
@@ -65,7 +61,7 @@ module _ (from to : ℕ) where
   late_scope (x ∷ ns) k h = (sym (late k h), late_scope ns (k + 1) (omega (arith, h)))
     where
       late : (k : ℕ) → to ≤ k → assigns from to k ≡ false
-      late k h = let e : nat_lt k to ≡ false = grind (arith, nat_tests, h) in and_none (not (nat_lt k from)) (nat_lt k to) e
+      late k h = let e : nat_lt k to ≡ false = grind (arith, nat_tests, h) in and_right (not (nat_lt k from)) (nat_lt k to) e
 
   module _ (names : NamesView) (final : List LiteralView) where
     -- VARIABLES AND LITERALS

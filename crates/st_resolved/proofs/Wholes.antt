@@ -20,7 +20,7 @@ use Rattle.st_resolved.proofs.Unnumbered.{or_none, unnumbered-append, unnumbered
 use Rattle.st_resolved.proofs.Seen.{numbers-append, numbers-range, below_more, below_both, below_range, scope_more, statements_seen}
 use Rattle.st_resolved.proofs.Fitting.{all_fit, method_held}
 
-not_more : (m n : ℕ) → nat_lt m n ≡ false → n ≤ m
+pub not_more : (m n : ℕ) → nat_lt m n ≡ false → n ≤ m
 not_more m n e = grind (arith, nat_tests)
 
 no_fault_if : (b : Bool) (x : Cause) → fault_if b x ≡ None → b ≡ false

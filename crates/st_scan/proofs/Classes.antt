@@ -5,11 +5,11 @@ use Rattle.std.specs.List.{list_all}
 use Rattle.std.specs.Int.{is_in_range}
 use Rattle.std.specs.Char.{is_ascii_digit, is_ascii_alphabetic, is_ascii_alphanumeric}
 use Rattle.std.specs.Str.{byte}
-use Rattle.std.proofs.lemmas.Bool.{leb-true, lt-leb, eqb-true, ne_eqb, and_parts, or_cases, not-true, both_ways}
+use Rattle.std.proofs.lemmas.Bool.{leb-true, lt-leb, eqb-true, ne_eqb, and_parts, or_cases, not-true, both_ways, or_from, or_left}
 use Rattle.st_scan.specs.Bytes.{is_blank, is_among, operator_bytes, begins_operator, mark_bytes, is_mark}
 use Rattle.st_scan.specs.Faults.{begins_piece}
 
-in_range : (low high b : ℕ) → is_in_range low high b ≡ true → (low ≤ b) × (b ≤ high)
+pub in_range : (low high b : ℕ) → is_in_range low high b ≡ true → (low ≤ b) × (b ≤ high)
 in_range low high b e =
     let parts = and_parts (leb low b) (leb b high) e in
     (leb-true low b parts.0, leb-true b high parts.1)
@@ -26,16 +26,13 @@ letter-high b e = elim (or_cases (is_in_range 65 90 b) (is_in_range 97 122 b) e)
 pub letter-no_equals : (b : ℕ) → is_ascii_alphabetic b ≡ true → eqb b (byte "=") ≡ false
 letter-no_equals b e = let high = letter-high b e in ne_eqb b 61 (λ s. omega arith)
 
-or_first : (x y : Bool) → x ≡ true → (x || y) ≡ true
-or_first x y e = rw e refl
-
 pub or_second : (x y : Bool) → y ≡ true → (x || y) ≡ true
 or_second true y e = refl
 or_second false y e = e
 
 pub letter-alphanumeric : (b : ℕ) → is_ascii_alphabetic b ≡ true → is_ascii_alphanumeric b ≡ true
 letter-alphanumeric b e = elim (or_cases (is_in_range 65 90 b) (is_in_range 97 122 b) e) [
-  | inl u ↦ or_first (is_in_range 48 57 b || is_in_range 65 90 b) (is_in_range 97 122 b) (or_second (is_in_range 48 57 b) (is_in_range 65 90 b) u)
+  | inl u ↦ or_left (is_in_range 48 57 b || is_in_range 65 90 b) (is_in_range 97 122 b) (or_second (is_in_range 48 57 b) (is_in_range 65 90 b) u)
   | inr l ↦ or_second (is_in_range 48 57 b || is_in_range 65 90 b) (is_in_range 97 122 b) l
 ]
 
@@ -102,18 +99,15 @@ pub neither : (x y : Bool) → (x || y) ≡ false → (x ≡ false) × (y ≡ fa
 neither true y e = absurd cc
 neither false y e = (refl, e)
 
-both_false : (x y : Bool) → x ≡ false → y ≡ false → (x || y) ≡ false
-both_false x y e f = rw e f
-
 pub no_piece : (b : ℕ) → is_blank b ≡ false → eqb b (byte "\"") ≡ false → is_ascii_alphabetic b ≡ false → is_ascii_digit b ≡ false → begins_operator b ≡ false → is_mark b ≡ false
     → eqb b (byte "$") ≡ false → eqb b (byte "'") ≡ false → eqb b (byte "#") ≡ false → begins_piece b ≡ false
 no_piece b no_blank no_comment no_letter no_digit no_operator no_mark no_character no_string no_hash =
     let letters = neither (is_in_range 65 90 b) (is_in_range 97 122 b) no_letter in
-    let alphanumeric = both_false (is_in_range 48 57 b || is_in_range 65 90 b) (is_in_range 97 122 b) (both_false (is_in_range 48 57 b) (is_in_range 65 90 b) no_digit letters.0) letters.1 in
-    let one = both_false (is_blank b) (is_ascii_alphanumeric b) no_blank alphanumeric in
-    let two = both_false (is_blank b || is_ascii_alphanumeric b) (begins_operator b) one no_operator in
-    let three = both_false (is_blank b || is_ascii_alphanumeric b || begins_operator b) (is_mark b) two no_mark in
-    both_false (is_blank b || is_ascii_alphanumeric b || begins_operator b || is_mark b) (is_among (codes "\"'$#") b) three (rw (no_comment, no_string, no_character, no_hash) refl)
+    let alphanumeric = or_from (is_in_range 48 57 b || is_in_range 65 90 b) (is_in_range 97 122 b) (or_from (is_in_range 48 57 b) (is_in_range 65 90 b) no_digit letters.0) letters.1 in
+    let one = or_from (is_blank b) (is_ascii_alphanumeric b) no_blank alphanumeric in
+    let two = or_from (is_blank b || is_ascii_alphanumeric b) (begins_operator b) one no_operator in
+    let three = or_from (is_blank b || is_ascii_alphanumeric b || begins_operator b) (is_mark b) two no_mark in
+    or_from (is_blank b || is_ascii_alphanumeric b || begins_operator b || is_mark b) (is_among (codes "\"'$#") b) three (rw (no_comment, no_string, no_character, no_hash) refl)
 
 -- a byte that is not among some is none of them
 none_of : (c b : ℕ) (cs : List ℕ) → is_among cs b ≡ false → is_among cs c ≡ true → eqb b c ≡ false

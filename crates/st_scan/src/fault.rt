@@ -4,7 +4,7 @@ ghost use Rattle.std.specs.Prelude.{◌≡◌, Some};
 ghost use Rattle.st_scan.specs.declared.fault.SyntaxFault.TheVariants.{At, OutOfMemory};
 ghost use Rattle.st_scan.specs.TreeFaults.{cause_number, fault_text};
 
-use std::alloc::{AllocError, AllocFailed};
+use std::alloc::AllocError;
 use std::error::Error;
 use std::fmt;
 
@@ -79,14 +79,6 @@ impl From<AllocError> for SyntaxFault {
     ghost from_gives = { λ _ e. e ≡ OutOfMemory };
 
     fn from(_e: AllocError) -> SyntaxFault {
-        SyntaxFault::OutOfMemory
-    }
-}
-
-impl<T: Drop> From<AllocFailed<T>> for SyntaxFault {
-    ghost from_gives = { λ _ e. e ≡ OutOfMemory };
-
-    fn from(_e: AllocFailed<T>) -> SyntaxFault {
         SyntaxFault::OutOfMemory
     }
 }

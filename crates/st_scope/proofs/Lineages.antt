@@ -15,11 +15,11 @@ use Rattle.st_model.proofs.Runs.{run-then, after-went, after-died}
 use Rattle.st_scope.specs.Classes.{superclass, class_and, none_if, until_nil, chain_within, chain}
 use Rattle.st_scope.specs.Meanings.{values}
 
-nil_if : (w : ℕ) (b : Bool) → (w % 2 == 1) ≡ b → w ≡ 2 → same_value (if b then Small (w / 2) else Ref (w / 2)) (Ref 1) ≡ true
+pub nil_if : (w : ℕ) (b : Bool) → (w % 2 == 1) ≡ b → w ≡ 2 → same_value (if b then Small (w / 2) else Ref (w / 2)) (Ref 1) ≡ true
 nil_if w true e q = let z : w % 2 ≡ 1 = grind (arith, nat_tests) in absurd (omega (arith, z, q))
 nil_if w false e q = let z : w / 2 ≡ 1 = omega (arith, q) in rw z refl
 
-other_if : (w : ℕ) (b : Bool) → (w % 2 == 1) ≡ b → w ≢ 2 → same_value (if b then Small (w / 2) else Ref (w / 2)) (Ref 1) ≡ false
+pub other_if : (w : ℕ) (b : Bool) → (w % 2 == 1) ≡ b → w ≢ 2 → same_value (if b then Small (w / 2) else Ref (w / 2)) (Ref 1) ≡ false
 other_if w true e q = refl
 other_if w false e q = let z : w % 2 ≢ 1 = grind (arith, nat_tests) in let n : w / 2 ≢ 1 = λ h. q (omega (arith, z, h)) in grind (arith, nat_tests)
 
@@ -41,7 +41,7 @@ behind passed x = after x (λ classes s. Went (passed ++ classes) s)
 pub record LeftChain (least : ℕ) (first : Value) (left : ℕ) (class : Value) (passed : List Value) (t : Table) : Type 0 where
   pub same : (s : State Table) → s.memory ≡ t → (chain table least first).run s ≡ behind passed ((chain_within table least left class).run s)
 
-behind_none : (x : Transition (State Table) (List Value)) → x ≡ behind [] x
+pub behind_none : (x : Transition (State Table) (List Value)) → x ≡ behind [] x
 unfolding after
 behind_none (Died k) = refl
 behind_none (Went classes s) = refl

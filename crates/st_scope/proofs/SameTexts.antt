@@ -1,26 +1,15 @@
 -- Bytes of an object compared with a text, one after the other.
-use Rattle.std.proofs.Common.{◌≡◌, ◌≢◌, ℕ, zero, suc, ◌+◌, ◌-◌, ◌≤◌, ◌<◌, List, [], ◌∷◌, ◌++◌, length, take, true, false, Some, refl, ap, ◌∙◌, sym, subst, arith}
+use Rattle.std.proofs.Common.{◌≡◌, ◌≢◌, ℕ, zero, suc, ◌+◌, ◌-◌, ◌≤◌, ◌<◌, List, [], ◌∷◌, ◌++◌, length, take, true, Some, refl, ap, ◌∙◌, sym, subst, arith}
 use Rattle.std.specs.Prelude.{slice_get, slice_index_or}
 use Rattle.std.proofs.lemmas.List.{take_all}
 use Rattle.std.proofs.lemmas.Option.{slice_get-get_or}
 use Rattle.st_model.specs.declared.kind.Kind.{Kind}
 use Rattle.st_model.specs.declared.kind.Kind.TheVariants as kind
 use Rattle.st_model.specs.Values.{Value}
-use Rattle.st_model.specs.Objects.{is_pointers, is_bytes, holds_fields, first_unit, size_of}
+use Rattle.st_model.specs.Objects.{is_bytes, first_unit, size_of}
 use Rattle.st_model.specs.View.{View, IsWhole, is_live, object_of}
 use Rattle.st_memory.proofs.Bodies.{no_fields}
-
-fields_not : (k : Kind) → is_bytes k ≡ true → holds_fields k ≡ false
-fields_not kind.Pointers e = cc
-fields_not kind.Words e = cc
-fields_not kind.Bytes e = refl
-fields_not kind.Method e = cc
-
-pointers_not : (k : Kind) → is_bytes k ≡ true → is_pointers k ≡ false
-pointers_not kind.Pointers e = cc
-pointers_not kind.Words e = refl
-pointers_not kind.Bytes e = refl
-pointers_not kind.Method e = refl
+use Rattle.st_model.proofs.KindTests.{text_fields, text_pointers}
 
 one_more : (us ts : List ℕ) (i b : ℕ) → slice_get us i ≡ Some b → slice_get ts i ≡ Some b → take i us ≡ take i ts → take (suc i) us ≡ take (suc i) ts
 one_more [] ts i b e f same = cc
@@ -33,10 +22,10 @@ other_byte us ts i a b e f differ same = let q : Some a ≡ Some b = sym e ∙ (
 
 module _ {v : View} (whole : IsWhole v) (x : Value) (live : is_live v.objects x ≡ true) (kind : is_bytes (object_of v.objects x).kind ≡ true) where
   first_none : first_unit (object_of v.objects x) ≡ 0
-  first_none = let f = no_fields x whole live (fields_not (object_of v.objects x).kind kind) in omega (arith, f)
+  first_none = let f = no_fields x whole live (text_fields (object_of v.objects x).kind kind) in omega (arith, f)
 
   size_is : size_of (object_of v.objects x) ≡ length (object_of v.objects x).units
-  size_is = rw (pointers_not (object_of v.objects x).kind kind) (let f = first_none in omega (arith, f))
+  size_is = rw (text_pointers (object_of v.objects x).kind kind) (let f = first_none in omega (arith, f))
 
   byte_is : (i b : ℕ) → slice_get (object_of v.objects x).units (i - first_unit (object_of v.objects x)) ≡ Some b → slice_get (object_of v.objects x).units i ≡ Some b
   byte_is i b e = let f = first_none in let z : i ≡ i - first_unit (object_of v.objects x) = omega (arith, f) in ap (slice_get (object_of v.objects x).units) z ∙ e

@@ -26,17 +26,12 @@ use Rattle.st_scope.specs.Variables.{association_in}
 use Rattle.st_scope.specs.Meanings.{values}
 use Rattle.st_scope.specs.Texts.{found}
 use Rattle.st_scope.specs.Sought.{is_among, shared_at, was_sought, NotesShared, NotesSought, Notes, AreSought}
+use Rattle.st_emit.proofs.NamePlaces.{same_text, decides}
 
 -- NOTES
 
-same_text : (a b : List ℕ) → bytes_eq a b ≡ true → a ≡ b
-same_text a b h = (bytes_decides a b).0 h
-
 abbrev by_items : Vec ℕ → Vec ℕ → Ordering
 by_items x y = slice_cmp nat_cmp x.items y.items
-
-decides : (a b : Vec ℕ) → is_eq (by_items a b) ≡ bytes_eq a.items b.items
-decides a b = is_eq-slice_cmp a.items b.items
 
 pub shared_noted : (m n : BTreeMap (Vec ℕ) Oop) (k : Vec ℕ) (association : Oop) (text : List ℕ) → k.items ≡ text → UpdatesBy by_items (by_items k) m n (Some association) → NotesShared text (Some association) m.entries n.entries
 shared_noted m n k association text e updates t =

@@ -1,8 +1,7 @@
 -- A session over a store, from the opening of the store to the last line.
-use Rattle.std.proofs.Common.{◌≡◌, ◌≢◌, ◌⊎◌, inl, inr, ℕ, ◌≤◌, List, [], ◌∷◌, ◌++◌, length, ◌∙◌, IsTrue, refl, sym, ap, subst, arith, append-nil, append_assoc, length-append}
+use Rattle.std.proofs.Common.{◌≡◌, ◌≢◌, ◌⊎◌, inl, inr, ℕ, ◌≤◌, List, [], ◌∷◌, ◌++◌, length, ◌∙◌, IsTrue, refl, sym, ap, subst, arith, append-nil, append_assoc}
 use Rattle.std.specs.Prelude.{Some, ◌+◌, slice_get}
 use Rattle.std.proofs.lemmas.List.{append_cancel_left}
-use Rattle.std.proofs.Math.Seq.{take-append_seam}
 use Rattle.st_host.specs.Counts.{Rose}
 use Rattle.st_host.specs.Files.{Files}
 use Rattle.st_host.specs.Runs.{LeavesOnly, NarrowsBut, Elsewhere, ReadsAlike, ReadsAndSays, Spares, IsAtRest}
@@ -20,7 +19,7 @@ use Rattle.st_store.specs.declared.root.Root.{Root}
 use Rattle.st_store.specs.declared.fault.StoreFault.TheVariants as unmade
 use Rattle.st_store.specs.declared.fault.StorePlace.TheVariants.{Roots, Changes}
 use Rattle.st_store.proofs.Determined.{none_opens, opens_there}
-use Rattle.st_changes.specs.Lists.{StandsAt, Lists, RefusesChanges}
+use Rattle.st_changes.specs.Lists.{Lists, RefusesChanges}
 use Rattle.st_changes.proofs.Determined.{none_wrong, lists_back}
 use Rattle.st_protocol.specs.declared.status.Status.{Status}
 use Rattle.st_protocol.specs.declared.status.Status.TheVariants as status
@@ -37,7 +36,7 @@ use Rattle.st_recover.specs.Commits.{Commit, OpensAs, all_of, stored_of}
 use Rattle.st_recover.specs.Openings.{IsFaulty, IsReopenedAs, Reopens, RefusesOpening, IsOfReopening, OpeningHasCause}
 use Rattle.st_recover.specs.Replays.{Loss, Replayed, replay}
 use Rattle.st_store.proofs.Determined.{one_stored}
-use Rattle.st_recover.proofs.Determined.{opens_as_read}
+use Rattle.st_recover.proofs.Determined.{opens_as_read, stands}
 use Rattle.st_recover.specs.declared.opened.Opened.{Opened}
 use Rattle.st_recover.specs.declared.fault.OpenFault.{OpenFault}
 use Rattle.st_recover.specs.declared.fault.OpenFault.TheVariants as opening
@@ -335,13 +334,6 @@ kind_refused told name f opening.Disk h why = tt
 kind_refused told name f opening.OutOfMemory h why = tt
 
 -- COMPLETENESS
-
-stands : (c : Commit) → StandsAt (all_of c) (length (entries c.before))
-stands c = record {
-  count = length c.before;
-  within = omega (arith, length-append c.before c.definitions);
-  is = ap (λ ds. length (entries ds)) (sym (take-append_seam c.before c.definitions));
-}
 
 module _ (name : List ℕ) (f : Files) (c : Commit) (opens : OpensAs name c f) where
   stored_is : (x : Stored) → Opens name x f → x ≡ stored_of opens.slot c

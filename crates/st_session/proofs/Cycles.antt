@@ -1,5 +1,5 @@
 -- What a run of the code says, and where it stops, is what the book's machine does.
-use Rattle.std.proofs.Common.{◌≡◌, ℕ, zero, suc, ◌+◌, ◌-◌, List, [], ◌∷◌, ◌++◌, Bool, true, false, Option, Some, None, refl, sym, ap, subst, ◌∙◌, append-nil, append_assoc, arith}
+use Rattle.std.proofs.Common.{◌≡◌, ℕ, zero, suc, ◌+◌, ◌-◌, List, [], ◌∷◌, ◌++◌, Option, Some, None, refl, sym, ap, subst, ◌∙◌, append-nil, append_assoc, arith}
 use Rattle.std.specs.Prelude.{Result, Ok, Err, IfOk, if◌then◌else◌}
 use Rattle.st_model.specs.declared.dead.Dead.{Dead}
 use Rattle.st_model.specs.declared.demand.Demand.{Demand}
@@ -27,6 +27,7 @@ use Rattle.st_session.specs.Points.{Being, Alive, Gone}
 use Rattle.st_session.specs.Runs.{end_text}
 use Rattle.st_session.specs.Standing.{IsBeing}
 use Rattle.st_session.specs.Stretches.{Stretch, words_of, saying, over, asking, cycle_stretch, stretch, StopsAs, went, PushesStretch}
+use Rattle.st_model.proofs.BirthLemmas.{pointer_of-borne}
 
 -- what follows where so many cycles are finished, so many are left, and the machine has come to this
 abbrev stretch_at : ℕ → ℕ → Transition (State Births) Ending → Stretch
@@ -91,21 +92,12 @@ born_kept [] n p e = cc
 born_kept (b ∷ h) zero p e = (b.object, refl)
 born_kept (b ∷ h) (suc n) p e = born_kept h n p e
 
-kept_is : (kept : Bool) (q p : ℕ) → (if kept then Some q else None) ≡ Some p → q ≡ p
-kept_is true q p e = cc
-kept_is false q p e = cc
-
-borne_is : (h : Births) (n p : ℕ) → borne h n ≡ Some p → pointer_of h n ≡ p
-borne_is [] n p e = cc
-borne_is (b ∷ h) zero p e = kept_is b.kept b.pointer p e
-borne_is (b ∷ h) (suc n) p e = borne_is h n p e
-
 pub value_said : (c : State Table) (s : State Births) (v : Value) → Shows c s → IsLive (IsKept s.memory) v → said_value s.memory v ≡ said_in c.memory (renamed (pointer_of s.memory) v)
 value_said c s (Small n) w live = refl
 value_said c s (Ref n) w live =
     let o = born_kept s.memory n live.0 live.1 in
     let shown = w.objects n live.0 o.0 live.1 o.1 in
-    rw (borne_is s.memory n live.0 live.1, shown, o.1) refl
+    rw (pointer_of-borne s.memory n live.0 live.1, shown, o.1) refl
 
 -- how a run ended, and what the stretch is there
 

@@ -1,6 +1,6 @@
 -- How a session ends.
 use Rattle.std.proofs.Common.{◌≡◌, ◌⊎◌, inl, inr, ⊎_elim, ℕ, suc, List, [], ◌∷◌, ◌++◌, Bool, true, false, IsTrue, refl, sym, ap, subst, ◌∙◌}
-use Rattle.std.specs.Prelude.{Result, Ok, Err, IfErr, IsErrOf, nat_le, length, take, slice_get, Some}
+use Rattle.std.specs.Prelude.{Result, Ok, Err, IsErrOf, nat_le, length, take, slice_get, Some}
 use Rattle.st_host.specs.Files.{Files}
 use Rattle.st_host.specs.Runs.{SaysAll, IsAtRest}
 use Rattle.st_host.specs.declared.host.Host.{Ghosts}
@@ -11,7 +11,7 @@ use Rattle.st_protocol.specs.Acknowledged.{AcknowledgesEach}
 use Rattle.st_protocol.specs.Courses.{Deed, Reply, Keep, Course, Goes, Ends, deeds_of, said_of, commits_of, last_of, preceded, ended, IsEnd}
 use Rattle.st_protocol.specs.Done.{Did, RestsBetween, RestsWithin, Rests}
 use Rattle.st_protocol.specs.Obeying.{Obeys}
-use Rattle.st_protocol.specs.Statuses.{IsFault, StatusHasCause, EndHasCause}
+use Rattle.st_protocol.specs.Statuses.{IsFault, StatusHasCause}
 use Rattle.st_protocol.proofs.Courses.{deeds_preceded}
 use Rattle.st_protocol.proofs.Joins.{says_did, says_began, did_join, obeys_begun, obeys_says, obeys_spares}
 use Rattle.st_protocol.proofs.Promising.{rests_as_one, rests_last, obeys_promised, obeys_rests, obeys_lines}
@@ -26,7 +26,6 @@ use Rattle.st_session.specs.Sessions.{follow, follow_rest, follow_script, longes
 use Rattle.st_call.specs.Telling.{Tells}
 use Rattle.st_session.specs.Ends.{status_in, IsCalm, DidTold, SessionEnds}
 use Rattle.st_session.specs.Resting.{RestsBroken, RestsAcknowledged}
-use Rattle.st_call.specs.Telling.{IsOfServing}
 
 abbrev pub IsEnded : {C X : Type 0} → Course C X → Type 0
 IsEnded (Goes ds x) = ⊥
@@ -162,12 +161,3 @@ module _ {D : Type 0} (host : Ghosts D) {C : Type 0} (opens : C → Files → Ty
 
     pub complete_of : (name : List ℕ) (reads : Type 0) (e : Status) (old new : D) → SessionEnds host opens spared c name course so_far script left old new e → StatusHasCause host reads old new e → IsEnd course status.Done → IsCalm host reads old new → (e ≡ status.Done) ⊎ (e ≡ status.OutOfMemory)
     complete_of name reads e old new ends cause end calm = complete_at reads e old new (λ f. (ends.whole f).0) cause end calm
-
-pub cause_of : {D : Type 0} (host : Ghosts D) (reads : Type 0) (old new : D) (result : Result Unit Status) → EndHasCause host reads old new result → StatusHasCause host reads old new (status_in result)
-cause_of host reads old new (Ok u) h = tt
-cause_of host reads old new (Err e) h = h
-
--- what ends in a status of these, or hasn't ended
-pub served_in : (r : Result Unit Status) → IfErr r IsOfServing → IsOfServing (status_in r)
-served_in (Ok u) h = tt
-served_in (Err e) h = h

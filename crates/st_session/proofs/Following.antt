@@ -21,6 +21,7 @@ use Rattle.st_session.specs.Points.{Point}
 use Rattle.st_session.specs.Keeping.{Keeping}
 use Rattle.st_session.specs.Answers.{answer}
 use Rattle.st_session.specs.Sessions.{follow, follow_rest}
+use Rattle.st_chunk.proofs.Cases.{by_test}
 
 pub told_both : (r : Reading) (a b : List ℕ) → told_from r (a ++ b) ≡ told_from r a ++ told_from (read_through r a) b
 told_both r [] b = refl
@@ -33,10 +34,6 @@ read_both r (x ∷ a) b = read_both (read r x).0 a b
 pub asked_both : (r : Reading) (a b : List ℕ) → asked_from r (a ++ b) ≡ told_from r a ++ asked_from (read_through r a) b
 asked_both r [] b = refl
 asked_both r (x ∷ a) b = ap (λ l. asked_by (read r x) ++ l) (asked_both (read r x).0 a b) ∙ sym (append_assoc (asked_by (read r x)) (told_from (read r x).0 a) (asked_from (read_through (read r x).0 a) b))
-
-by_test : {P : Type 0} (t : Bool) → (t ≡ true → P) → (t ≡ false → P) → P
-by_test true passed failed = passed refl
-by_test false passed failed = failed refl
 
 same_tests : (a b c d : ℕ) → (a ≤ b → c ≤ d) → (c ≤ d → a ≤ b) → nat_le a b ≡ nat_le c d
 same_tests a b c d f g = by_test (nat_le a b)

@@ -21,6 +21,7 @@ pub mod Reported
 pub mod Responding
 pub mod Rows
 pub mod Saying
+pub mod Served
 pub mod Snapshots
 pub mod Sourced
 pub mod Sources

@@ -24,10 +24,11 @@ use Rattle.st_chunk.specs.Reading.{Place, Browsed, Defined, CutOff}
 use Rattle.st_chunk.specs.Scripts.{Asks, Browses, Defines, IsBrowsed, HasAsk, IsDefined, HasDefinition, asked_at}
 use Rattle.st_chunk.specs.Definitions.{Definition}
 use Rattle.st_protocol.specs.Courses.{Goes, replies}
+use Rattle.st_protocol.specs.Installing.{Install}
 use Rattle.st_session.specs.Points.{Point, alive, gone}
 use Rattle.st_session.specs.Keeping.{Keeping}
 use Rattle.st_call.specs.Replies.{ok_text, full_text}
-use Rattle.st_session.specs.Answers.{dead_line, event_course, named_course, living_line}
+use Rattle.st_session.specs.Answers.{dead_line, event_course, named_course, living_line, answer}
 use Rattle.st_session.specs.Browsing.{asked_text, memory_of}
 use Rattle.st_session.specs.Asking.{IsSaying}
 use Rattle.st_session.specs.Pushing.{PushesCourse}
@@ -117,6 +118,14 @@ pub dead_is : {C : Type 0} (cause : Dead) (k : C) (r : Request) → (r ≡ reque
 dead_is cause k request.End e w = absurd (e refl)
 dead_is cause k (request.Wrong line) e w = absurd (w line refl)
 dead_is cause k r e w = refl
+
+-- whatever a dead machine is asked for but to end, it answers so
+pub dead_asked : {C : Type 0} (keeping : Keeping C) (install : Install) (cause : Dead) (k : C) (place : Place) (r : Request) → (r ≡ request.End → ⊥) → ((line : ℕ) → r ≡ request.Wrong line → ⊥)
+    → answer keeping install (gone cause k) (asked_at place r) ≡ replies (dead_text 0 cause) (gone cause k)
+dead_asked keeping install cause k (Browsed ask) request.Browse e w = refl
+dead_asked keeping install cause k (Defined h s) request.Define e w = refl
+dead_asked keeping install cause k (CutOff h s) request.Define e w = refl
+dead_asked keeping install cause k place r e w = dead_is cause k r e w
 
 -- what isn't to be run up to is looked at
 pub look_is : {C : Type 0} (keeping : Keeping C) (s : State Births) (k : C) (a : DeclaredAsk) → ((n : ℕ) (x : _) (y : _) → a ≡ declared.Until n x y → ⊥)

@@ -1,5 +1,5 @@
 -- A machine stands at some point, and where it does.
-use Rattle.std.proofs.Common.{◌≡◌, ◌∙◌, ℕ, List, IsTrue, refl, sym, ap, subst}
+use Rattle.std.proofs.Common.{◌≡◌, ◌∙◌, ℕ, List, IsTrue, sym, ap, subst}
 use Rattle.std.specs.Prelude.{Some, None, Result}
 use Rattle.st_model.specs.declared.dead.Dead.{Dead}
 use Rattle.st_model.specs.Objects.{nil}
@@ -23,6 +23,7 @@ use Rattle.st_recover.specs.Commits.{Commit, OpensAs}
 use Rattle.st_session.specs.Points.{Being, Alive, Gone, Point}
 use Rattle.st_session.specs.Standing.{IsBeing, shown_by, IsAt}
 use Rattle.st_session.proofs.Holding.{holds_rest}
+use Rattle.st_recover.proofs.Restoring.{filled_empty}
 
 pub shown_births : {M : Type 0} (view : M → View) (m : Machine M) → IsWhole (view m.memory) → IsReady (view m.memory) m.frame m.world → (s : State Births) × Shows (shown_by view m) s
 shown_births view m whole ready = (raised (shown_by view m), raised_shown (shown_by view m) (is_closed (view m.memory) m.frame m.world whole ready))
@@ -64,11 +65,6 @@ module _ {M D : Type 0} (view : M → View) (host : Ghosts D) where
         over : (being : Being) → IsBeing m.death (shown_by view m) being → GoesAs a.name n b old new p.kept (course being p.kept) result
         over (Alive s) w = let none : Some cause ≡ None = sym dies ∙ w.0 in cc
         over (Gone x) w = subst (λ y. GoesAs a.name n b old new p.kept (course (Gone y) p.kept) result) (same cause x (sym dies ∙ w)) (f p.kept at.holds)
-
--- a memory that holds nothing but the registers is ready with a new world
-filled_empty : filled (empty_world nil).devices ≡ no_devices
-unfolding no_devices
-filled_empty = refl
 
 pub ready_new : (v : View) (f : Frame) (w : World) → IsFrame v f → v.held.devices ≡ no_devices → w ≡ empty_world nil → IsReady v f w
 ready_new v f w frame quiet new = record { frame = frame; devices = quiet ∙ (sym filled_empty ∙ ap (λ (x : World). filled x.devices) (sym new)) }

@@ -1,6 +1,6 @@
 -- The text that is defined as a method's last one is that of the last definition.
-use Rattle.std.proofs.Common.{◌≡◌, ℕ, zero, suc, Bool, true, false, true≢false, List, [], ◌∷◌, refl, sym, ap, ◌∙◌, arith}
-use Rattle.std.specs.Prelude.{◌&&◌, bytes_eq, Option, Some, None, MatchOption, Result, Ok, Err, All, if◌then◌else◌}
+use Rattle.std.proofs.Common.{◌≡◌, ℕ, Bool, true, false, true≢false, List, [], ◌∷◌, refl, sym, ap, ◌∙◌}
+use Rattle.std.specs.Prelude.{◌&&◌, bytes_eq, Option, Some, None, MatchOption, Result, Ok, Err, if◌then◌else◌}
 use Rattle.std.specs.Bool.{beq}
 use Rattle.std.specs.Cmp.{booleans_Decides}
 use Rattle.std.specs.Cmp.Lexicographic.{bytes_decides}
@@ -18,13 +18,8 @@ use Rattle.st_session.proofs.Written.{made_is}
 use Rattle.st_install.specs.Syntax.{IsSyntax, syntax}
 use Rattle.st_install.proofs.Syntaxes.{is, only}
 use Rattle.st_session.specs.Sources.{selector_of, is_named, is_of, or_earlier, last_text, kept_text, or_made, shown_text, text_for}
-
-none_of : (P : Definition → Type 0) → All P []
-none_of P k x less = absurd (omega (arith, less))
-
-one_more : (P : Definition → Type 0) (d : Definition) (ds : List Definition) → P d → All P ds → All P (d ∷ ds)
-one_more P d ds h all zero x less = h
-one_more P d ds h all (suc k) x less = all k x (omega (arith, less))
+use Rattle.st_changes.proofs.KeptLast.{all_cons}
+use Rattle.st_changes.proofs.Lasts.{none_of}
 
 -- THE SELECTOR
 
@@ -68,7 +63,7 @@ module _ (side : Side) (selector : List ℕ) where
 
   with_one : (d : Definition) (ds : List Definition) (o : Option (List ℕ)) (t : Bool) → is_of side selector d ≡ t → IsText ds o → IsText (d ∷ ds) (or_earlier o (if t then Some d.text else None))
   with_one d ds None true e h = record { before = []; last = d; behind = ds; is = refl; of = meets side selector d e; none = h; text_is = refl }
-  with_one d ds None false e h = one_more (λ x. IsOf side.class side.meta selector x → ⊥) d ds (fails side selector d e) h
+  with_one d ds None false e h = all_cons (λ x. IsOf side.class side.meta selector x → ⊥) d ds (fails side selector d e) h
   with_one d ds (Some text) t e h = record { before = d ∷ h.before; last = h.last; behind = h.behind; is = ap (λ (x : List Definition). d ∷ x) h.is; of = h.of; none = h.none; text_is = h.text_is }
 
   last_is : (ds : List Definition) → IsText ds (last_text side selector ds)

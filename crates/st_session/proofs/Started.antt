@@ -1,5 +1,5 @@
 -- What the reading of an image says of the file that its bytes come from.
-use Rattle.std.proofs.Common.{◌≡◌, ℕ, List, refl, sym, subst, ◌∙◌, arith}
+use Rattle.std.proofs.Common.{◌≡◌, ℕ, List, sym, subst, ◌∙◌, arith}
 use Rattle.std.specs.Prelude.{Result, Ok, Err, IfErr, IsErrAnd}
 use Rattle.st_host.specs.declared.host.Host.{Ghosts}
 use Rattle.st_model.specs.Image.{image_head}
@@ -19,6 +19,7 @@ use Rattle.st_call.specs.declared.image_refusal.ImageRefusal.TheVariants as refu
 use Rattle.st_call.specs.Refusals.{status_of, IsImageRefusal, RefusalHasCause, IsReadableOver, IsFaultyOver}
 use Rattle.st_session.specs.Imports.{ReadsAs, IsWrongImage}
 use Rattle.st_session.specs.Makings.{Contents, contents_in, IsUnread}
+use Rattle.st_image.proofs.Back.{own_head}
 
 -- FOR AN IMPORT
 
@@ -61,10 +62,6 @@ image_clash told over bytes c (status.Kernel chunk cause) t is why = why
 image_clash told over bytes c status.OutOfMemory t is why = why
 
 -- WITH ITS OWN HEAD
-
-own_head : (bytes : List ℕ) → head_over no_values bytes ≡ image_head bytes
-unfolding head_over
-own_head bytes = refl
 
 pub own_readable : (bytes : List ℕ) → IsReadableOver no_values bytes → IsReadable bytes
 own_readable bytes is = record { short = is.short; formed = subst (λ h. IsWellFormed h bytes) (own_head bytes) is.formed }

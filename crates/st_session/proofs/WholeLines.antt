@@ -25,12 +25,9 @@ use Rattle.st_install.proofs.Selectors.{IsInLine, both_in_line, all_passing}
 use Rattle.st_recover.specs.Replays.{Loss}
 use Rattle.st_call.specs.Replies.{machine_text, side_text, accepted_text, why_text, refused_text, snapshot_text}
 use Rattle.st_session.specs.FirstLines.{lost_text, opened_text, opening_text}
+use Rattle.st_chunk.proofs.WholeLines.{no_feed}
 
 -- LINES
-
-is_false : (t : Bool) → not t ≡ true → t ≡ false
-is_false true e = absurd (cc)
-is_false false e = refl
 
 pub put : (b : ℕ) (w : List ℕ) → (b == 10) ≡ false → IsInLine w → IsInLine (b ∷ w)
 put b w e h = and_from _ _ (ap not e) h
@@ -39,13 +36,13 @@ rest_of_line : (line w : List ℕ) → IsInLine w → rest_from line (w ++ 10 �
 rest_of_line line [] h = refl
 rest_of_line line (b ∷ w) h =
     let parts = and_parts _ _ h in
-    ap (λ t. if t then rest_from [] (w ++ 10 ∷ []) else rest_from (line ++ b ∷ []) (w ++ 10 ∷ [])) (is_false (b == 10) parts.0) ∙ rest_of_line (line ++ b ∷ []) w parts.1
+    ap (λ t. if t then rest_from [] (w ++ 10 ∷ []) else rest_from (line ++ b ∷ []) (w ++ 10 ∷ [])) (no_feed (b == 10) parts.0) ∙ rest_of_line (line ++ b ∷ []) w parts.1
 
 acknowledged_line : (line w : List ℕ) → IsInLine w → acknowledged_from line (w ++ 10 ∷ []) ≡ counts (line ++ w)
 acknowledged_line line [] h = (let e : counts line + 0 ≡ counts line = omega arith in e) ∙ ap counts (sym (append-nil line))
 acknowledged_line line (b ∷ w) h =
     let parts = and_parts _ _ h in
-    ap (λ t. if t then counts line + acknowledged_from [] (w ++ 10 ∷ []) else acknowledged_from (line ++ b ∷ []) (w ++ 10 ∷ [])) (is_false (b == 10) parts.0)
+    ap (λ t. if t then counts line + acknowledged_from [] (w ++ 10 ∷ []) else acknowledged_from (line ++ b ∷ []) (w ++ 10 ∷ [])) (no_feed (b == 10) parts.0)
     ∙ (acknowledged_line (line ++ b ∷ []) w parts.1 ∙ ap counts (append_assoc line (b ∷ []) w))
 
 -- a text is one line, of these bytes and its end

@@ -1,4 +1,4 @@
-ghost use Rattle.std.specs.Prelude.{◌≡◌, IfErr, IsErrOf, None, Some, OnOk};
+ghost use Rattle.std.specs.Prelude.{◌≡◌, None, Some};
 ghost use Rattle.st_host.specs.Telling.{Says};
 ghost use Rattle.st_model.specs.Machine.{State};
 ghost use Rattle.st_model.specs.Births.{Births, births};
@@ -8,18 +8,19 @@ ghost use Rattle.st_frames.specs.Shown.{IsReady};
 ghost use Rattle.st_input.specs.Coming.{HasPlace};
 ghost use Rattle.st_call.specs.Saying.{Pushes};
 ghost use Rattle.st_chunk.specs.Lines.{IsInRange};
-ghost use Rattle.st_protocol.specs.Statuses.{Counts};
-ghost use Rattle.st_protocol.specs.declared.status.Status.TheVariants.{OutOfMemory};
+ghost use Rattle.st_chunk.specs.Reading.{Place};
+ghost use Rattle.st_chunk.specs.Scripts.{asked_at};
+ghost use Rattle.st_install.specs.Defining.{installed};
 ghost use Rattle.st_recover.specs.Commits.{Commit};
-ghost use Rattle.st_session.specs.Answers.{event_course, line_course, living_line};
+ghost use Rattle.st_session.specs.Answers.{answer, event_course, line_course, living_line};
 ghost use Rattle.st_session.specs.Asking.{IsSaying};
-ghost use Rattle.st_call.specs.Telling.{IsOfServing};
 ghost use Rattle.st_session.specs.Keeping.{in_a_store};
 ghost use Rattle.st_session.specs.Pushing.{PushesCourse};
 ghost use Rattle.st_call.specs.Replies.{machine_text};
-ghost use Rattle.st_session.specs.Standing.{MayRun, MayGoOn, Follows, StandsAt, shown_by};
+ghost use Rattle.st_session.specs.Standing.{MayRun, MayGoOn, Serves, StandsAt, shown_by};
 
 use crate::debugging::say_stack;
+use crate::kept::Kept;
 use crate::saving::{run, snapshot};
 use crate::watch::Watch;
 use st_call::{Output, Reply, finish, push_held, push_input, push_registers, push_used, say_reply};
@@ -29,7 +30,6 @@ use st_machine::Machine;
 use st_memory::Memory;
 use st_model::{Dead, Event, InputFull};
 use st_protocol::Status;
-use st_recover::Archive;
 
 /// Has an event come, and adds whether it did.
 fn push_event<H: Host, M: Memory>(
@@ -104,99 +104,63 @@ fn push_answer<H: Host, M: Memory>(
 /// Says what a machine that isn't dead answers to a line that asks for lines alone.
 fn say_answer<H: Host, M: Memory>(
     host: &mut H,
-    machine: &mut Machine<M>,
-    archive: &Archive,
+    kept: &mut Kept<M>,
     request: Request,
 ) -> Result<(), Status>
-    requires go_on { MayGoOn M.view machine.old archive.now }
-    requires alive { machine.old.death ≡ None }
+    requires go_on { MayGoOn M.view kept.old }
+    requires alive { kept.old.machine.death ≡ None }
     requires range { IsInRange request }
     requires saying { IsSaying request }
-    ensures go_on { OnOk result (MayGoOn M.view machine.new archive.now) }
-    ensures follows { Follows M.view H.Host.own (λ p. line_course in_a_store p.being p.kept request)
-        machine.old archive.now host.old result machine.new archive.now host.new }
-    ensures counts { Counts H.Host.own ⊥ host.old host.new result }
-    ensures served { IfErr result IsOfServing }
-    ensures ample { IsErrOf result OutOfMemory → ⊥ }
+    ensures { Serves M.view H.Host.own (λ p. line_course in_a_store p.being p.kept request) ⊥
+        kept.old host.old result kept.new host.new }
 {
     let mut out = Output::new();
-    match push_answer(&mut out, host, machine, request) {
+    match push_answer(&mut out, host, &mut kept.machine, request) {
         Ok(()) => finish(out, host),
         Err(SayFault) => Err(Status::SayFault),
     }
 }
 
 /// Answers a line where the machine isn't dead.
-fn answer_living<H: Host, M: Memory>(
+pub(crate) fn answer_living<H: Host, M: Memory>(
     host: &mut H,
-    machine: &mut Machine<M>,
-    archive: &mut Archive,
+    kept: &mut Kept<M>,
     request: Request,
 ) -> Result<(), Status>
-    requires go_on { MayGoOn M.view machine.old archive.old }
-    requires alive { machine.old.death ≡ None }
+    requires go_on { MayGoOn M.view kept.old }
+    requires alive { kept.old.machine.death ≡ None }
     requires range { IsInRange request }
-    ensures go_on { OnOk result (MayGoOn M.view machine.new archive.new) }
-    ensures named { archive.new.name ≡ archive.old.name }
-    ensures follows { Follows M.view H.Host.own (λ p. line_course in_a_store p.being p.kept request)
-        machine.old archive.old host.old result machine.new archive.new host.new }
-    ensures counts { Counts H.Host.own ⊥ host.old host.new result }
-    ensures served { IfErr result IsOfServing }
-    ensures ample { IsErrOf result OutOfMemory → ⊥ }
+    ensures { Serves M.view H.Host.own (λ p. line_course in_a_store p.being p.kept request) ⊥
+        kept.old host.old result kept.new host.new }
 {
     match request {
         Request::End => Err(Status::Done),
         Request::Wrong(line) => Err(Status::Script { line }),
         Request::Browse | Request::Define => Ok(()),
-        Request::Run(cycles) => run(host, machine, archive, Watch::Nothing, cycles),
-        Request::Trace(cycles) => run(host, machine, archive, Watch::Bytecodes, cycles),
-        Request::Stack => say_stack(host, machine),
-        Request::Snapshot => snapshot(host, machine, archive, 0),
-        _ => say_answer(host, machine, archive, request),
+        Request::Run(cycles) => run(host, kept, Watch::Nothing, cycles),
+        Request::Trace(cycles) => run(host, kept, Watch::Bytecodes, cycles),
+        Request::Stack => say_stack(host, &kept.machine),
+        Request::Snapshot => snapshot(host, kept, 0),
+        _ => say_answer(host, kept, request),
     }
 }
 
-/// Answers a line where the machine is dead.
-fn answer_dead<H: Host, M: Memory>(
+/// Answers what is asked for where the machine is dead, wherever the reader stands.
+pub(crate) fn answer_dead<H: Host, M: Memory>(
     host: &mut H,
-    machine: &Machine<M>,
-    archive: &Archive,
+    kept: &Kept<M>,
     cause: Dead,
     request: Request,
 ) -> Result<(), Status>
-    requires dead { machine.now.death ≡ Some cause }
-    ensures follows { Follows M.view H.Host.own (λ p. line_course in_a_store p.being p.kept request)
-        machine.now archive.now host.old result machine.now archive.now host.new }
-    ensures counts { Counts H.Host.own ⊥ host.old host.new result }
-    ensures served { IfErr result IsOfServing }
-    ensures ample { IsErrOf result OutOfMemory → ⊥ }
+    requires go_on { MayGoOn M.view kept.now }
+    requires dead { kept.now.machine.death ≡ Some cause }
+    ensures { (place : Place) → Serves M.view H.Host.own
+        (λ p. answer in_a_store installed p (asked_at place request)) ⊥
+        kept.now host.old result kept.now host.new }
 {
     match request {
         Request::End => Err(Status::Done),
         Request::Wrong(line) => Err(Status::Script { line }),
         _ => say_reply(host, Reply::Died { finished: 0, cause }),
-    }
-}
-
-/// Answers a line.
-pub(crate) fn answer_line<H: Host, M: Memory>(
-    host: &mut H,
-    machine: &mut Machine<M>,
-    archive: &mut Archive,
-    request: Request,
-) -> Result<(), Status>
-    requires go_on { MayGoOn M.view machine.old archive.old }
-    requires range { IsInRange request }
-    ensures go_on { OnOk result (MayGoOn M.view machine.new archive.new) }
-    ensures named { archive.new.name ≡ archive.old.name }
-    ensures follows { Follows M.view H.Host.own (λ p. line_course in_a_store p.being p.kept request)
-        machine.old archive.old host.old result machine.new archive.new host.new }
-    ensures counts { Counts H.Host.own ⊥ host.old host.new result }
-    ensures served { IfErr result IsOfServing }
-    ensures ample { IsErrOf result OutOfMemory → ⊥ }
-{
-    match machine.death() {
-        Some(cause) => answer_dead(host, machine, archive, cause, request),
-        None => answer_living(host, machine, archive, request),
     }
 }

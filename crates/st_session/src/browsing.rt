@@ -1,25 +1,21 @@
-ghost use Rattle.std.specs.Prelude.{◌≡◌, IfErr, IsErrOf, None, OnOk};
+ghost use Rattle.std.specs.Prelude.{◌≡◌, None};
 ghost use Rattle.st_chunk.specs.Asks.{Source, ask_of, side_of};
-ghost use Rattle.st_protocol.specs.Statuses.{Counts};
-ghost use Rattle.st_protocol.specs.declared.status.Status.TheVariants.{OutOfMemory};
 ghost use Rattle.st_session.specs.Answers.{browse_course};
 ghost use Rattle.st_session.specs.Browsing.{asked_text, TellsOrStarves};
 ghost use Rattle.st_session.specs.Sources.{kept_text, shown_text};
-ghost use Rattle.st_call.specs.Telling.{IsOfServing};
 ghost use Rattle.st_session.specs.Keeping.{in_a_store};
-ghost use Rattle.st_session.specs.Standing.{MayGoOn, Follows};
+ghost use Rattle.st_session.specs.Standing.{MayGoOn, Serves};
 ghost use Rattle.st_call.specs.Telling.{Tells};
 
 use crate::debugging::run_until;
+use crate::kept::Kept;
 use st_browse::{SourceFault, browse_line, source_line};
 use st_call::{Reply, say_reply};
 use st_changes::Changes;
 use st_chunk::{Ask, Side};
 use st_host::{Host, SayFault};
-use st_machine::Machine;
 use st_memory::Memory;
 use st_protocol::Status;
-use st_recover::Archive;
 use std::alloc::Global;
 
 /// Says what a memory shows of what is asked for, and these definitions of a method's text, or that it is missing.
@@ -63,60 +59,28 @@ fn say_source<H: Host, M: Memory>(
 }
 
 /// Answers a line that names what it asks for, where the machine isn't dead.
-fn answer_named<H: Host, M: Memory>(
+pub(crate) fn answer_named<H: Host, M: Memory>(
     alloc: Global,
     host: &mut H,
-    machine: &mut Machine<M>,
-    archive: &mut Archive,
+    kept: &mut Kept<M>,
     ask: Ask<'_>,
 ) -> Result<(), Status>
-    requires go_on { MayGoOn M.view machine.old archive.old }
-    requires alive { machine.old.death ≡ None }
-    ensures go_on { OnOk result (MayGoOn M.view machine.new archive.new) }
-    ensures named { archive.new.name ≡ archive.old.name }
-    ensures follows { Follows M.view H.Host.own
-        (λ p. browse_course in_a_store p.being p.kept (ask_of ask.entry))
-        machine.old archive.old host.old result machine.new archive.new host.new }
-    ensures counts { Counts H.Host.own ⊥ host.old host.new result }
-    ensures served { IfErr result IsOfServing }
-    ensures starved { IsErrOf result OutOfMemory → host.new ≡ host.old }
+    requires go_on { MayGoOn M.view kept.old }
+    requires alive { kept.old.machine.death ≡ None }
+    ensures { Serves M.view H.Host.own
+        (λ p. browse_course in_a_store p.being p.kept (ask_of ask.entry)) (host.new ≡ host.old)
+        kept.old host.old result kept.new host.new }
 {
     match ask {
-        Ask::Until(cycles, side, selector) => {
-            run_until(host, machine, archive, cycles, side, selector)
-        }
+        Ask::Until(cycles, side, selector) => { run_until(host, kept, cycles, side, selector) }
         Ask::Source(side, selector) => say_source(
             alloc,
             host,
-            machine.memory(),
-            archive.changes(),
+            kept.machine.memory(),
+            kept.archive.changes(),
             side,
             selector,
         ),
-        _ => say_asked(host, machine.memory(), archive.changes(), ask),
-    }
-}
-
-/// Answers a line that names what it asks for.
-pub(crate) fn answer_ask<H: Host, M: Memory>(
-    alloc: Global,
-    host: &mut H,
-    machine: &mut Machine<M>,
-    archive: &mut Archive,
-    ask: Ask<'_>,
-) -> Result<(), Status>
-    requires go_on { MayGoOn M.view machine.old archive.old }
-    ensures go_on { OnOk result (MayGoOn M.view machine.new archive.new) }
-    ensures named { archive.new.name ≡ archive.old.name }
-    ensures follows { Follows M.view H.Host.own
-        (λ p. browse_course in_a_store p.being p.kept (ask_of ask.entry))
-        machine.old archive.old host.old result machine.new archive.new host.new }
-    ensures counts { Counts H.Host.own ⊥ host.old host.new result }
-    ensures served { IfErr result IsOfServing }
-    ensures starved { IsErrOf result OutOfMemory → host.new ≡ host.old }
-{
-    match machine.death() {
-        Some(cause) => say_reply(host, Reply::Died { finished: 0, cause }),
-        None => answer_named(alloc, host, machine, archive, ask),
+        _ => say_asked(host, kept.machine.memory(), kept.archive.changes(), ask),
     }
 }

@@ -13,8 +13,8 @@ ghost use Rattle.st_session.specs.Exports.{IsOfExporting};
 use crate::opening_refusal::opening_status;
 use crate::reading::status_of;
 use st_call::{Reply, refuse, say_reply};
-use st_changes::{Changes, CondenseFault};
-use st_host::Host;
+use st_changes::Changes;
+use st_host::{FileFault, Host};
 use st_memory::Loader;
 use st_protocol::Status;
 use st_recover::reopen;
@@ -47,8 +47,8 @@ fn condense_store<H: Host>(
                 after: condensed.after,
             },
         ),
-        Err(CondenseFault::Disk) => Err(Status::DiskFault),
-        Err(CondenseFault::OutOfMemory) => Err(Status::OutOfMemory),
+        Err(FileFault::Disk) => Err(Status::DiskFault),
+        Err(FileFault::OutOfMemory) => Err(Status::OutOfMemory),
     }
 }
 

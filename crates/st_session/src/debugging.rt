@@ -1,18 +1,17 @@
 // Lines of a debugger.
-ghost use Rattle.std.specs.Prelude.{◌≡◌, IfErr, IsErrOf, None, OnOk};
+ghost use Rattle.std.specs.Prelude.{◌≡◌, None};
 ghost use Rattle.st_model.specs.Show.{show};
 ghost use Rattle.st_model.specs.Values.{value};
 ghost use Rattle.st_browse.specs.Asked.{method_of_side};
 ghost use Rattle.st_chunk.specs.Asks.{side_of};
-ghost use Rattle.st_protocol.specs.Statuses.{Counts};
-ghost use Rattle.st_protocol.specs.declared.status.Status.TheVariants.{OutOfMemory};
 ghost use Rattle.st_debug.specs.Stack.{stack_text};
-ghost use Rattle.st_call.specs.Telling.{IsOfServing, Tells};
+ghost use Rattle.st_call.specs.Telling.{Tells};
 ghost use Rattle.st_session.specs.Answers.{going_on, until_course};
 ghost use Rattle.st_session.specs.Browsing.{memory_of};
 ghost use Rattle.st_session.specs.Keeping.{in_a_store};
-ghost use Rattle.st_session.specs.Standing.{MayGoOn, Follows};
+ghost use Rattle.st_session.specs.Standing.{MayGoOn, Serves};
 
+use crate::kept::Kept;
 use crate::saving::run;
 use crate::watch::Watch;
 use st_browse::find_method;
@@ -23,32 +22,25 @@ use st_host::{Host, SayFault};
 use st_machine::Machine;
 use st_memory::Memory;
 use st_protocol::Status;
-use st_recover::Archive;
 
 /// Runs so many cycles, or up to the first bytecode of a class's method for a selector, from the second cycle on; or says that there is
 /// no such method, which is sought once, before the first cycle.
 pub(crate) fn run_until<H: Host, M: Memory>(
     host: &mut H,
-    machine: &mut Machine<M>,
-    archive: &mut Archive,
+    kept: &mut Kept<M>,
     cycles: u32,
     side: Side<'_>,
     selector: &[u8],
 ) -> Result<(), Status>
-    requires go_on { MayGoOn M.view machine.old archive.old }
-    requires alive { machine.old.death ≡ None }
-    ensures go_on { OnOk result (MayGoOn M.view machine.new archive.new) }
-    ensures named { archive.new.name ≡ archive.old.name }
-    ensures follows { Follows M.view H.Host.own
+    requires go_on { MayGoOn M.view kept.old }
+    requires alive { kept.old.machine.death ≡ None }
+    ensures { Serves M.view H.Host.own
         (λ p. going_on in_a_store (λ s c. until_course in_a_store cycles s c
-        (method_of_side (memory_of (show s)) (side_of side.entry) selector.now)) p.being p.kept)
-        machine.old archive.old host.old result machine.new archive.new host.new }
-    ensures counts { Counts H.Host.own ⊥ host.old host.new result }
-    ensures served { IfErr result IsOfServing }
-    ensures ample { IsErrOf result OutOfMemory → ⊥ }
+        (method_of_side (memory_of (show s)) (side_of side.entry) selector.now)) p.being p.kept) ⊥
+        kept.old host.old result kept.new host.new }
 {
-    match find_method(machine.memory(), side, selector) {
-        Some(method) => run(host, machine, archive, Watch::Entry(method), cycles),
+    match find_method(kept.machine.memory(), side, selector) {
+        Some(method) => run(host, kept, Watch::Entry(method), cycles),
         None => say_reply(host, Reply::Missing),
     }
 }

@@ -18,9 +18,9 @@ use crate::extent::Extent;
 use crate::opening_refusal::opening_status;
 use crate::reading::status_of;
 use st_call::{Reply, refuse, say_reply};
-use st_clean::{CleanFault, clean};
+use st_clean::clean;
 use st_frames::{Loaded, World};
-use st_host::{Host, HostFault};
+use st_host::{FileFault, Host, HostFault};
 use st_image::write;
 use st_machine::Machine;
 use st_memory::{Loader, Memory};
@@ -57,8 +57,8 @@ fn export_reachable<H: Host, M: Memory, L: Loader>(
 {
     match clean::<M, L, H>(alloc, m, host, image) {
         Ok(demand) => say_reply(host, Reply::Cleaned(demand)),
-        Err(CleanFault::Disk) => Err(Status::DiskFault),
-        Err(CleanFault::OutOfMemory) => Err(Status::OutOfMemory),
+        Err(FileFault::Disk) => Err(Status::DiskFault),
+        Err(FileFault::OutOfMemory) => Err(Status::OutOfMemory),
     }
 }
 

@@ -16,6 +16,7 @@ mod exporting;
 mod extent;
 mod first_lines;
 mod importing;
+mod kept;
 mod laws;
 mod making;
 mod opening_refusal;

@@ -1,4 +1,4 @@
-ghost use Rattle.std.specs.Prelude.{◌≡◌, ◌⊎◌, ◌<◌, ◌^◌, length, nat_lt, IsTrue, IfErr, OnOk, IsErrOf};
+ghost use Rattle.std.specs.Prelude.{◌≡◌, ◌⊎◌, ◌<◌, ◌^◌, length, nat_lt, IsTrue, OnOk, Err};
 ghost use Rattle.st_host.specs.Counts.{Rose};
 ghost use Rattle.st_model.specs.Machine.{State};
 ghost use Rattle.st_model.specs.Births.{Births};
@@ -20,10 +20,11 @@ ghost use Rattle.st_call.specs.Telling.{IsOfServing};
 ghost use Rattle.st_session.specs.Keeping.{in_a_store};
 ghost use Rattle.st_session.specs.Sessions.{follow, follow_script, follow_told, asked_in};
 ghost use Rattle.st_session.specs.Sessions.{session, session_so_far, session_of};
-ghost use Rattle.st_session.specs.Standing.{MayGoOn, Follows, FollowsTold, FollowsSome};
+ghost use Rattle.st_session.specs.Standing.{MayGoOn, Follows, FollowsTold, FollowsSome, Serves};
 ghost use Rattle.st_session.specs.Opening.{IsOpen, session_over, session_so_far_over};
 
 use crate::first_lines::say_opening;
+use crate::kept::Kept;
 use crate::serving::answer_told;
 use st_chunk::Reader;
 use st_frames::World;
@@ -41,50 +42,38 @@ const LONGEST: u64 = 4_294_967_296;
 fn feed<H: Host, M: Memory>(
     alloc: Global,
     host: &mut H,
-    machine: &mut Machine<M>,
-    archive: &mut Archive,
+    kept: &mut Kept<M>,
     reader: &mut Reader,
     byte: u8,
 ) -> Result<(), Status>
-    requires go_on { MayGoOn M.view machine.old archive.old }
-    ensures go_on { OnOk result (MayGoOn M.view machine.new archive.new) }
-    ensures named { archive.new.name ≡ archive.old.name }
+    requires go_on { MayGoOn M.view kept.old }
     ensures reader { reader.new ≡ (read reader.old byte).0 }
-    ensures follows { Follows M.view H.Host.own
-        (λ p. follow in_a_store installed p (asked_by (read reader.old byte)))
-        machine.old archive.old host.old result machine.new archive.new host.new }
-    ensures counts { Counts H.Host.own ⊥ host.old host.new result }
-    ensures served { IfErr result IsOfServing }
-    ensures starved { IsErrOf result OutOfMemory → host.new ≡ host.old }
+    ensures serves { Serves M.view H.Host.own
+        (λ p. follow in_a_store installed p (asked_by (read reader.old byte))) (host.new ≡ host.old)
+        kept.old host.old result kept.new host.new }
 {
     let request = reader.feed(byte);
-    answer_told(alloc, host, machine, archive, reader, request)
+    answer_told(alloc, host, kept, reader, request)
 }
 
 /// Reads these bytes of the script, and answers what they tell to be asked for.
 fn feed_all<H: Host, M: Memory>(
     alloc: Global,
     host: &mut H,
-    machine: &mut Machine<M>,
-    archive: &mut Archive,
+    kept: &mut Kept<M>,
     reader: &mut Reader,
     bytes: &[u8],
 ) -> Result<(), Status>
-    requires go_on { MayGoOn M.view machine.old archive.old }
-    ensures go_on { OnOk result (MayGoOn M.view machine.new archive.new) }
-    ensures named { archive.new.name ≡ archive.old.name }
+    requires go_on { MayGoOn M.view kept.old }
     ensures reader { OnOk result (reader.new ≡ read_through reader.old bytes.now) }
-    ensures follows { Follows M.view H.Host.own
+    ensures serves { Serves M.view H.Host.own
         (λ p. follow in_a_store installed p (told_from reader.old bytes.now))
-        machine.old archive.old host.old result machine.new archive.new host.new }
-    ensures counts { Counts H.Host.own ⊥ host.old host.new result }
-    ensures served { IfErr result IsOfServing }
-    ensures starved { IsErrOf result OutOfMemory → FollowsSome M.view H.Host.own
-        (follow in_a_store installed) (told_from reader.old bytes.now)
-        machine.old archive.old host.old host.new }
+        (FollowsSome M.view H.Host.own (follow in_a_store installed) (told_from reader.old bytes.now)
+        kept.old host.old host.new)
+        kept.old host.old result kept.new host.new }
 {
     for byte in bytes {
-        match feed(alloc, host, machine, archive, reader, *byte) {
+        match feed(alloc, host, kept, reader, *byte) {
             Ok(()) => {}
             Err(status) => return Err(status),
         }
@@ -96,162 +85,139 @@ fn feed_all<H: Host, M: Memory>(
 fn end<H: Host, M: Memory>(
     alloc: Global,
     host: &mut H,
-    machine: &mut Machine<M>,
-    archive: &mut Archive,
+    kept: &mut Kept<M>,
     reader: &mut Reader,
 ) -> Result<(), Status>
-    requires go_on { MayGoOn M.view machine.old archive.old }
-    ensures go_on { OnOk result (MayGoOn M.view machine.new archive.new) }
-    ensures named { archive.new.name ≡ archive.old.name }
+    requires go_on { MayGoOn M.view kept.old }
     ensures reader { reader.new ≡ (end_read reader.old).0 }
-    ensures follows { Follows M.view H.Host.own
-        (λ p. follow in_a_store installed p (asked_by (end_read reader.old)))
-        machine.old archive.old host.old result machine.new archive.new host.new }
-    ensures counts { Counts H.Host.own ⊥ host.old host.new result }
-    ensures served { IfErr result IsOfServing }
-    ensures starved { IsErrOf result OutOfMemory → host.new ≡ host.old }
+    ensures serves { Serves M.view H.Host.own
+        (λ p. follow in_a_store installed p (asked_by (end_read reader.old))) (host.new ≡ host.old)
+        kept.old host.old result kept.new host.new }
 {
     let request = reader.finish();
-    answer_told(alloc, host, machine, archive, reader, request)
+    answer_told(alloc, host, kept, reader, request)
 }
 
-/// Comes to the end of the script, and behind a method once more.
+/// Comes to the end of the script, and behind a method once more. Answers the status in which the session ends.
 fn finish<H: Host, M: Memory>(
     alloc: Global,
     host: &mut H,
-    machine: &mut Machine<M>,
-    archive: &mut Archive,
+    kept: &mut Kept<M>,
     reader: &mut Reader,
-) -> Result<(), Status>
-    requires go_on { MayGoOn M.view machine.old archive.old }
-    ensures follows { Follows M.view H.Host.own
+) -> Status
+    requires go_on { MayGoOn M.view kept.old }
+    ensures { Serves M.view H.Host.own
         (λ p. ended (follow in_a_store installed p (asked_at_end reader.old)) Done)
-        machine.old archive.old host.old result machine.new archive.new host.new }
-    ensures counts { Counts H.Host.own ⊥ host.old host.new result }
-    ensures served { IfErr result IsOfServing }
-    ensures starved { IsErrOf result OutOfMemory → FollowsSome M.view H.Host.own
-        (follow in_a_store installed) (asked_at_end reader.old)
-        machine.old archive.old host.old host.new }
+        (FollowsSome M.view H.Host.own (follow in_a_store installed) (asked_at_end reader.old)
+        kept.old host.old host.new)
+        kept.old host.old (Err result) kept.new host.new }
 {
-    match end(alloc, host, machine, archive, reader) {
-        Ok(()) => match end(alloc, host, machine, archive, reader) {
-            Ok(()) => Err(Status::Done),
-            Err(status) => Err(status),
+    match end(alloc, host, kept, reader) {
+        Ok(()) => match end(alloc, host, kept, reader) {
+            Ok(()) => Status::Done,
+            Err(status) => status,
         },
-        Err(status) => Err(status),
+        Err(status) => status,
     }
 }
 
-/// Reads the last bytes of the script that may come; it has more.
+/// Reads the last bytes of the script that may come; it has more. Answers the status in which the session ends.
 fn feed_last<H: Host, M: Memory>(
     alloc: Global,
     host: &mut H,
-    machine: &mut Machine<M>,
-    archive: &mut Archive,
+    kept: &mut Kept<M>,
     reader: &mut Reader,
     bytes: &[u8],
-) -> Result<(), Status>
-    requires go_on { MayGoOn M.view machine.old archive.old }
-    ensures follows { Follows M.view H.Host.own
+) -> Status
+    requires go_on { MayGoOn M.view kept.old }
+    ensures { Serves M.view H.Host.own
         (λ p. ended (follow in_a_store installed p (told_from reader.old bytes.now)) TooLarge)
-        machine.old archive.old host.old result machine.new archive.new host.new }
-    ensures counts { Counts H.Host.own ⊥ host.old host.new result }
-    ensures served { IfErr result IsOfServing }
-    ensures starved { IsErrOf result OutOfMemory → FollowsSome M.view H.Host.own
-        (follow in_a_store installed) (told_from reader.old bytes.now)
-        machine.old archive.old host.old host.new }
+        (FollowsSome M.view H.Host.own (follow in_a_store installed) (told_from reader.old bytes.now)
+        kept.old host.old host.new)
+        kept.old host.old (Err result) kept.new host.new }
 {
-    match feed_all(alloc, host, machine, archive, reader, bytes) {
-        Ok(()) => Err(Status::TooLarge),
-        Err(status) => Err(status),
+    match feed_all(alloc, host, kept, reader, bytes) {
+        Ok(()) => Status::TooLarge,
+        Err(status) => status,
     }
 }
 
-/// Follows a script.
+/// Follows a script, and answers the status in which the session ends.
 fn follow<H: Host, M: Memory, S: Source>(
     alloc: Global,
     host: &mut H,
     script: &mut S,
-    machine: &mut Machine<M>,
-    archive: &mut Archive,
+    kept: &mut Kept<M>,
     reader: &mut Reader,
-) -> Result<(), Status>
-    requires go_on { MayGoOn M.view machine.old archive.old }
+) -> Status
+    requires go_on { MayGoOn M.view kept.old }
     requires begins { reader.old ≡ line_from 1 }
     ensures follows { IsTrue S.is_told → Follows M.view H.Host.own
         (λ p. follow_script in_a_store installed p (S.remaining script.old))
-        machine.old archive.old host.old result machine.new archive.new host.new }
-    ensures told { IsErrOf result Unread → IsTrue S.is_told → FollowsTold M.view H.Host.own
+        kept.old host.old (Err result) kept.new host.new }
+    ensures told { result ≡ Unread → IsTrue S.is_told → FollowsTold M.view H.Host.own
         (follow_told in_a_store installed) (S.remaining script.old) (S.remaining script.new)
-        machine.old archive.old host.old host.new }
+        kept.old host.old host.new }
     ensures counts { Counts H.Host.own (Rose (S.read_faults script.old) (S.read_faults script.new))
-        host.old host.new result }
-    ensures served { IfErr result IsOfServing }
-    ensures starved { IsErrOf result OutOfMemory → IsTrue S.is_told → FollowsSome M.view H.Host.own
+        host.old host.new (Err result) }
+    ensures served { IsOfServing result }
+    ensures starved { result ≡ OutOfMemory → IsTrue S.is_told → FollowsSome M.view H.Host.own
         (follow in_a_store installed) (asked_in (S.remaining script.old))
-        machine.old archive.old host.old host.new }
+        kept.old host.old host.new }
 {
     let mut left = LONGEST;
     let mut piece = [0; 512];
     'pieces: loop {
         let count = match script.take(&mut piece) {
             Ok(count) => count,
-            Err(ReadFault) => return Err(Status::ReadFault),
+            Err(ReadFault) => return Status::ReadFault,
         };
         if count == 0 {
-            return finish(alloc, host, machine, archive, reader);
+            return finish(alloc, host, kept, reader);
         }
         let bytes = &piece[..count];
         if count as u64 > left {
-            return feed_last(
-                alloc,
-                host,
-                machine,
-                archive,
-                reader,
-                &bytes[..left as usize],
-            );
+            return feed_last(alloc, host, kept, reader, &bytes[..left as usize]);
         }
-        match feed_all(alloc, host, machine, archive, reader, bytes) {
+        match feed_all(alloc, host, kept, reader, bytes) {
             Ok(()) => left -= count as u64,
-            Err(status) => return Err(status),
+            Err(status) => return status,
         }
     }
 }
 
-/// Says what was replayed and what was lost, and follows a script.
+/// Says what was replayed and what was lost, and follows a script. Answers the status in which the session ends.
 fn open<H: Host, M: Memory, S: Source>(
     alloc: Global,
     host: &mut H,
     script: &mut S,
-    machine: &mut Machine<M>,
-    archive: &mut Archive,
+    kept: &mut Kept<M>,
     replayed: u32,
     lost: &[Lost],
-) -> Result<(), Status>
+) -> Status
     requires few { length lost.now < 2 ^ 32 }
-    requires go_on { MayGoOn M.view machine.old archive.old }
+    requires go_on { MayGoOn M.view kept.old }
     ensures follows { IsTrue S.is_told → Follows M.view H.Host.own
         (λ p. session in_a_store installed replayed (losses_of lost.now) p (S.remaining script.old))
-        machine.old archive.old host.old result machine.new archive.new host.new }
-    ensures told { IsErrOf result Unread → IsTrue S.is_told → FollowsTold M.view H.Host.own
+        kept.old host.old (Err result) kept.new host.new }
+    ensures told { result ≡ Unread → IsTrue S.is_told → FollowsTold M.view H.Host.own
         (session_so_far in_a_store installed replayed (losses_of lost.now))
         (S.remaining script.old) (S.remaining script.new)
-        machine.old archive.old host.old host.new }
+        kept.old host.old host.new }
     ensures counts { Counts H.Host.own (Rose (S.read_faults script.old) (S.read_faults script.new))
-        host.old host.new result }
-    ensures served { IfErr result IsOfServing }
-    ensures starved { IsErrOf result OutOfMemory → IsTrue S.is_told → (host.new ≡ host.old) ⊎
+        host.old host.new (Err result) }
+    ensures served { IsOfServing result }
+    ensures starved { result ≡ OutOfMemory → IsTrue S.is_told → (host.new ≡ host.old) ⊎
         FollowsSome M.view H.Host.own (session_of in_a_store installed replayed (losses_of lost.now))
-        (asked_in (S.remaining script.old)) machine.old archive.old host.old host.new }
+        (asked_in (S.remaining script.old)) kept.old host.old host.new }
 {
     let mut reader = match Reader::new(alloc) {
         Ok(reader) => reader,
-        Err(AllocError) => return Err(Status::OutOfMemory),
+        Err(AllocError) => return Status::OutOfMemory,
     };
     match say_opening(host, replayed, lost) {
-        Ok(()) => follow(alloc, host, script, machine, archive, &mut reader),
-        Err(status) => Err(status),
+        Ok(()) => follow(alloc, host, script, kept, &mut reader),
+        Err(status) => status,
     }
 }
 
@@ -301,15 +267,15 @@ pub fn serve<M: Memory, H: Host, S: Source>(
         Ok(world) => world,
         Err(AllocError) => return Status::OutOfMemory,
     };
-    let mut machine = Machine::boot(opened.loaded, world);
-    let mut archive = Archive::new(opened.store, opened.changes);
-    status_of(open(
+    let machine = Machine::boot(opened.loaded, world);
+    let archive = Archive::new(opened.store, opened.changes);
+    let mut kept = Kept { machine, archive };
+    open(
         alloc,
         host,
         script,
-        &mut machine,
-        &mut archive,
+        &mut kept,
         opened.replayed,
         &opened.lost,
-    ))
+    )
 }

@@ -14,11 +14,12 @@ ghost use Rattle.st_recover.specs.Commits.{Commit, OpensAs, image_with};
 ghost use Rattle.st_session.specs.Answers.{watched_course, going_on};
 ghost use Rattle.st_call.specs.Telling.{IsOfServing};
 ghost use Rattle.st_session.specs.Keeping.{in_a_store, imaging};
-ghost use Rattle.st_session.specs.Standing.{MayRun, MayGoOn, Follows, shown_by};
+ghost use Rattle.st_session.specs.Standing.{MayRun, MayGoOn, Serves, shown_by};
 ghost use Rattle.st_session.specs.Stretches.{SaysStretch, went};
 ghost use Rattle.st_session.specs.Watched.{watched_stretch};
 ghost use Rattle.st_session.specs.Watching.{look_of};
 
+use crate::kept::Kept;
 use crate::watch::Watch;
 use crate::watching::push_run_on;
 use st_call::{Output, Reply, finish, say_reply};
@@ -52,23 +53,17 @@ fn keep_image<H: Host, M: Memory>(host: &mut H, m: &M, archive: &mut Archive) ->
 /// the line are finished.
 pub(crate) fn snapshot<H: Host, M: Memory>(
     host: &mut H,
-    machine: &mut Machine<M>,
-    archive: &mut Archive,
+    kept: &mut Kept<M>,
     finished: u32,
 ) -> Result<(), Status>
-    requires go_on { MayGoOn M.view machine.old archive.old }
-    requires alive { machine.old.death ≡ None }
-    ensures go_on { OnOk result (MayGoOn M.view machine.new archive.new) }
-    ensures named { archive.new.name ≡ archive.old.name }
-    ensures follows { Follows M.view H.Host.own
-        (λ p. going_on in_a_store (in_a_store.snapshot finished) p.being p.kept)
-        machine.old archive.old host.old result machine.new archive.new host.new }
-    ensures counts { Counts H.Host.own ⊥ host.old host.new result }
-    ensures served { IfErr result IsOfServing }
-    ensures ample { IsErrOf result OutOfMemory → ⊥ }
+    requires go_on { MayGoOn M.view kept.old }
+    requires alive { kept.old.machine.death ≡ None }
+    ensures { Serves M.view H.Host.own
+        (λ p. going_on in_a_store (in_a_store.snapshot finished) p.being p.kept) ⊥
+        kept.old host.old result kept.new host.new }
 {
-    match machine.save() {
-        Ok(()) => keep_image(host, machine.memory(), archive),
+    match kept.machine.save() {
+        Ok(()) => keep_image(host, kept.machine.memory(), &mut kept.archive),
         Err(cause) => say_reply(host, Reply::Died { finished, cause }),
     }
 }
@@ -108,34 +103,28 @@ fn say_stretch<H: Host, M: Memory>(
 /// Runs so many cycles, watched or not, with the snapshots that bytecodes ask for, and says what is seen and said of them.
 pub(crate) fn run<H: Host, M: Memory>(
     host: &mut H,
-    machine: &mut Machine<M>,
-    archive: &mut Archive,
+    kept: &mut Kept<M>,
     watch: Watch,
     cycles: u32,
 ) -> Result<(), Status>
-    requires go_on { MayGoOn M.view machine.old archive.old }
-    requires alive { machine.old.death ≡ None }
-    ensures go_on { OnOk result (MayGoOn M.view machine.new archive.new) }
-    ensures named { archive.new.name ≡ archive.old.name }
-    ensures follows { Follows M.view H.Host.own
-        (λ p. going_on in_a_store (watched_course in_a_store (look_of watch) 0 cycles) p.being p.kept)
-        machine.old archive.old host.old result machine.new archive.new host.new }
-    ensures counts { Counts H.Host.own ⊥ host.old host.new result }
-    ensures served { IfErr result IsOfServing }
-    ensures ample { IsErrOf result OutOfMemory → ⊥ }
+    requires go_on { MayGoOn M.view kept.old }
+    requires alive { kept.old.machine.death ≡ None }
+    ensures { Serves M.view H.Host.own
+        (λ p. going_on in_a_store (watched_course in_a_store (look_of watch) 0 cycles) p.being p.kept) ⊥
+        kept.old host.old result kept.new host.new }
 {
     let mut finished = 0;
     'stretches: loop {
-        finished = match say_stretch(host, machine, watch, finished, cycles) {
+        finished = match say_stretch(host, &mut kept.machine, watch, finished, cycles) {
             Ok(Some(asked)) => asked,
             Ok(None) => return Ok(()),
             Err(status) => return Err(status),
         };
-        match snapshot(host, machine, archive, finished) {
+        match snapshot(host, kept, finished) {
             Ok(()) => {}
             Err(status) => return Err(status),
         }
-        if machine.death().is_some() {
+        if kept.machine.death().is_some() {
             return Ok(());
         }
     }

@@ -1,56 +1,47 @@
-ghost use Rattle.std.specs.Prelude.{◌≡◌, None, Some, OnOk, IfErr, IfSome, IsErrOf};
+ghost use Rattle.std.specs.Prelude.{◌≡◌, None, Some, IfSome};
 ghost use Rattle.st_chunk.specs.Definitions.{IsDefinition};
 ghost use Rattle.st_chunk.specs.declared.request.Request.TheVariants.{Browse as Browsing, Define as Defining};
 ghost use Rattle.st_chunk.specs.ScriptDefinitions.{definition_of};
 ghost use Rattle.st_chunk.specs.Lines.{IsInRange};
 ghost use Rattle.st_chunk.specs.Scripts.{IsBrowsed, IsDefined, asked_at, asked_by};
-ghost use Rattle.st_protocol.specs.Statuses.{Counts};
-ghost use Rattle.st_protocol.specs.declared.status.Status.TheVariants.{OutOfMemory};
 ghost use Rattle.st_install.specs.Defining.{installed};
 ghost use Rattle.st_install.specs.Prepareds.{IsPrepared};
 ghost use Rattle.st_session.specs.Answers.{answer, definition_course};
-ghost use Rattle.st_call.specs.Telling.{IsOfServing};
 ghost use Rattle.st_session.specs.Keeping.{in_a_store};
 ghost use Rattle.st_session.specs.Sessions.{follow};
-ghost use Rattle.st_session.specs.Standing.{MayGoOn, Follows};
+ghost use Rattle.st_session.specs.Standing.{MayGoOn, Serves};
 
-use crate::answering::answer_line;
-use crate::browsing::answer_ask;
+use crate::answering::{answer_dead, answer_living};
+use crate::browsing::answer_named;
+use crate::kept::Kept;
 use st_call::{Reply, say_reply};
 use st_chunk::{Definition, Reader, Request};
 use st_host::Host;
 use st_install::{Prepared, Unprepared, carry_out, prepare};
-use st_machine::Machine;
 use st_memory::Memory;
 use st_protocol::Status;
-use st_recover::Archive;
 use std::alloc::Global;
 
 /// Keeps a definition that is prepared, and then installs and acknowledges it.
 fn accept<H: Host, M: Memory>(
     alloc: Global,
     host: &mut H,
-    machine: &mut Machine<M>,
-    archive: &mut Archive,
+    kept: &mut Kept<M>,
     definition: &Definition<'_>,
     prepared: Prepared,
 ) -> Result<(), Status>
     requires good { IsDefinition (definition_of definition.now) }
-    requires prepared { IsPrepared (M.view machine.old.memory) (definition_of definition.now) prepared }
-    requires go_on { MayGoOn M.view machine.old archive.old }
-    requires alive { machine.old.death ≡ None }
-    ensures go_on { OnOk result (MayGoOn M.view machine.new archive.new) }
-    ensures named { archive.new.name ≡ archive.old.name }
-    ensures follows { Follows M.view H.Host.own
+    requires prepared { IsPrepared (M.view kept.old.machine.memory) (definition_of definition.now) prepared }
+    requires go_on { MayGoOn M.view kept.old }
+    requires alive { kept.old.machine.death ≡ None }
+    ensures { Serves M.view H.Host.own
         (λ p. definition_course in_a_store installed p.being p.kept (definition_of definition.now))
-        machine.old archive.old host.old result machine.new archive.new host.new }
-    ensures counts { Counts H.Host.own ⊥ host.old host.new result }
-    ensures served { IfErr result IsOfServing }
-    ensures starved { IsErrOf result OutOfMemory → host.new ≡ host.old }
+        (host.new ≡ host.old)
+        kept.old host.old result kept.new host.new }
 {
-    match archive.accept(alloc, host, definition) {
+    match kept.archive.accept(alloc, host, definition) {
         Ok(()) => {
-            let selector = carry_out(machine.memory_mut(), prepared);
+            let selector = carry_out(kept.machine.memory_mut(), prepared);
             let reply = Reply::Accepted {
                 class: definition.class,
                 meta: definition.meta,
@@ -66,24 +57,19 @@ fn accept<H: Host, M: Memory>(
 fn define<H: Host, M: Memory>(
     alloc: Global,
     host: &mut H,
-    machine: &mut Machine<M>,
-    archive: &mut Archive,
+    kept: &mut Kept<M>,
     definition: &Definition<'_>,
 ) -> Result<(), Status>
     requires good { IsDefinition (definition_of definition.now) }
-    requires go_on { MayGoOn M.view machine.old archive.old }
-    requires alive { machine.old.death ≡ None }
-    ensures go_on { OnOk result (MayGoOn M.view machine.new archive.new) }
-    ensures named { archive.new.name ≡ archive.old.name }
-    ensures follows { Follows M.view H.Host.own
+    requires go_on { MayGoOn M.view kept.old }
+    requires alive { kept.old.machine.death ≡ None }
+    ensures { Serves M.view H.Host.own
         (λ p. definition_course in_a_store installed p.being p.kept (definition_of definition.now))
-        machine.old archive.old host.old result machine.new archive.new host.new }
-    ensures counts { Counts H.Host.own ⊥ host.old host.new result }
-    ensures served { IfErr result IsOfServing }
-    ensures starved { IsErrOf result OutOfMemory → host.new ≡ host.old }
+        (host.new ≡ host.old)
+        kept.old host.old result kept.new host.new }
 {
-    let unprepared = match prepare(alloc, machine.memory(), definition) {
-        Ok(prepared) => return accept(alloc, host, machine, archive, definition, prepared),
+    let unprepared = match prepare(alloc, kept.machine.memory(), definition) {
+        Ok(prepared) => return accept(alloc, host, kept, definition, prepared),
         Err(unprepared) => unprepared,
     };
     match unprepared {
@@ -92,86 +78,51 @@ fn define<H: Host, M: Memory>(
     }
 }
 
-/// Answers a method of a group.
-fn answer_definition<H: Host, M: Memory>(
-    alloc: Global,
-    host: &mut H,
-    machine: &mut Machine<M>,
-    archive: &mut Archive,
-    definition: &Definition<'_>,
-) -> Result<(), Status>
-    requires good { IsDefinition (definition_of definition.now) }
-    requires go_on { MayGoOn M.view machine.old archive.old }
-    ensures go_on { OnOk result (MayGoOn M.view machine.new archive.new) }
-    ensures named { archive.new.name ≡ archive.old.name }
-    ensures follows { Follows M.view H.Host.own
-        (λ p. definition_course in_a_store installed p.being p.kept (definition_of definition.now))
-        machine.old archive.old host.old result machine.new archive.new host.new }
-    ensures counts { Counts H.Host.own ⊥ host.old host.new result }
-    ensures served { IfErr result IsOfServing }
-    ensures starved { IsErrOf result OutOfMemory → host.new ≡ host.old }
-{
-    match machine.death() {
-        Some(cause) => say_reply(host, Reply::Died { finished: 0, cause }),
-        None => define(alloc, host, machine, archive, definition),
-    }
-}
-
-/// Answers what is asked for, once the reader has told it.
+/// Answers what is asked for, once the reader has told it, where the machine isn't dead.
 fn answer_request<H: Host, M: Memory>(
     alloc: Global,
     host: &mut H,
-    machine: &mut Machine<M>,
-    archive: &mut Archive,
+    kept: &mut Kept<M>,
     reader: &Reader,
     request: Request,
 ) -> Result<(), Status>
     requires browsed { request ≡ Browsing → IsBrowsed reader.now.place }
     requires defined { request ≡ Defining → IsDefined reader.now.place }
     requires range { IsInRange request }
-    requires go_on { MayGoOn M.view machine.old archive.old }
-    ensures go_on { OnOk result (MayGoOn M.view machine.new archive.new) }
-    ensures named { archive.new.name ≡ archive.old.name }
-    ensures follows { Follows M.view H.Host.own
-        (λ p. answer in_a_store installed p (asked_at reader.now.place request))
-        machine.old archive.old host.old result machine.new archive.new host.new }
-    ensures counts { Counts H.Host.own ⊥ host.old host.new result }
-    ensures served { IfErr result IsOfServing }
-    ensures starved { IsErrOf result OutOfMemory → host.new ≡ host.old }
+    requires go_on { MayGoOn M.view kept.old }
+    requires alive { kept.old.machine.death ≡ None }
+    ensures { Serves M.view H.Host.own
+        (λ p. answer in_a_store installed p (asked_at reader.now.place request)) (host.new ≡ host.old)
+        kept.old host.old result kept.new host.new }
 {
     match request {
-        Request::Browse => answer_ask(alloc, host, machine, archive, reader.ask()),
-        Request::Define => {
-            answer_definition(alloc, host, machine, archive, &reader.definition())
-        }
-        _ => answer_line(host, machine, archive, request),
+        Request::Browse => answer_named(alloc, host, kept, reader.ask()),
+        Request::Define => define(alloc, host, kept, &reader.definition()),
+        _ => answer_living(host, kept, request),
     }
 }
 
-/// Answers what the reader tells to be asked for, if anything is.
+/// Answers what the reader tells to be asked for, if anything is. Here it is asked whether the machine is dead, for all of them.
 pub(crate) fn answer_told<H: Host, M: Memory>(
     alloc: Global,
     host: &mut H,
-    machine: &mut Machine<M>,
-    archive: &mut Archive,
+    kept: &mut Kept<M>,
     reader: &Reader,
     request: Option<Request>,
 ) -> Result<(), Status>
     requires browsed { request ≡ Some Browsing → IsBrowsed reader.now.place }
     requires defined { request ≡ Some Defining → IsDefined reader.now.place }
     requires range { IfSome request IsInRange }
-    requires go_on { MayGoOn M.view machine.old archive.old }
-    ensures go_on { OnOk result (MayGoOn M.view machine.new archive.new) }
-    ensures named { archive.new.name ≡ archive.old.name }
-    ensures follows { Follows M.view H.Host.own
-        (λ p. follow in_a_store installed p (asked_by (reader.now, request)))
-        machine.old archive.old host.old result machine.new archive.new host.new }
-    ensures counts { Counts H.Host.own ⊥ host.old host.new result }
-    ensures served { IfErr result IsOfServing }
-    ensures starved { IsErrOf result OutOfMemory → host.new ≡ host.old }
+    requires go_on { MayGoOn M.view kept.old }
+    ensures { Serves M.view H.Host.own
+        (λ p. follow in_a_store installed p (asked_by (reader.now, request))) (host.new ≡ host.old)
+        kept.old host.old result kept.new host.new }
 {
     match request {
-        Some(request) => answer_request(alloc, host, machine, archive, reader, request),
+        Some(request) => match kept.machine.death() {
+            Some(cause) => answer_dead(host, kept, cause, request),
+            None => answer_request(alloc, host, kept, reader, request),
+        },
         None => Ok(()),
     }
 }

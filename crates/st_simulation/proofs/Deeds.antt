@@ -26,6 +26,9 @@ use Rattle.st_model.specs.Input.{four_bytes}
 use Rattle.st_model.proofs.TableLemmas.{changed-some, changed-other}
 use Rattle.st_simulation.proofs.Bounded.{total-changed}
 use Rattle.st_model.proofs.CopyingBits.{Target, target, copy_read, table-painted, table-refused}
+use Rattle.st_model.proofs.KindTests.{no_method}
+use Rattle.st_model.proofs.Entries.{changed-again}
+use Rattle.st_model.proofs.FormedLemmas.{words_of-with_field}
 
 -- none for none, and for an object one of the same kind; of kind Pointers the same
 abbrev pub Alike : Option Object → Option Object → Type 0
@@ -220,13 +223,6 @@ module _ (g : Table → Table) (u : Table → World → World) where
 
 -- the changes that deeds make
 
-changed-again : (t : Table) (n : ℕ) (a b : Object) → changed (changed t n a) n b ≡ changed t n b
-changed-again [] n a b = refl
-changed-again (None ∷ t) zero a b = refl
-changed-again (Some o ∷ t) zero a b = refl
-changed-again (None ∷ t) (suc n) a b = ap (λ u. None ∷ u) (changed-again t n a b)
-changed-again (Some o ∷ t) (suc n) a b = ap (λ u. Some o ∷ u) (changed-again t n a b)
-
 changed-swap : (t : Table) (n k : ℕ) (a b : Object) → n ≢ k → changed (changed t n a) k b ≡ changed (changed t k b) n a
 changed-swap [] n k a b d = refl
 changed-swap (e ∷ t) zero zero a b d = absurd (d refl)
@@ -308,12 +304,6 @@ no_words kind.Words e = cc
 no_words kind.Bytes e = cc
 no_words kind.Method e = cc
 
-no_method : (k : Kind) → is_pointers k ≡ true → is_method k ≡ false
-no_method kind.Pointers e = refl
-no_method kind.Words e = cc
-no_method kind.Bytes e = cc
-no_method kind.Method e = cc
-
 bytes_or_method : (k : Kind) → is_pointers k ≡ true → has_bytes k ≡ false
 bytes_or_method kind.Pointers e = refl
 bytes_or_method kind.Words e = cc
@@ -325,9 +315,6 @@ not_both a b e = rw e refl
 
 words-with_unit : (o : Object) (i x : ℕ) → words_of (object_with_unit o i x) ≡ words_of o
 words-with_unit o i x = rw (length-set o.units i x) refl
-
-words-with_field : (o : Object) (i : ℕ) (x : Value) → words_of (with_field o i x) ≡ words_of o
-words-with_field o i x = rw (length-set o.fields i x) refl
 
 word_keeps : (i x : ℕ) → Keeps (word_stored i x)
 word_keeps i x = keeps_if (λ o. is_words o.kind) (λ o. object_with_unit o i x) (λ o e. (refl, words-with_unit o i x)) (λ o e. no_words o.kind e)
@@ -356,10 +343,10 @@ replaced_keeps : (i : ℕ) (bs : List ℕ) → Keeps (bytes_replaced i bs)
 replaced_keeps i bs = keeps_if (λ o. is_bytes o.kind) (bytes_stored i bs) (λ o e. ((bytes_keeps i bs).kind o, (bytes_keeps i bs).words o)) (λ o e. bytes_alone o.kind e)
 
 header_keeps : (x : Value) → Keeps (header_stored x)
-header_keeps x = keeps_if (λ o. is_method o.kind && counts_literals x (slice_get o.fields 0)) (λ o. with_field o 0 x) (λ o e. (refl, words-with_field o 0 x)) (λ o e. not_both _ _ (no_method o.kind e))
+header_keeps x = keeps_if (λ o. is_method o.kind && counts_literals x (slice_get o.fields 0)) (λ o. with_field o 0 x) (λ o e. (refl, words_of-with_field o 0 x)) (λ o e. not_both _ _ (no_method o.kind e))
 
 literal_keeps : (i : ℕ) (x : Value) (known : Bool) → Keeps (literal_stored i x known)
-literal_keeps i x known = keeps_if (λ o. is_method o.kind && known) (λ o. with_field o (i + 1) x) (λ o e. (refl, words-with_field o (i + 1) x)) (λ o e. not_both _ _ (no_method o.kind e))
+literal_keeps i x known = keeps_if (λ o. is_method o.kind && known) (λ o. with_field o (i + 1) x) (λ o e. (refl, words_of-with_field o (i + 1) x)) (λ o e. not_both _ _ (no_method o.kind e))
 
 -- what a deed reads besides of a table stays where a field is stored
 bytes_stay : (t : Table) (n : ℕ) (o : Object) (i : ℕ) (x : Value) (v : Value) (from k : ℕ) → entry t n ≡ Some o → is_pointers o.kind ≡ true

@@ -7,22 +7,19 @@ use Rattle.st_model.specs.Outcomes.{Outcome, renamed_outcome, IsLiveOutcome}
 use Rattle.st_model.specs.Outcomes as outcome
 use Rattle.st_model.specs.Machine.{State, roots_of}
 use Rattle.st_model.specs.Births.{Births, births, borne, settled_births, pointer_of}
-use Rattle.st_model.specs.Table.{Table, table, entry}
+use Rattle.st_model.specs.Table.{Table, table}
 use Rattle.st_model.specs.Show.{Shows, IsClosed, IsUsed, IsKept}
 use Rattle.st_model.specs.Settled.{Reclaimed, with_memory, settled_set, reclaim}
 use Rattle.st_simulation.proofs.Same.{StateSame}
-use Rattle.st_model.proofs.TableLemmas.{entry_before}
 use Rattle.st_model.proofs.BirthLemmas.{borne_before}
 use Rattle.st_model.proofs.SettledLemmas.{some_is}
 use Rattle.st_simulation.proofs.HeapsSame.{Naming, cycle_simulation}
 use Rattle.st_simulation.proofs.Ended.{reclaimed}
 use Rattle.st_model.proofs.SettledIs.{settled_is, settled_once}
+use Rattle.st_model.proofs.Reclaiming.{table_finite}
 
 births_finite : (s : State Births) (n : ℕ) → IsTrue (births.kept s.memory n) → n < length s.memory
 births_finite s n h = let p = some_is (borne s.memory n) h in borne_before s.memory n p.0 p.1
-
-pub table_finite_in : (t : Table) (k : ℕ) → IsTrue (table.kept t k) → k < length t
-table_finite_in t k h = let o = some_is (entry t k) h in entry_before t k o.0 o.1
 
 reclaimed_is : (u t : State Births) → Reclaimed births u t → t ≡ reclaim births u
 unfolding reclaim
@@ -32,7 +29,7 @@ reclaimed_is u t r =
 
 reclaim_table : (c : State Table) → Reclaimed table c (reclaim table c)
 unfolding reclaim
-reclaim_table c = record { set = settled_set table c.memory (roots_of c); is_settled = settled_is table c.memory (roots_of c) (table_finite_in c.memory); is = refl }
+reclaim_table c = record { set = settled_set table c.memory (roots_of c); is_settled = settled_is table c.memory (roots_of c) (table_finite c.memory); is = refl }
 
 -- an outcome's name is the pointer of what it names, which is kept
 value_shown : (w : Naming) (d : State Table) (t : State Births) (v : Value)

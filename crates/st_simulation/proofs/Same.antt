@@ -19,6 +19,7 @@ use Rattle.st_model.specs.Surroundings.{Change, Hold, AddSignal, TakeSignal, Set
 use Rattle.st_model.specs.Calls.{itself}
 use Rattle.st_model.specs.Show.{renamed_registers, renamed_world, renamed_head, renamed_option}
 use Rattle.st_model.specs.Machine.{ObjectMemory, Registers, Head, State, Transition, Died, Went, Step, is_there, all_there, has_room, used, roots_of, answer, die, after, ◌>>=◌, ◌>>◌, or_left, tried}
+use Rattle.std.proofs.lemmas.Bool.{and_parts}
 
 pub set_all_live : (live : ℕ → Type 0) (vs : List Value) (i : ℕ) (v : Value) → AllLive live vs → IsLive live v → AllLive live (slice_set vs i v)
 set_all_live live [] i v h k = h
@@ -78,7 +79,7 @@ pub record Simulation {H K : Type 0} (M : ObjectMemory H) (N : ObjectMemory K) :
   pub borne_live : (h : H) (k : K) (p n : ℕ) → heaps h k → M.borne_by h p ≡ Some n → live n
   pub borne_by : (h : H) (k : K) (p : ℕ) → heaps h k → N.borne_by k p ≡ option_map name (M.borne_by h p)
   pub used : (h : H) (k : K) → heaps h k → used N k ≡ used M h
-  -- both have room for a new object, or neither has; or only the first has, and is beyond the capacities then
+  -- and_parts have room for a new object, or neither has; or only the first has, and is beyond the capacities then
   pub rooms : (h : H) (k : K) (a b : Head) (o : Object) → makes → heaps h k → limits a → b ≡ renamed_head name a
       → (has_room N b k (renamed_object name o) ≡ has_room M a h o) ⊎ ((has_room M a h o ≡ true) × over (M.append h o))
   pub there_replace : (h : H) (n m : ℕ) (o p : Object) → M.read h n ≡ Some o → there h m → there (M.replace h n p) m
@@ -125,7 +126,7 @@ abbrev pub StaysOver : {H K A : Type 0} {M : ObjectMemory H} {N : ObjectMemory K
 StaysOver sim P (Died a) = Unit {0}
 StaysOver sim P (Went a s) = P a × sim.over s.memory
 
--- from states that are the same, both steps die of one cause, or answer the same and leave states that are the same
+-- from states that are the same, and_parts steps die of one cause, or answer the same and leave states that are the same
 pub record Same {H K A B : Type 0} {M : ObjectMemory H} {N : ObjectMemory K} (sim : Simulation M N)
     (P : A → Type 0) (r : A → B) (m : Step H A) (n : Step K B) : Type 0 where
   pub go : (s : State H) (t : State K) → StateSame sim s t → TransitionSame sim P r (m.run s) (n.run t)
@@ -355,13 +356,9 @@ pub value_there : {H K : Type 0} {M : ObjectMemory H} {N : ObjectMemory K} (sim 
 value_there sim h k (Small n) s e = tt
 value_there {M = M} sim h k (Ref n) s e = let o = some_object (M.read h n) e in (sim.read_there h k n o.0 s o.1).0
 
-pub both : (a b : Bool) → (a && b) ≡ true → (a ≡ true) × (b ≡ true)
-both true b e = (refl, e)
-both false b e = cc
-
 pub values_there : {H K : Type 0} {M : ObjectMemory H} {N : ObjectMemory K} (sim : Simulation M N) (h : H) (k : K) (vs : List Value) → sim.heaps h k → all_there M h vs ≡ true → AllLive (sim.there h) vs
 values_there sim h k [] s e = tt
-values_there {M = M} sim h k (v ∷ vs) s e = let p = both (is_there M h v) (all_there M h vs) e in (value_there sim h k v s p.0, values_there sim h k vs s p.1)
+values_there {M = M} sim h k (v ∷ vs) s e = let p = and_parts (is_there M h v) (all_there M h vs) e in (value_there sim h k v s p.0, values_there sim h k vs s p.1)
 
 pub all_there-renamed : {H K : Type 0} {M : ObjectMemory H} {N : ObjectMemory K} (sim : Simulation M N) (h : H) (k : K) (vs : List Value) → sim.heaps h k → AllLive sim.live vs
     → all_there N k (renamed_all sim.name vs) ≡ all_there M h vs

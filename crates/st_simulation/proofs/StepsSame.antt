@@ -18,9 +18,10 @@ use Rattle.std.specs.Option.{option_map}
 use Rattle.std.proofs.lemmas.Bool.Decides.{nat_tests}
 use Rattle.st_model.specs.Steps.{get_active, get_home, get_method, get_receiver, get_ip, get_sp, set_ip, set_sp, found, object_named, object, stored_at, store_at, set_field, exchanged_there, exchange_named, exchange, fit_units, units_set, set_units_at, set_units, get_device, newest_signal, count_signals, oldest_word, count_words, get_mouse_x, get_mouse_y, get_second_clock, get_millisecond_clock, world_changed, change_world, get_free, named_or_not, object_at, next_instance, fetch_kind, fetch_size, fetch_bytes, store_bytes, fetch_word, store_word, fetch_byte, store_byte, made, make_named, make, registers_set, set_registers, new_of, are_there, of_page, new_object, class_of, or_die, check, fetch_field, store_field, integer_or_die, fetch_integer, count_fields, fetch_fields, store_fields, transfer, put, push, under, look_at_words, drop_words, top, pop, literal, fetch_method_field, store_method_field, byte_at, next_byte, jump}
 use Rattle.st_model.specs.Calls.{itself}
-use Rattle.st_simulation.proofs.Same.{length-renamed, then_object-same, answer_itself-same, OptionSame, Simulation, StateSame, TransitionSame, StaysOver, Anything, IsLiveOption, IsLiveRegisters, ValueSame, ValuesSame, OptionalSame, RegistersSame, ChangeSame, SameValue, SameValues, SameOption, SameObject, SameAnswer, is_there-renamed, all_there-renamed, value_there, values_there, both, some_object, same_value-same, steps_same, then_unit-same, over_value, over_values, get_is_live, over_object, with_field-renamed, stored_is_live}
+use Rattle.st_simulation.proofs.Same.{length-renamed, then_object-same, answer_itself-same, OptionSame, Simulation, StateSame, TransitionSame, StaysOver, Anything, IsLiveOption, IsLiveRegisters, ValueSame, ValuesSame, OptionalSame, RegistersSame, ChangeSame, SameValue, SameValues, SameOption, SameObject, SameAnswer, is_there-renamed, all_there-renamed, value_there, values_there, some_object, same_value-same, steps_same, then_unit-same, over_value, over_values, get_is_live, over_object, with_field-renamed, stored_is_live}
 use Rattle.st_model.proofs.Names.{map_all, device_part, with_devices}
 use Rattle.st_simulation.proofs.Surrounding.{held_live, held-renamed, newest-renamed, changed_live, changed-renamed, named-renamed}
+use Rattle.std.proofs.lemmas.Bool.{and_parts}
 
 live_replicate : (live : ℕ → Type 0) (v : Value) (n : ℕ) → IsLive live v → AllLive live (replicate n v)
 live_replicate live v zero h = tt
@@ -168,7 +169,7 @@ module _ {H K : Type 0} {M : ObjectMemory H} {N : ObjectMemory K} (sim : Simulat
   unfolding exchanged_there
   exchanged_there-same a b s t false l k st e = inl refl
   exchanged_there-same a b s t true l k st e =
-      let h = both (is_there M s.memory (Ref a)) (is_there M s.memory (Ref b)) e in
+      let h = and_parts (is_there M s.memory (Ref a)) (is_there M s.memory (Ref b)) e in
       let o = some_object (M.read s.memory a) h.0 in
       let p = some_object (M.read s.memory b) h.1 in
       inr (tt, refl, exchanged-same a b s t o.0 p.0 l k st o.1 p.1)
@@ -177,7 +178,7 @@ module _ {H K : Type 0} {M : ObjectMemory H} {N : ObjectMemory K} (sim : Simulat
   unfolding exchanged_there
   exchanged_over a b s false e v = tt
   exchanged_over a b s true e v =
-      let h = both (is_there M s.memory (Ref a)) (is_there M s.memory (Ref b)) e in
+      let h = and_parts (is_there M s.memory (Ref a)) (is_there M s.memory (Ref b)) e in
       let o = some_object (M.read s.memory a) h.0 in
       let p = some_object (M.read s.memory b) h.1 in
       (tt, sim.over_exchange s.memory a b o.0 p.0 v o.1 p.1)
@@ -310,9 +311,9 @@ module _ {H K : Type 0} {M : ObjectMemory H} {N : ObjectMemory K} (sim : Simulat
 
   set_there : (s : State H) (t : State K) (r : Registers) → StateSame sim s t → are_there M s.memory r ≡ true → AllLive (sim.there s.memory) (roots_of (record s { registers = r }))
   set_there s t r st e =
-      let a = both (is_there M s.memory r.active) (is_there M s.memory r.home && (is_there M s.memory r.method && is_there M s.memory r.receiver)) e in
-      let b = both (is_there M s.memory r.home) (is_there M s.memory r.method && is_there M s.memory r.receiver) a.1 in
-      let c = both (is_there M s.memory r.method) (is_there M s.memory r.receiver) b.1 in
+      let a = and_parts (is_there M s.memory r.active) (is_there M s.memory r.home && (is_there M s.memory r.method && is_there M s.memory r.receiver)) e in
+      let b = and_parts (is_there M s.memory r.home) (is_there M s.memory r.method && is_there M s.memory r.receiver) a.1 in
+      let c = and_parts (is_there M s.memory r.method) (is_there M s.memory r.receiver) b.1 in
       let known : (v : Value) → is_there M s.memory v ≡ true → IsLive (sim.there s.memory) v = λ v f. value_there sim s.memory t.memory v st.memory f in
       (known r.active a.0, (known r.home b.0, (known r.method c.0, (known r.receiver c.1, st.there.1.1.1.1))))
 

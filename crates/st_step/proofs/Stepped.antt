@@ -1,14 +1,13 @@
 -- A row over a memory and its registers: what it begins with, and what it leaves.
-use Rattle.std.proofs.Common.{◌≡◌, ◌<◌, ℕ, Bool, true, false, Ok, Err, refl, sym, ap, subst, ◌∙◌, arith}
-use Rattle.std.proofs.lemmas.Bool.Decides.{nat_tests}
-use Rattle.std.specs.Prelude.{if◌then◌else◌, ◌/◌, ◌%◌, ◌==◌, ◌&&◌, is_some, Result, ◌+◌, length}
+use Rattle.std.proofs.Common.{◌≡◌, ◌<◌, ℕ, true, Ok, Err, refl, sym, ap, subst, ◌∙◌}
+use Rattle.std.specs.Prelude.{if◌then◌else◌, ◌/◌, ◌%◌, ◌==◌, ◌&&◌, Result, ◌+◌, length}
 use Rattle.st_model.specs.declared.dead.Dead.{Dead}
 use Rattle.st_model.specs.declared.demand.Demand.{Demand}
 use Rattle.st_model.specs.declared.deed.Deed.{Deed}
 use Rattle.st_model.specs.declared.outcome.StepEnd.{StepEnd}
 use Rattle.st_model.specs.declared.outcome.StepEnd.TheVariants as ends
 use Rattle.st_model.specs.declared.word.Word.{Word}
-use Rattle.st_model.specs.Values.{Small, Ref, value_of, word, is_small, IsLive}
+use Rattle.st_model.specs.Values.{word, IsLive}
 use Rattle.st_model.specs.Objects.{one, words_of}
 use Rattle.st_model.specs.Outcomes.{Outcome, end_of}
 use Rattle.st_model.specs.Machine.{World, Head, State, Transition, Died, Went, is_there, used}
@@ -18,7 +17,7 @@ use Rattle.st_model.specs.Table.{Table, table, apart, bounded_table, total_used}
 use Rattle.st_model.specs.Calls.{transition_of}
 use Rattle.st_model.specs.Deeds.{deed_of_end, deed_done, world_done}
 use Rattle.st_model.specs.Bytecodes.{step}
-use Rattle.st_model.specs.Show.{Shows, IsUsed}
+use Rattle.st_model.specs.Show.{IsUsed}
 use Rattle.st_model.specs.Foreseen.{Foretells}
 use Rattle.st_model.specs.View.{View, Held, IsWhole}
 use Rattle.st_simulation.proofs.HeapsSame.{same_used}
@@ -34,6 +33,7 @@ use Rattle.st_frames.specs.Shown.{shown, registers_of, IsFrame, IsReady}
 use Rattle.st_frames.specs.Naming as world
 use Rattle.st_frames.proofs.Closed.{is_closed}
 use Rattle.st_step.specs.Planned.{PlansOver, Plans, PlansBirths, plus}
+use Rattle.st_frames.proofs.There.{word_there, all_four}
 
 -- what a plan says
 
@@ -116,25 +116,13 @@ ready_after h z f x frame e = record {
   devices = ap (λ (y : Held). y.devices) e;
 }
 
-there_if : (t : Table) (b : Bool) (n : ℕ) → IsLive (IsUsed t) (if b then Small n else Ref n) → (is_small (if b then Small n else Ref n) ≡ true → n < 32768)
-    → is_there table t (if b then Small n else Ref n) ≡ true
-there_if t true n h s = let l = s refl in grind (arith, nat_tests, l)
-there_if t false n h s = ap (λ x. is_some x) h.1
-
-there : (t : Table) (w : Word) → IsLive (IsUsed t) (word w) → IsNarrow w → is_there table t (word w) ≡ true
-unfolding value_of
-there t w h s = there_if t (w.0 % 2 == 1) (w.0 / 2) h (λ e. let l = s e in omega (arith, l))
-
-all_there : (a b c d : Bool) → a ≡ true → b ≡ true → c ≡ true → d ≡ true → (a && (b && (c && d))) ≡ true
-all_there a b c d p q r s = rw (p, q, r, s) refl
-
 pub there_after : (v : View) (f : Frame) (world : World) (t : Table) (a : Head) (r : Words) (end : StepEnd) → IsWhole v → IsReady v f world
     → (step bounded_table).run (shown v f world) ≡ Went (end_of end) (with_left deed_of_end (Ok end) (row_state t a r)) → are_there table t (registers_in r) ≡ true
 unfolding row_state
 there_after v f world t a r end w ready e =
     let d = deed_of_end end in
     let closed = step_closed (shown v f world) (with_left deed_of_end (Ok end) (row_state t a r)) (end_of end) (is_closed v f world w ready) e in
-    let before : (x : Word) → IsLive (IsUsed (deed_done d t)) (word x) → IsNarrow x → is_there table t (word x) ≡ true = λ x l n. sym (deed_leaves_there d t (word x)) ∙ there (deed_done d t) x l n in
-    all_there (is_there table t (word r.active)) (is_there table t (word r.home)) (is_there table t (word r.method)) (is_there table t (word r.receiver))
+    let before : (x : Word) → IsLive (IsUsed (deed_done d t)) (word x) → IsNarrow x → is_there table t (word x) ≡ true = λ x l n. sym (deed_leaves_there d t (word x)) ∙ word_there (deed_done d t) x l n in
+    all_four (is_there table t (word r.active)) (is_there table t (word r.home)) (is_there table t (word r.method)) (is_there table t (word r.receiver))
     (before r.active closed.roots.0 r.active_narrow) (before r.home closed.roots.1.0 r.home_narrow)
     (before r.method closed.roots.1.1.0 r.method_narrow) (before r.receiver closed.roots.1.1.1.0 r.receiver_narrow)

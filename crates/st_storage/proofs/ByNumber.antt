@@ -1,9 +1,9 @@
 -- A primitive on objects is found by its number, and fails where it takes another number of arguments.
-use Rattle.std.proofs.Common.{◌≡◌, ℕ, Bool, true, false, refl}
+use Rattle.std.proofs.Common.{◌≡◌, ℕ, true, false, refl}
 use Rattle.std.specs.Prelude.{◌==◌, if◌then◌else◌}
 use Rattle.st_model.specs.declared.dead.Dead.{Dead}
 use Rattle.st_model.specs.Values.{Value}
-use Rattle.st_model.specs.Machine.{ObjectMemory, State, Died, Went, Step, answer, after, tried, ◌>>=◌, ◌>>◌}
+use Rattle.st_model.specs.Machine.{ObjectMemory, State, Died, Went, answer, after, tried, ◌>>=◌, ◌>>◌}
 use Rattle.st_model.specs.Primitives.{taking, answer_with, succeed, primitive, check_bytes}
 use Rattle.st_model.specs.BitBlt.{primitive_copy_bits}
 use Rattle.st_model.specs.Storage.{storage, primitive_say}
@@ -11,21 +11,7 @@ use Rattle.st_model.specs.Storage as step
 use Rattle.st_model.specs.Table.{Table}
 use Rattle.st_frames.proofs.Doing.{rows}
 use Rattle.st_storage.specs.Numbers.{takes_arguments}
-
--- where each of these fails, so does the choice between them
-fails : (b c r : Bool) (p q : Step Table Bool) (s : State Table) → (r ≡ false → q.run s ≡ Went false s)
-    → (if b then c else r) ≡ false → (if b then (if c then p else answer false) else q).run s ≡ Went false s
-unfolding answer
-fails true true r p q s f e = cc
-fails true false r p q s f e = refl
-fails false c r p q s f e = f e
-
-none : (s : State Table) → (answer {H = Table} false).run s ≡ Went false s
-unfolding answer
-none s = refl
-
-taken : (c : Bool) (p : Step Table Bool) (s : State Table) → c ≡ true → (if c then p else answer false).run s ≡ p.run s
-taken c p s e = rw e refl
+use Rattle.st_frames.proofs.Numbered.{fails, none, taken}
 
 module _ (m : ObjectMemory Table) where
   pub storage-fails : (k n : ℕ) (s : State Table) → takes_arguments k n ≡ false → (storage m k n).run s ≡ Went false s

@@ -16,8 +16,9 @@ use Rattle.st_model.specs.Methods.{literal_count, method_header}
 use Rattle.st_model.specs.Primitives.{bits_or_die}
 use Rattle.st_model.specs.Storage.{count_literals, check_header, Replacing, replace_and_answer}
 use Rattle.st_model.specs.Deeds.{changed_object, changed_by, bytes_stored, bytes_replaced, bytes_from, header_stored, literal_stored, over}
-use Rattle.st_model.proofs.Leaving.{word-left, word-unleft, byte-left, byte-unleft, literal-left}
-use Rattle.st_frames.proofs.BytesLeft.{got, got_below, died, HasByte, size_with_bytes, below, read_is, has_byte, fetched, past, sized}
+use Rattle.st_model.proofs.Leaving.{word-left, word-unleft, byte-left, byte-unleft, literal-left, died}
+use Rattle.st_frames.proofs.BytesLeft.{got, HasByte, size_with_bytes, below, read_is, has_byte, fetched, past, sized}
+use Rattle.st_memory.proofs.Keeping.{got_below}
 
 module _ (m : ObjectMemory Table) (tabular : IsTabular m) where
   looks : {A : Type 0} → (Object → Step Table A) → Option Object → Step Table A

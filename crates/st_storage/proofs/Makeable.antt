@@ -10,6 +10,7 @@ use Rattle.st_model.specs.Formed.{IsMakeable}
 use Rattle.st_model.specs.Steps.{same_value}
 use Rattle.st_model.specs.Storage.{body_words, method_words}
 use Rattle.st_memory.specs.Making.{CanMake}
+use Rattle.st_model.proofs.SameValues.{other_value}
 
 replicated : {A : Type 0} (n : ℕ) (a : A) → length (replicate n a) ≡ n
 replicated zero a = refl
@@ -38,13 +39,6 @@ pub can_make_fixed : (v : Value) (size : ℕ) (k : Kind) → v ≢ Ref 17 → is
 can_make_fixed v size k d e l = can_make v size k d e (small_body k size l)
 
 pub ruleset makeable = (can_make, can_make_fixed)
-
--- a word that isn't the same as another's value is another
-pub other_value : (v w : Value) → same_value v w ≡ false → v ≢ w
-other_value (Small a) (Small b) e q = let p : a ≡ b = cc in grind (arith, nat_tests)
-other_value (Small a) (Ref b) e q = cc
-other_value (Ref a) (Small b) e q = cc
-other_value (Ref a) (Ref b) e q = let p : a ≡ b = cc in grind (arith, nat_tests)
 
 pub ruleset classes = (other_value)
 

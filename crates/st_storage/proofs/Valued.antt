@@ -1,6 +1,6 @@
 -- Integers, and differences of numbers.
-use Rattle.std.proofs.Common.{◌≡◌, ℕ, ◌<◌, ◌≤◌, true, false, refl, arith}
-use Rattle.std.specs.Prelude.{ℤ, pos, negsuc, ◌-ℤ◌, ◌≤ℤ◌, ◌<ℤ◌, int_lt, int_le, nat_abs}
+use Rattle.std.proofs.Common.{◌≡◌, ℕ, ◌<◌, ◌≤◌, false, refl, arith}
+use Rattle.std.specs.Prelude.{ℤ, pos, negsuc, ◌-ℤ◌, ◌≤ℤ◌, ◌<ℤ◌, int_lt, nat_abs}
 use Rattle.st_model.specs.declared.dead.Dead.{Dead}
 use Rattle.st_model.specs.declared.dead.Dead.TheVariants as dead
 use Rattle.std.proofs.lemmas.Int.{ints}
@@ -13,18 +13,12 @@ use Rattle.st_model.specs.Steps.{check, fetch_integer}
 use Rattle.st_model.specs.Storage.{position_below}
 use Rattle.st_model.specs.Primitives.{number, number_of}
 use Rattle.st_model.proofs.Runs.{run-passed, run-failed}
+use Rattle.st_model.proofs.IntegerTests.{le_false, lt_true, limit-within, limit-past}
 
 pub difference-is : (a b : ℕ) → a ≤ 131066 → b < 2048 → to_z w32 (of_z w32 (to_z w32 a -ℤ to_z w32 b)) ≡ pos a -ℤ pos b
 difference-is a b h k = omega (arith, ints)
 
 pub ruleset differences = (difference-is)
-
--- checks of integers
-lt_true : (a b : ℤ) → a <ℤ b → int_lt a b ≡ true
-lt_true (pos a) (pos b) l = grind (arith, ints, l)
-lt_true (pos a) (negsuc b) l = grind (arith, ints, l)
-lt_true (negsuc a) (pos b) l = grind (arith, ints, l)
-lt_true (negsuc a) (negsuc b) l = grind (arith, ints, l)
 
 lt_false : (a b : ℤ) → b ≤ℤ a → int_lt a b ≡ false
 lt_false (pos a) (pos b) l = grind (arith, ints, l)
@@ -32,35 +26,17 @@ lt_false (pos a) (negsuc b) l = grind (arith, ints, l)
 lt_false (negsuc a) (pos b) l = grind (arith, ints, l)
 lt_false (negsuc a) (negsuc b) l = grind (arith, ints, l)
 
-le_true : (a b : ℤ) → a ≤ℤ b → int_le a b ≡ true
-le_true (pos a) (pos b) l = grind (arith, ints, l)
-le_true (pos a) (negsuc b) l = grind (arith, ints, l)
-le_true (negsuc a) (pos b) l = grind (arith, ints, l)
-le_true (negsuc a) (negsuc b) l = grind (arith, ints, l)
-
-le_false : (a b : ℤ) → b <ℤ a → int_le a b ≡ false
-le_false (pos a) (pos b) l = grind (arith, ints, l)
-le_false (pos a) (negsuc b) l = grind (arith, ints, l)
-le_false (negsuc a) (pos b) l = grind (arith, ints, l)
-le_false (negsuc a) (negsuc b) l = grind (arith, ints, l)
-
 pub position-below : (k : Dead) (a b : ℤ) (s : State Table) → a <ℤ b → (check k (int_lt a b)).run s ≡ Went tt s
 position-below k a b s l = run-passed k (int_lt a b) s (lt_true a b l)
 
 pub position-past : (k : Dead) (a b : ℤ) (s : State Table) → b ≤ℤ a → (check k (int_lt a b)).run s ≡ Died k
 position-past k a b s l = run-failed k (int_lt a b) s (lt_false a b l)
 
-pub position-natural : (k : Dead) (a b : ℤ) (s : State Table) → a ≤ℤ b → (check k (int_le a b)).run s ≡ Went tt s
-position-natural k a b s l = run-passed k (int_le a b) s (le_true a b l)
-
-pub position-negative : (k : Dead) (a b : ℤ) (s : State Table) → b <ℤ a → (check k (int_le a b)).run s ≡ Died k
-position-negative k a b s l = run-failed k (int_le a b) s (le_false a b l)
-
 pub natural-is : (a : ℤ) → pos 0 ≤ℤ a → a ≤ℤ pos 131066 → of_z w32 a ≡ nat_abs a
 natural-is (pos a) l h = grind (arith, ints)
 natural-is (negsuc a) l h = absurd (grind (arith, ints, l))
 
-pub ruleset positions = (position-below, position-past, position-natural, position-negative, natural-is)
+pub ruleset positions = (position-below, position-past, limit-within, limit-past, natural-is)
 
 pub integer-small : (m : ObjectMemory Table) (z : ℤ) (s : State Table) → z <ℤ pos 0 → (number_of m z).run s ≡ Went (small_integer z) s
 unfolding number_of answer

@@ -1,5 +1,5 @@
 -- What a table contains: at place k the entry of pointer 2k, or none. Nothing stands at place 0.
-use Rattle.std.specs.Prelude.{◌≡◌, ◌<◌, ◌≤◌, ◌/◌, ◌%◌, ℕ, List, Option, None, length, slice_index_or, IsSome}
+use Rattle.std.specs.Prelude.{◌≡◌, ◌<◌, ◌≤◌, ◌/◌, ◌%◌, ℕ, List, Option, Some, None, length, slice_index_or, IsSome}
 use Rattle.st_model.specs.declared.oop.Oop.{Oop}
 use Rattle.st_table.specs.declared.entry.Entry.{Entry}
 
@@ -10,6 +10,15 @@ place o = o.0 / 2
 -- the entry of a pointer that names an object
 abbrev pub entry_of : List (Option Entry) → Oop → Option Entry
 entry_of entries o = slice_index_or entries (place o) None
+
+-- an entry with another that follows, or that stands before
+abbrev pub with_next : Option Entry → Oop → Option Entry
+with_next None next = None
+with_next (Some e) next = Some (record { at = e.at; kind = e.kind; odd = e.odd; next = next; before = e.before })
+
+abbrev pub with_before : Option Entry → Oop → Option Entry
+with_before None before = None
+with_before (Some e) before = Some (record { at = e.at; kind = e.kind; odd = e.odd; next = e.next; before = before })
 
 -- the pointer names an object and has an entry
 pub record HasEntry (entries : List (Option Entry)) (o : Oop) : Type 0 where

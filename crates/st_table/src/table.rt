@@ -1,5 +1,5 @@
-ghost use Rattle.std.specs.Prelude.{◌≡◌, ℕ, ◌+◌, ◌≤◌, ◌↔◌, Some, None, replicate, slice_set, IfOk, IfSome, IfNone, IsTrue};
-ghost use Rattle.st_table.specs.Entries.{place, entry_of, HasEntry, IsFree, IsLeastFree};
+ghost use Rattle.std.specs.Prelude.{◌≡◌, ℕ, ◌+◌, ◌≤◌, ◌↔◌, Some, None, replicate, slice_set, IfOk, IfSome, IfNone, IsSome, IsTrue};
+ghost use Rattle.st_table.specs.Entries.{place, entry_of, with_next, with_before, HasEntry, IsFree, IsLeastFree};
 ghost use Rattle.st_model.specs.declared.oop.Oop.{Oop as Pointer};
 
 use crate::entry::Entry;
@@ -80,6 +80,28 @@ impl Table {
         ensures { self.new ≡ slice_set self.old (place o) (Some e) }
     {
         self.entries[(o.0 / 2) as usize] = Some(e);
+    }
+
+    /// Has another follow what has an entry at the place of a pointer, in the list that it is in.
+    pub fn set_next(&mut self, o: Oop, next: Oop)
+        requires { IsSome (entry_of self.old o) }
+        ensures { self.new ≡ slice_set self.old (place o) (with_next (entry_of self.old o) next) }
+    {
+        match &mut self.entries[(o.0 / 2) as usize] {
+            Some(entry) => entry.next = next,
+            None => unreachable!(),
+        }
+    }
+
+    /// Has another stand before it there.
+    pub fn set_before(&mut self, o: Oop, before: Oop)
+        requires { IsSome (entry_of self.old o) }
+        ensures { self.new ≡ slice_set self.old (place o) (with_before (entry_of self.old o) before) }
+    {
+        match &mut self.entries[(o.0 / 2) as usize] {
+            Some(entry) => entry.before = before,
+            None => unreachable!(),
+        }
     }
 
     /// Takes the entry of a pointer away.

@@ -2,33 +2,32 @@
 
 use crate::compiling::{compiled, names, parsed};
 use crate::parsing::repeated;
-use st_code::{MethodParts, Names};
+use st_code::{MethodParts, Names, compile};
 use st_meaning::{
-    Answer, AnswerList, Change, Constant, Deed, Deeds, MeaningFault, Place, Value, Variable, trace,
-    walk,
+    Answer, AnswerList, Deed, Deeds, FALSE, MeaningFault, NIL, TRUE, Value, Variable, trace, walk,
 };
 use st_scan::{Expression, Message, MethodTree, Name, Statement};
 use std::alloc::{AllocError, Global};
 use std::process::Abort;
 use std::test::Fail;
 
-fn constant_word(constant: Constant) -> &'static str {
-    match constant {
-        Constant::Receiver => "self",
-        Constant::True => "true",
-        Constant::False => "false",
-        Constant::Nil => "nil",
-        Constant::Context => "thisContext",
+/// A pseudo variable by its number.
+fn constant_word(n: u8) -> &'static str {
+    match n {
+        0 => "self",
+        1 => "true",
+        2 => "false",
+        3 => "nil",
+        _ => "thisContext",
     }
 }
 
 /// A variable by a letter for its kind, and its number.
 fn variable_word(alloc: Global, variable: Variable) -> Result<String, AllocError> {
     match variable {
-        Place::Temporary(n) => format!(in alloc; "t{n}"),
-        Place::Field(n) => format!(in alloc; "f{n}"),
-        Place::Shared(n) => format!(in alloc; "s{n}"),
-        Place::Literal(n) => format!(in alloc; "l{n}"),
+        Variable::Temporary(n) => format!(in alloc; "t{n}"),
+        Variable::Field(n) => format!(in alloc; "f{n}"),
+        Variable::Shared(n) => format!(in alloc; "s{n}"),
     }
 }
 
@@ -36,7 +35,7 @@ fn variable_word(alloc: Global, variable: Variable) -> Result<String, AllocError
 fn value_word(alloc: Global, value: Value) -> Result<String, AllocError> {
     match value {
         Value::Number(n) => format!(in alloc; "{n}"),
-        Value::Constant(constant) => format!(in alloc; "{}", constant_word(constant)),
+        Value::Constant(n) => format!(in alloc; "{}", constant_word(n)),
         Value::First(variable) => {
             let word = variable_word(alloc, variable)?;
             format!(in alloc; "{word}'")
@@ -152,17 +151,21 @@ fn walked(
     }
 }
 
-/// The deeds of a trace, or none where it is too long.
+/// The deeds of a trace, or none where it is too long; or how the fault of the tree's code is told.
+#[tactic(auto, using(st_meaning::proofs::Sources::coded_sound))]
 fn traced(
     alloc: Global,
     tree: &MethodTree,
     names: &Names,
     answers: &AnswerList,
-) -> Result<Option<Deeds>, AllocError> {
-    match trace(alloc, tree, names, answers) {
-        Ok(deeds) => Ok(Some(deeds)),
-        Err(MeaningFault::Long) => Ok(None),
-        Err(MeaningFault::OutOfMemory) => Err(AllocError),
+) -> Result<Result<Option<Deeds>, String>, AllocError> {
+    match compile(alloc, tree, names) {
+        Ok(_) => match trace(alloc, tree, names, answers) {
+            Ok(deeds) => Ok(Ok(Some(deeds))),
+            Err(MeaningFault::Long) => Ok(Ok(None)),
+            Err(MeaningFault::OutOfMemory) => Err(AllocError),
+        },
+        Err(fault) => Ok(Err(format!(in alloc; "{fault}")?)),
     }
 }
 
@@ -179,8 +182,10 @@ fn shown_trace(
         Err(fault) => return Ok(fault),
     };
     let answers = plain_answers(alloc, values)?;
-    let Some(deeds) = traced(alloc, &tree, names, &answers)? else {
-        return format!(in alloc; " long");
+    let deeds = match traced(alloc, &tree, names, &answers)? {
+        Ok(Some(deeds)) => deeds,
+        Ok(None) => return format!(in alloc; " long"),
+        Err(fault) => return Ok(fault),
     };
     let mut shown = String::new(alloc);
     add_deeds(&mut shown, alloc, &deeds)?;
@@ -207,12 +212,6 @@ fn shown(
     add_deeds(&mut shown, alloc, &deeds)?;
     Ok(shown)
 }
-
-const TRUE: Value = Value::Constant(Constant::True);
-
-const FALSE: Value = Value::Constant(Constant::False);
-
-const NIL: Value = Value::Constant(Constant::Nil);
 
 /// Texts, what their messages answer, and what is done.
 const ROWS: [(&[u8], &[Value], &str); 16] = [
@@ -295,7 +294,7 @@ fn add_answers(
     answers: &mut AnswerList,
     alloc: Global,
     count: usize,
-    changes: &[Change],
+    changes: &[(Variable, Value)],
 ) -> Result<(), AllocError> {
     for _ in 0..count {
         answers.push(Answer {
@@ -323,10 +322,7 @@ struct Case {
 
 /// The answers of a method's messages.
 fn answers_of(alloc: Global, case: Case) -> Result<AnswerList, AllocError> {
-    let change = Change {
-        variable: Place::Field(1),
-        value: TRUE,
-    };
+    let change = (Variable::Field(1), TRUE);
     let mut answers = Vec::new(alloc);
     add_answers(&mut answers, alloc, case.changing, &[change])?;
     add_answers(&mut answers, alloc, case.plain, &[])?;
@@ -359,7 +355,10 @@ fn counted(
     };
     let answers = answers_of(alloc, case)?;
     let by_code = length_of(&walked(alloc, &parts, &answers)?);
-    let by_tree = length_of(&traced(alloc, &tree, names, &answers)?);
+    let by_tree = match traced(alloc, &tree, names, &answers)? {
+        Ok(deeds) => length_of(&deeds),
+        Err(fault) => return Ok(fault),
+    };
     if by_code != by_tree {
         return format!(in alloc; "unlike");
     }
@@ -492,7 +491,11 @@ fn trees_that_no_text_means_have_a_trace(rt: HostRuntime) -> Result<(), Fail> {
     let names = names(rt.alloc())?;
     let tree = odd_tree(rt.alloc())?;
     let answers = plain_answers(rt.alloc(), &[TRUE])?;
-    let deeds = traced(rt.alloc(), &tree, &names, &answers)?.ok_or("too long")?;
+    let deeds = match traced(rt.alloc(), &tree, &names, &answers)? {
+        Ok(deeds) => deeds,
+        Err(_) => None,
+    };
+    let deeds = deeds.ok_or("no trace")?;
     let mut found = String::new(rt.alloc());
     add_deeds(&mut found, rt.alloc(), &deeds)?;
     assert_eq!(rt; found.as_str(), " f0' +. ^ true.");

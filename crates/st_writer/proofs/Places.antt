@@ -15,11 +15,11 @@ use Rattle.st_model.proofs.WholeLemmas.{formed_live}
 use Rattle.st_writer.specs.Written.{used_below, word_bytes, word_of, unit_words, root_word, bytes_at}
 use Rattle.st_writer.proofs.Bodies.{words_in_parts, length-object}
 
-some_there : (e : Option Object) → is_some e ≡ true → e ≡ Some (unwrap_or e nothing)
+pub some_there : (e : Option Object) → is_some e ≡ true → e ≡ Some (unwrap_or e nothing)
 some_there None live = cc
 some_there (Some o) live = refl
 
-none_there : (e : Option Object) → is_some e ≡ false → e ≡ None
+pub none_there : (e : Option Object) → is_some e ≡ false → e ≡ None
 none_there None live = refl
 none_there (Some o) live = cc
 

@@ -29,18 +29,11 @@ use Rattle.st_writer.proofs.Placing.{length-space, length-text}
 use Rattle.st_writer.proofs.Sums.{number_at, sum_below, sum_used, words_are, used_within, past_used}
 use Rattle.st_writer.proofs.Entries.{head_of, IsWritable, entries_are, is_odd, words_among, marks_at, place_at, size_at, class_at, object_used}
 use Rattle.st_writer.proofs.Back.{value_back, class_is, field_at, header_at, entry_back}
+use Rattle.st_model.proofs.Entries.{entry-get}
+use Rattle.st_model.proofs.TableLemmas.{entry_past}
+use Rattle.st_model.proofs.KindTests.{method_pointers}
 
 -- TABLES
-
-entry-past : (t : Table) (k : ℕ) → length t ≤ k → entry t k ≡ None
-entry-past [] k le = refl
-entry-past (e ∷ t) zero le = absurd (omega arith)
-entry-past (e ∷ t) (suc k) le = entry-past t k (omega arith)
-
-entry-get : (t : Table) (k : ℕ) → entry t k ≡ get_or t k None
-entry-get [] k = refl
-entry-get (e ∷ t) zero = refl
-entry-get (e ∷ t) (suc k) = entry-get t k
 
 is_some-cond : {A : Type 0} (b : Bool) (x : A) → is_some (cond b (Some x) None) ≡ b
 is_some-cond true x = refl
@@ -74,12 +67,6 @@ pointers_only kind.Pointers u e = refl
 pointers_only kind.Words u e = cc
 pointers_only kind.Bytes u e = cc
 pointers_only kind.Method u e = cc
-
-method_points : (k : Kind) → is_method k ≡ true → is_pointers k ≡ false
-method_points kind.Pointers e = cc
-method_points kind.Words e = refl
-method_points kind.Bytes e = refl
-method_points kind.Method e = refl
 
 odd_word : (x : Value) → is_small x ≡ true → (word_of x % 2 == 0) ≡ false
 odd_word (Small n) small = ne_eqb ((2 * n + 1) % 2) 0 (λ (e : (2 * n + 1) % 2 ≡ 0). omega arith)
@@ -137,7 +124,7 @@ module _ (v : View) (whole : IsWhole v) where
     where
       last : ((k < length t) ⊎ (length t ≤ k)) → entry t k ≡ None
       last (inl less) = past_used t (length t) k le less
-      last (inr more) = entry-past t k more
+      last (inr more) = entry_past t k more
 
   back : (k : ℕ) → entry_in head bytes k ≡ entry t k
   back = entry_back t n v.head can whole.unused past
@@ -286,7 +273,7 @@ module _ (v : View) (whole : IsWhole v) where
           let f = (whole.formed k o e).has_header method in
           let odd : (body head bytes k 0 % 2 == 0) ≡ false = ap (λ (x : ℕ). x % 2 == 0) (field_at t n v.head can k o k_in e 0 f) ∙ odd_word (get_or o.fields 0 nil) l.0 in
           let l1 = l.1 in
-          or_from _ _ (or_from _ _ (or_from _ _ (m.pointers ∙ method_points o.kind method) (ne_eqb (size head bytes k) 2 (λ (same : size head bytes k ≡ 2). omega arith))) odd) (le-ltb (size head bytes k - 3) (literal_count (body head bytes k 0)) (omega arith))
+          or_from _ _ (or_from _ _ (or_from _ _ (m.pointers ∙ method_pointers o.kind method) (ne_eqb (size head bytes k) 2 (λ (same : size head bytes k ≡ 2). omega arith))) odd) (le-ltb (size head bytes k - 3) (literal_count (body head bytes k 0)) (omega arith))
 
       by_class : (o : Object) → k < n → entry t k ≡ Some o → (((class head bytes k == 34) ≡ true) ⊎ ((class head bytes k == 34) ≡ false))
           → ((class head bytes k == 34) && (has_pointers head bytes k || (size head bytes k == 2) || (body head bytes k 0 % 2 == 0) || nat_lt (size head bytes k - 3) (literal_count (body head bytes k 0)))) ≡ false

@@ -4,11 +4,11 @@ use Rattle.st_model.specs.Machine.{State, Went}
 use Rattle.st_model.specs.Deeds.{with_deed}
 use Rattle.st_model.specs.Table.{Table, bounded_table}
 use Rattle.st_model.specs.View.{View}
-use Rattle.st_frames.specs.Rows.{row_state}
+use Rattle.st_frames.specs.Rows.{row_state, registers_in}
 use Rattle.st_frames.specs.Shown.{shown}
 use Rattle.st_frames.proofs.Stored.{loaded}
 use Rattle.st_at_once.proofs.Fixed.{same_name}
-use Rattle.st_at_once.specs.AtOnce.{deed_left, IsDoneBut, step_at_once}
+use Rattle.st_at_once.specs.AtOnce.{deed_left, IsDoneBut, NamesSame, step_at_once}
 use Rattle.st_at_once.proofs.OverMemory.{quick_dies, quick_foreseen, quick_done, quick_there, quick_held, left_uses, done_but}
 use Rattle.st_at_once.proofs.quick.step_from.Goals as goal
 
@@ -42,6 +42,10 @@ hold_again-requires-clause-there g c =
     (quick_done (shown v f w) (Ok end) (with_deed deed d)
     (ap (λ (s : State Table). (step_at_once bounded_table).run s) (sym (loaded v f w c.args.r.now c.requires.same refl)) ∙ c.in_ok-end.ensures.does.does)
     end refl (sym c.if-was_done.ensures))
+
+pub hold_again-requires-clause-stays : goal.hold_again-requires-clause-stays
+hold_again-requires-clause-stays g c = λ e.
+    subst (λ q. NamesSame q (registers_in c.row_at_once.new.r)) c.requires.same (c.in_ok-end.ensures.stays (ap Ok e))
 
 pub returns-then-was_done-clause-done : goal.returns-then-was_done-clause-done
 returns-then-was_done-clause-done g c =

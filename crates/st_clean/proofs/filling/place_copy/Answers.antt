@@ -5,11 +5,12 @@ use Rattle.st_model.specs.Formed.{fresh}
 use Rattle.st_model.specs.View.{object_of}
 use Rattle.st_model.proofs.WholeLemmas.{formed_live}
 use Rattle.st_clean.proofs.Parts.{part_makeable, fresh_part, part_words}
-use Rattle.st_clean.proofs.Pointers.{small_live, borne_live, class_half}
+use Rattle.st_clean.proofs.Pointers.{borne_live, class_half}
 use Rattle.st_clean.proofs.filling.place_copy.Goals as goal
+use Rattle.st_model.proofs.Making.{live_even}
 
 pub place-requires-clause-even : goal.place-requires-clause-even
-place-requires-clause-even g c = small_live (g.M.Memory.view c.args.m.now).objects (value c.args.o) c.requires.live
+place-requires-clause-even g c = live_even (g.M.Memory.view c.args.m.now).objects (value c.args.o) c.requires.live
 
 pub place-requires-clause-borne : goal.place-requires-clause-borne
 place-requires-clause-borne g c = borne_live (g.M.Memory.view c.args.m.now) (g.met.M.Memory.whole c.args.m.now) c.args.o c.requires.live

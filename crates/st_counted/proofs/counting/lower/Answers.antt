@@ -13,8 +13,8 @@ lower-requires-clause-most c =
     let some = c.requires.some small in
     subst (λ k. 1 ≤ number_at (counts_of c.args.counts.now) k) (sym place) (omega (arith, some))
 
-pub returns-then-not-is_small : goal.returns-then-not-is_small
-returns-then-not-is_small c =
+pub returns-then-not-is_small-clause-counts : goal.returns-then-not-is_small-clause-counts
+returns-then-not-is_small-clause-counts c =
     let small : is_small (value c.args.v) ≡ false = grind (arith, common_steps) in
     let place : c.from.result ≡ c.args.v.0 / 2 = grind (arith, common_steps) in
-    c.lower.ensures ∙ ap (λ k. lowered (counts_of c.args.counts.now) k 1) place ∙ sym (lowered_even (counts_of c.args.counts.now) c.args.v.0 small)
+    c.lower.ensures.counts ∙ ap (λ k. lowered (counts_of c.args.counts.now) k 1) place ∙ sym (lowered_even (counts_of c.args.counts.now) c.args.v.0 small)

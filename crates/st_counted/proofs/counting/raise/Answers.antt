@@ -6,8 +6,8 @@ use Rattle.st_counted.specs.Contents.{counts_of}
 use Rattle.st_counted.proofs.Tallying.{raised_even}
 use Rattle.st_counted.proofs.counting.raise.Goals as goal
 
-pub returns-then-not-is_small : goal.returns-then-not-is_small
-returns-then-not-is_small c =
+pub returns-then-not-is_small-clause-counts : goal.returns-then-not-is_small-clause-counts
+returns-then-not-is_small-clause-counts c =
     let small : is_small (value c.args.v) ≡ false = grind (arith, common_steps) in
     let place : c.from.result ≡ c.args.v.0 / 2 = grind (arith, common_steps) in
-    c.raise.ensures ∙ ap (λ k. raised (counts_of c.args.counts.now) k c.args.by) place ∙ sym (raised_even (counts_of c.args.counts.now) c.args.v.0 c.args.by small)
+    c.raise.ensures.counts ∙ ap (λ k. raised (counts_of c.args.counts.now) k c.args.by) place ∙ sym (raised_even (counts_of c.args.counts.now) c.args.v.0 c.args.by small)

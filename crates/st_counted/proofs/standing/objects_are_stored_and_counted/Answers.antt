@@ -12,6 +12,6 @@ returns c =
       stored = λ k o is. stands (stored_of m.contents.objects.store) m.contents.objects.sound k o is;
       counted = record {
         count = counts v.objects (all_roots v) (numbers_of m.contents) m.counted;
-        zeros = m.contents.counts.listed;
+        zeros = m.listed.list;
       };
     }

@@ -8,9 +8,10 @@ use Rattle.st_first_objects.specs.Pointers.{value_in}
 use Rattle.st_first_objects.specs.Placing.{Puts, filled}
 use Rattle.st_first_objects.specs.Views.{field_of, fields_of}
 use Rattle.st_first_objects.specs.declared.content.Field.TheVariants.{Empty as code_empty}
-use Rattle.st_first_objects.proofs.Tables.{free_at, put_first, put_live, put_object, put_field, filled_none, filled_all, filled_length, filled_next}
+use Rattle.st_first_objects.proofs.Tables.{put_first, put_live, put_object, put_field, filled_none, filled_all, filled_length, filled_next}
 use Rattle.st_first_objects.proofs.Lists.{values_long, value_at}
 use Rattle.st_first_objects.proofs.placing.place_fields.Goals as goal
+use Rattle.st_model.proofs.Entries.{free_at}
 
 abbrev fields_object : ℕ → List Value → Object
 fields_object class fields = record { class = class; kind = kind.Pointers; fields = fields; units = [] }

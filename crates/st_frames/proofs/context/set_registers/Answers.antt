@@ -7,7 +7,7 @@ use Rattle.st_frames.proofs.context.set_registers.Goals as goal
 pub invariant_of-r : goal.invariant_of-r
 invariant_of-r g c =
     let m = g.O.Objects.names in
-    let t = g.O.Objects.table c.args.m.now in
+    let t = g.O.Objects.table c.args._m.now in
     let f = c.args.new.now in
     let there : are_there m t (fetched_in f) ≡ true = search rules in
     record {

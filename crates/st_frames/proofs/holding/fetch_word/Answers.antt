@@ -3,24 +3,19 @@ use Rattle.st_model.specs.Values.{word}
 use Rattle.st_model.specs.Contexts.{fetch_context_registers}
 use Rattle.st_model.specs.Table.{table}
 use Rattle.st_frames.specs.Shown.{FetchesFrame}
-use Rattle.st_frames.proofs.Scheduled.{dead-registers, dead-there, fetched-frame}
+use Rattle.st_frames.proofs.Scheduled.{dead-fetched, fetched-frame}
 use Rattle.st_frames.proofs.holding.fetch_word.Goals as goal
 
 pub returns-in_err-new-clause-registers : goal.returns-in_err-new-clause-registers
 returns-in_err-new-clause-registers g c =
     let v = g.M.Memory.view c.args.m.now in
     let e : c.from_residual.result ≡ Err c.in_err-new.field-0.0 = search rules in
-    subst (λ x. FetchesFrame (fetch_context_registers table (word c.args.context)) v x v) (sym e) (dead-registers v v (word c.args.context) c.in_err-new.field-0.0 c.in_err-new.ensures)
-
-pub returns-then-not-are_there-clause-registers : goal.returns-then-not-are_there-clause-registers
-returns-then-not-are_there-clause-registers g c =
-    let v = g.M.Memory.view c.args.m.now in
-    let there = c.if-not-are_there.ensures in
-    dead-there v v (word c.args.context) c.in_ok-new.new c.in_ok-new.ensures (sym there)
+    subst (λ x. FetchesFrame (fetch_context_registers table (word c.args.context)) v x v) (sym e) (dead-fetched v v (word c.args.context) c.in_err-new.field-0.0 c.in_err-new.ensures.dead)
 
 pub returns-clause-registers : goal.returns-clause-registers
 returns-clause-registers g c =
     let v = g.M.Memory.view c.args.m.now in
     let w = g.M.Memory.view c.hold_fetched.new.m in
     let held = c.hold_fetched.ensures in
-    fetched-frame v w (word c.args.context) c.in_ok-new.new c.hold_fetched.result c.in_ok-new.ensures (sym c.if-not-are_there.ensures) held.same held.objects held.head
+    let read = c.in_ok-new.ensures in
+    fetched-frame v w (word c.args.context) c.in_ok-new.new c.hold_fetched.result read.registers read.there held.same held.objects held.head

@@ -3,8 +3,9 @@ use Rattle.st_model.proofs.Words.{is_small-value_of}
 use Rattle.st_image.specs.Loads.{fresh_in}
 use Rattle.st_image.proofs.FaultRows.{used_above, named_even}
 use Rattle.st_image.proofs.Shapes.{makeable, fresh_in-words}
-use Rattle.st_image.proofs.Tables.{free_at, puts_object}
+use Rattle.st_image.proofs.Tables.{puts_object}
 use Rattle.st_image.proofs.loading.place_object.Goals as goal
+use Rattle.st_model.proofs.Entries.{free_at}
 
 pub place-requires-clause-borne : goal.place-requires-clause-borne
 place-requires-clause-borne g c = λ e. let a = used_above c.args.image.now.head c.args.image.now.bytes.now c.args.k c.requires.used in let b = c.pointer_of-at.ensures.pointer in omega arith

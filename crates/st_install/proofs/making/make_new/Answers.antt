@@ -4,8 +4,9 @@ use Rattle.st_model.specs.Table.{placed}
 use Rattle.st_model.specs.Formed.{IsMakeable, fresh}
 use Rattle.st_install.specs.Installing.{size_by}
 use Rattle.st_install.specs.Readies.{object_of as planned_of}
-use Rattle.st_install.proofs.Makings.{named_word, class_there, makeable, room_for, makes, new_becomes}
+use Rattle.st_install.proofs.Makings.{class_there, makeable, room_for, makes, new_becomes}
 use Rattle.st_install.proofs.making.make_new.Goals as goal
+use Rattle.st_memory.proofs.Wide.{named_word}
 
 pub make-requires-clause-class : goal.make-requires-clause-class
 make-requires-clause-class g c = class_there (planned_of c.args.object.now) (g.M.Memory.view c.args.m.now) c.requires.goes

@@ -4,8 +4,9 @@ use Rattle.st_model.specs.Objects.{first_unit}
 use Rattle.st_model.specs.Table.{Table}
 use Rattle.st_model.specs.View.{object_of}
 use Rattle.st_install.specs.Carried.{KeepsFields}
-use Rattle.st_install.proofs.Going.{byte_takes, byte_becomes, byte_range, bytes_words, unit_fields}
+use Rattle.st_install.proofs.Going.{byte_takes, byte_becomes, byte_range, unit_fields}
 use Rattle.st_install.proofs.sure.store_byte.Goals as goal
+use Rattle.st_model.proofs.KindTests.{bytes_words}
 
 pub set_byte-requires-clause-live : goal.set_byte-requires-clause-live
 set_byte-requires-clause-live g c = (byte_takes (g.M.Memory.view c.args.m.now) (value c.args.o) c.args.i c.args.byte c.requires).live

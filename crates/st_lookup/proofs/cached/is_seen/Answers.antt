@@ -10,8 +10,8 @@ use Rattle.st_model.specs.Calls.{Reads}
 use Rattle.st_lookup.specs.Places.{found_word}
 use Rattle.st_lookup.specs.Remembered.{watched}
 use Rattle.st_memory.proofs.Unbounded.{search_bounded}
-use Rattle.st_lookup.proofs.Looked.{value_same}
 use Rattle.st_lookup.proofs.cached.is_seen.Goals as goal
+use Rattle.st_model.proofs.SameValues.{value_same}
 
 pub returns-in-Ok-Some : goal.returns-in-Ok-Some
 returns-in-Ok-Some g c same s e =

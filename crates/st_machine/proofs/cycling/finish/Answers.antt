@@ -2,7 +2,7 @@ use Rattle.std.proofs.Common.{ap, ◌∙◌}
 use Rattle.st_model.specs.Table.{table}
 use Rattle.st_model.specs.Cycles.{warned}
 use Rattle.st_machine.proofs.Done.{ready_after}
-use Rattle.st_machine.proofs.Settled.{settled_same}
+use Rattle.st_frames.proofs.Settled.{settled_same}
 use Rattle.st_machine.proofs.Foreseeing.{warned_same, frame_stays}
 use Rattle.st_machine.proofs.cycling.finish.Goals as goal
 
@@ -14,10 +14,10 @@ returns-clause-state g c =
     let f = c.args.f.now in
     let w = c.args.w.now in
     let told = c.warn.ensures in
-    ap (warned table) (settled_same u k f w c.requires.ready c.settle.ensures) ∙ warned_same k z f w c.warn.new.w told.world told.objects told.head
+    ap (warned table) (settled_same u k f w c.requires.ready c.settle.ensures.settles) ∙ warned_same k z f w c.warn.new.w told.world told.objects told.head
 
 pub returns-clause-ready : goal.returns-clause-ready
 returns-clause-ready g c =
     let k = g.M.Memory.view c.settle.new.self in
     let f = c.args.f.now in
-    ready_after k (g.M.Memory.view c.warn.new.m) f c.warn.new.w (frame_stays (g.M.Memory.view c.args.m.now) k f c.requires.ready.frame c.settle.ensures.held) c.warn.ensures.held
+    ready_after k (g.M.Memory.view c.warn.new.m) f c.warn.new.w (frame_stays (g.M.Memory.view c.args.m.now) k f c.requires.ready.frame c.settle.ensures.settles.held) c.warn.ensures.held

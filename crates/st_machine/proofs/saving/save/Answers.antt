@@ -3,7 +3,7 @@ use Rattle.st_model.specs.Births.{births}
 use Rattle.st_model.specs.Saving.{save}
 use Rattle.st_frames.specs.Shown.{shown}
 use Rattle.st_machine.specs.Asked.{SavedAs}
-use Rattle.st_machine.proofs.Settled.{settled_same}
+use Rattle.st_frames.proofs.Settled.{settled_same}
 use Rattle.st_machine.proofs.Asked.{save_dies, saved}
 use Rattle.st_machine.proofs.saving.save.Goals as goal
 
@@ -23,4 +23,4 @@ returns-clause-saves g c s h =
     let f = c.store_process.new.f in
     let w = c.store_process.new.w in
     saved v c.args.f.now c.args.w.now (g.met.M.Memory.whole c.args.m.now) c.requires.ready s h (shown u f w) (shown k f w) c.in_ok-store_process.ensures.does
-    (settled_same u k f w c.in_ok-store_process.ensures.ready c.settle.ensures)
+    (settled_same u k f w c.in_ok-store_process.ensures.ready c.settle.ensures.settles)

@@ -6,8 +6,8 @@ use Rattle.st_frames.specs.Shown.{shown}
 use Rattle.st_at_once.specs.AtOnce.{IsDoneBut}
 use Rattle.st_machine.specs.Cycling.{GoesCalmly, warns}
 use Rattle.st_machine.proofs.Calm.{unwarned}
-use Rattle.st_machine.proofs.Foreseeing.{dies_at_once, goes_by}
-use Rattle.st_machine.proofs.Settled.{settled_same}
+use Rattle.st_machine.proofs.Foreseeing.{dies_at_once, goes_by, done_here, was_here}
+use Rattle.st_frames.proofs.Settled.{settled_same}
 use Rattle.st_machine.proofs.stretch.do_calmly.Goals as goal
 
 pub returns-in_err-step_from-clause-step : goal.returns-in_err-step_from-clause-step
@@ -32,7 +32,7 @@ returns-then-needs_warning-clause-step g c = λ e l.
     let f = c.step_from.new.f in
     let w = c.args.r.now.world.now in
     let start = shown (g.M.Memory.view c.args.near.now.memory.now) c.args.f.now w in
-    let done = subst (λ y. IsDoneBut start c.step_from.new.left (Ok y) (shown u f w)) c.in-Done.is c.in_ok-step_from.ensures.done in
+    let done = done_here start c.step_from.new.left c.in_ok-step_from.field-0 (shown u f w) c.in-Stays.is c.in_ok-step_from.ensures.done in
     let settled = settled_same u k f w c.in_ok-step_from.ensures.ready c.settle.ensures.settles in
     goes_by start (shown u f w) done e (ap (warned table) settled ∙ l)
 
@@ -43,8 +43,11 @@ returns-else-needs_warning-clause-step g c =
     let f = c.step_from.new.f in
     let w = c.args.r.now.world.now in
     let start = shown (g.M.Memory.view c.args.near.now.memory.now) c.args.f.now w in
-    let done = subst (λ y. IsDoneBut start c.step_from.new.left (Ok y) (shown u f w)) c.in-Done.is c.in_ok-step_from.ensures.done in
+    let done = done_here start c.step_from.new.left c.in_ok-step_from.field-0 (shown u f w) c.in-Stays.is c.in_ok-step_from.ensures.done in
     let settled = settled_same u k f w c.in_ok-step_from.ensures.ready c.settle.ensures.settles in
     goes_by start (shown u f w) done (shown k f w)
     (ap (warned table) settled ∙ unwarned (shown k f w)
     (subst (λ x. warns (free_space table (shown k f w)) x ≡ false) c.step_from.ensures.world (sym c.if-needs_warning.ensures)))
+
+pub returns-else-needs_warning-clause-same : goal.returns-else-needs_warning-clause-same
+returns-else-needs_warning-clause-same g c = λ e. c.in_ok-step_from.ensures.same (was_here c.in_ok-step_from.field-0 c.in-Stays.is)

@@ -1,4 +1,4 @@
-use Rattle.std.proofs.Common.{◌≡◌, ℕ, ◌+◌, ◌<◌, ◌≤◌, ◌==◌, Bool, true, false, List, [], ◌∷◌, IfOk, length, take, drop, get_or, Some, refl, sym, ap, ◌∙◌, subst, arith, add-one}
+use Rattle.std.proofs.Common.{◌≡◌, ℕ, ◌+◌, ◌<◌, ◌≤◌, ◌==◌, Bool, true, false, List, [], ◌∷◌, ◌++◌, IfOk, length, take, drop, get_or, Some, refl, sym, ap, ◌∙◌, subst, arith, add-one}
 use Rattle.std.proofs.lemmas.Bool.Decides.{nat_tests}
 use Rattle.std.proofs.lemmas.List.{at_drop_all, take_all}
 use Rattle.st_scan.specs.declared.tree.Expression.{Expression, size-Expression}
@@ -8,11 +8,11 @@ use Rattle.st_scan.specs.declared.chain.Link.{Link}
 use Rattle.st_scan.specs.Views.{ExpressionView, expression_view, expressions_view, messages_view, statements_view, is_super}
 use Rattle.st_scan.specs.Chains.{linked, link_view, links_view, with_link, link_size, links_size}
 use Rattle.st_scan.proofs.Chains.{linked_take, links_within}
-use Rattle.st_emit.specs.Nodes.{assigned, sided, loop, node, nothing, returned, is_above}
+use Rattle.st_emit.specs.Nodes.{sided, loop, node, nothing, returned, is_above}
 use Rattle.st_emit.specs.Resolving.{by_selector, before, names_in, names_in_all, names_in_messages, names_in_statements, expression_node, plain_tail}
 use Rattle.st_emit.specs.Drafts.{Resolves}
 use Rattle.st_emit.specs.Around.{context, at_number, message_of, link_tail}
-use Rattle.st_emit.specs.Emits.{chained, after, after_all, after_statements, place_at}
+use Rattle.st_emit.specs.Emits.{chained, after, after_all, after_statements}
 use Rattle.st_emit.specs.Shapes.{plain, one_sided, two_sided, repetition_view, repetition_of, first_repetition}
 use Rattle.st_emit.proofs.Follow.{names_behind, super_at, no_loop_at, link_within}
 use Rattle.st_meaning.specs.declared.arena.Statements.{Statements}
@@ -24,7 +24,7 @@ use Rattle.st_meaning.specs.Meant.{IsNode, IsStart, IsChain, IsAct, IsArguments,
 use Rattle.st_meaning.specs.Sketches.{literals_of, Builds, node_naming, chain_naming, begun_naming, arguments_naming, message_naming, cascade_naming, messages_naming, sent_naming, link_naming, body_naming, two_naming, loop_naming}
 use Rattle.st_meaning.proofs.Meant.{chain_none, arguments_none, arguments_one, messages_none, messages_one, behind_none, behind_before, behind_returned, behind_body, one_is, loop_is}
 use Rattle.st_meaning.proofs.Shaped.{begins_loop}
-use Rattle.st_meaning.proofs.Sketching.{GoesOn, goes_first, goes_turn, goes_done, goes_last, drop_item, builds_then, builds_as, builds_map, builds_resolved, builds_put, message_built, plain_built, shaped_built, two_built, true_first, false_first, empty_built, cascade_built, only_built, link_built, statement_kept, statement_returned, kept_names, last_names, ok_weaker}
+use Rattle.st_meaning.proofs.Sketching.{GoesOn, goes_first, goes_turn, goes_done, goes_last, drop_item, builds_then, builds_as, builds_map, assign_built, builds_put, message_built, plain_built, shaped_built, two_built, true_first, false_first, empty_built, cascade_built, only_built, link_built, statement_kept, statement_returned, kept_names, last_names, ok_weaker}
 use Rattle.st_meaning.proofs.sketch.+sketching.Goals as goal
 
 -- ARGUMENTS
@@ -160,7 +160,7 @@ sends-returns-clause-built t c =
     let above = is_above c.args.lookup in
     let test : (length c.args.messages.now == 0) ≡ false = cc in
     let some : 0 < length c.args.messages.now = grind (arith, nat_tests) in
-    let made = cascade_built above c.args.around c.args.messages.now c.in_ok-made.made c.args.sketch.now c.cascade.new.sketch some c.requires c.in_ok-made.ensures.built in
+    let made = cascade_built above c.args.around c.args.messages.now c.in_ok-made.made c.args.sketch.now c.cascade.new.sketch some c.requires.cascade c.in_ok-made.ensures.built in
     subst (λ (b : Bool). Builds (messages_naming above c.args.around c.args.messages.now) (IsAct (Send b c.in_ok-made.made)) c.args.sketch.now c.cascade.new.sketch) (sym c.is_above-above.ensures) made
 
 -- LINKS
@@ -169,8 +169,8 @@ pub linked-returns-in_ok-place-in-Assign-clause-built : goal.linked-returns-in_o
 linked-returns-in_ok-place-in-Assign-clause-built t c =
     let place = c.in_ok-place-in-Assign.place in
     let new = record c.args.sketch.now { draft = c.place_of_name.new.draft } in
-    let made = builds_resolved (place_at c.args.around c.in-Assign.target.now) (λ p. assigned p) (IsAct (Assign place)) c.args.sketch.now new place c.in_ok-place-in-Assign.ensures refl (λ ms n v. refl) in
-    subst (λ (l : Link). Builds (link_naming (is_above c.args.lookup) c.args.around l) (IsAct (Assign place)) c.args.sketch.now new) (sym c.in-Assign.is) made
+    let made = assign_built c.args.around c.in-Assign.target.now place c.variable_of.result c.args.sketch.now new c.requires c.in_ok-place-in-Assign.ensures refl c.variable_of.ensures in
+    subst (λ (l : Link). Builds (link_naming (is_above c.args.lookup) c.args.around l) (IsAct (Assign c.variable_of.result)) c.args.sketch.now new) (sym c.in-Assign.is) made
 
 pub linked-returns-in-Some-clause-built : goal.linked-returns-in-Some-clause-built
 linked-returns-in-Some-clause-built t c =
@@ -270,7 +270,7 @@ follow-loop-i-init t c =
     let naming = begun_naming c.args.around c.args.first.now c.args.links.now c.in_ok-start.taken in
     let begun = builds_as naming naming (IsStart c.in_ok-start.start) (IsChain c.in_ok-start.start []) c.args.sketch.now c.beginning.new.sketch refl (λ ms x h. chain_none c.in_ok-start.start ms x h) c.in_ok-start.ensures.built in
     record {
-      built = subst (λ (acts : List Act). Builds naming (IsChain c.in_ok-start.start acts) c.args.sketch.now c.beginning.new.sketch) (sym c.new-acts.ensures.items) begun;
+      built = subst (λ (acts : List Act). Builds naming (IsChain c.in_ok-start.start acts) c.args.sketch.now c.beginning.new.sketch) (sym c.new.ensures.items) begun;
       next = c.in_ok-start.ensures.next;
     }
 
@@ -279,7 +279,7 @@ follow-linked-requires t c =
     let link = c.index-links-i.result in
     let within = link_within c.args.links.now c.loop-i.i link c.loop-i-test.true in
     let here : link_size link ≡ link_size (get_or c.args.links.now c.loop-i.i link) = ap link_size c.index-links-i.is in
-    (omega (arith, within, here), tt)
+    (omega (arith, within, here), c.requires.few)
 
 pub follow-loop-i-preserved : goal.follow-loop-i-preserved
 follow-loop-i-preserved t c =
@@ -294,16 +294,16 @@ follow-loop-i-preserved t c =
     let above : is_above c.lookup_behind-lookup.result ≡ is_super so_far = c.lookup_behind-lookup.ensures ∙ super_at i start links (omega arith) in
     let at : c.loop-i.next ≡ c.args.around.next + names_in so_far = kept.next in
     let link_at = λ (b : Bool) (n : ℕ). Builds (link_tail b (link_view link) (record around { next = n })) (IsAct act) c.loop-i.sketch c.linked.new.sketch in
-    let one = subst (λ (b : Bool). link_at b (c.args.around.next + names_in so_far)) above (subst (λ (n : ℕ). link_at (is_above c.lookup_behind-lookup.result) n) at c.in_ok-act.ensures.built) in
+    let one = subst (λ (b : Bool). link_at b (c.args.around.next + names_in so_far)) {x = is_above c.lookup_behind-lookup.result} above (subst (λ (n : ℕ). link_at (is_above c.lookup_behind-lookup.result) n) {x = c.loop-i.next} at c.in_ok-act.ensures.built) in
     let no_loop = ap (λ (l : Link). repetition_of so_far (link_view l)) c.index-links-i.is ∙ no_loop_at i start links link c.loop-i-test.true (λ zero. c.in_ok-start.ensures.no_loop (omega arith)) in
-    let two = link_built c.args.around so_far (link_view link) c.loop-i.start-1 c.loop-i.acts.items act c.args.sketch.now c.loop-i.sketch c.linked.new.sketch no_loop kept.built one in
+    let two = link_built c.args.around so_far (link_view link) c.loop-i.node.start c.loop-i.node.acts.items act c.args.sketch.now c.loop-i.sketch c.linked.new.sketch no_loop kept.built one in
     let longer : with_link (link_view link) so_far ≡ linked start (links_view (take (i + 1) links)) =
     ap (λ (l : Link). with_link (link_view l) so_far) c.index-links-i.is ∙ sym (linked_take start links i link c.loop-i-test.true) ∙ ap (λ (j : ℕ). linked start (links_view (take j links))) (sym (add-one i)) in
     let named : c.in_ok-act.behind ≡ c.args.around.next + names_in (with_link (link_view link) so_far) = omega (arith, names_behind (link_view link) so_far, at, c.in_ok-act.ensures.next) in
-    let put = subst (λ (acts : List Act). Builds (expression_node (with_link (link_view link) so_far) around) (IsChain c.loop-i.start-1 acts) c.args.sketch.now c.linked.new.sketch) (sym c.in_ok-push.ensures.items) two in
+    let put = subst (λ (acts : List Act). Builds (expression_node (with_link (link_view link) so_far) around) (IsChain c.loop-i.node.start acts) c.args.sketch.now c.linked.new.sketch) {x = c.loop-i.node.acts.items ++ act ∷ []} (sym {b = c.loop-i.node.acts.items ++ act ∷ []} c.in_ok-push.ensures.items) two in
     record {
-      built = subst (λ (x : ExpressionView). Builds (expression_node x around) (IsChain c.loop-i.start-1 c.push.new.self.items) c.args.sketch.now c.linked.new.sketch) longer put;
-      next = subst (λ (x : ExpressionView). c.in_ok-act.behind ≡ c.args.around.next + names_in x) longer named;
+      built = subst (λ (x : ExpressionView). Builds (expression_node x around) (IsChain c.loop-i.node.start c.push.new.self.items) c.args.sketch.now c.linked.new.sketch) {x = with_link (link_view link) so_far} longer put;
+      next = subst (λ (x : ExpressionView). c.in_ok-act.behind ≡ c.args.around.next + names_in x) {x = with_link (link_view link) so_far} longer named;
     }
 
 pub follow-returns-clause-built : goal.follow-returns-clause-built
@@ -311,14 +311,14 @@ follow-returns-clause-built t c =
     let links : List Link = c.args.links.now in
     let all : length links ≤ c.loop-i.i = omega arith in
     let whole : take c.loop-i.i links ≡ links = take_all c.loop-i.i links all in
-    let built = subst (λ (ls : List Link). Builds (chain_naming c.args.around c.args.first.now ls) (IsChain c.loop-i.start-1 c.loop-i.acts.items) c.args.sketch.now c.loop-i.sketch) whole c.loop-i.invariant.built in
-    builds_put (chain_naming c.args.around c.args.first.now links) c.args.sketch.now c.loop-i.sketch c.put.new.self (record { start = c.loop-i.start-1; acts = c.loop-i.acts }) c.in_ok-place.place built c.in_ok-place.ensures.place c.in_ok-place.ensures.nodes c.put.ensures.draft
+    let built = subst (λ (ls : List Link). Builds (chain_naming c.args.around c.args.first.now ls) (IsChain c.loop-i.node.start c.loop-i.node.acts.items) c.args.sketch.now c.loop-i.sketch) whole c.loop-i.invariant.built in
+    builds_put (chain_naming c.args.around c.args.first.now links) c.args.sketch.now c.loop-i.sketch c.put.new.self c.loop-i.node c.in_ok-place.place built c.in_ok-place.ensures.place c.in_ok-place.ensures.nodes c.put.ensures.draft
 
 pub value-follow-requires : goal.value-follow-requires
 value-follow-requires t c =
     let links = ap links_size c.deref.ensures.value in
     let within = links_within (size-Expression c.args.e.now) c.in_ok-chain.chain.links.items c.in_ok-chain.ensures.within.links in
-    (omega (arith, links, within, c.in_ok-chain.ensures.within.start), c.in_ok-chain.ensures.start)
+    (omega (arith, links, within, c.in_ok-chain.ensures.within.start), (c.requires, c.in_ok-chain.ensures.start))
 
 pub value-returns-clause-built : goal.value-returns-clause-built
 value-returns-clause-built t c =

@@ -68,6 +68,6 @@ invariant-body-loop-s l = record {
 
 abbrev pub invariant-follow-loop-i : goal.invariant-follow-loop-i
 invariant-follow-loop-i l = record {
-  built : Builds (begun_naming l.around l.first l.links l.i) (IsChain l.start l.acts.items) l.fn.sketch l.sketch;
+  built : Builds (begun_naming l.around l.first l.links l.i) (IsChain l.node.start l.node.acts.items) l.fn.sketch l.sketch;
   next : l.next ≡ after_begun l.around l.first l.links l.i;
 }

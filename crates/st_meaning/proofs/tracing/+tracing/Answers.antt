@@ -6,7 +6,7 @@ use Rattle.st_meaning.specs.declared.arena.Start.{Start}
 use Rattle.st_meaning.specs.declared.arena.Act.{Act}
 use Rattle.st_meaning.specs.declared.arena.Message.{Message}
 use Rattle.st_meaning.specs.declared.tracing.TurnEnd.{TurnEnd}
-use Rattle.st_meaning.specs.Runs.{went, long, answer_to, assign_to, make_block}
+use Rattle.st_meaning.specs.Runs.{long, answer_to, assign_to, make_block}
 use Rattle.st_meaning.specs.Meanings.{most}
 use Rattle.st_meaning.specs.Courses.{going_view, stack_view, IsLongTest}
 use Rattle.st_meaning.specs.Arenas.{act_run, message_run, runs_of}
@@ -108,7 +108,7 @@ acts-loop-one-preserved t c =
     record {
       goes = each_went (act_run most (runs_of most xs) c.args.bound) c.args.acts.now c.loop-one.one-index c.one-item.result c.loop-one.value c.in-Some.next old next (acts_in xs c.args.bound c.args.acts.now c.args.begun (going_view c.args.course.now))
           c.loop-one-test.true c.one-item.is did c.loop-one.invariant.goes;
-      table = c.act.ensures.table;
+      sound = c.act.ensures.sound;
     }
 
 pub acts-returns-in-None-clause-goes : goal.acts-returns-in-None-clause-goes
@@ -197,7 +197,7 @@ sends-loop-one-preserved t c =
     record {
       goes = each_went each c.args.messages.now c.loop-one.one-index c.one-item.result c.loop-one.value c.in-Some.answer old next (messages_in xs c.args.bound c.args.above c.args.receiver c.args.messages.now (going_view c.args.course.now))
           c.loop-one-test.true c.one-item.is did c.loop-one.invariant.goes;
-      table = c.message.ensures.table;
+      sound = c.message.ensures.sound;
     }
 
 pub sends-returns-in-None-clause-goes : goal.sends-returns-in-None-clause-goes
@@ -388,7 +388,7 @@ looped-loop-left-preserved t c =
     let again = subst (λ (e : TurnEnd). EndsTurn xs n c.args.kind c.args.condition.now c.args.repeated.now c.loop-left.course c.turn.new.course e) c.in-Again.is c.in_ok-turn.ensures.goes in
     record {
       goes = turned_again xs n c.args.kind c.args.condition.now c.args.repeated.now whole c.loop-left.left c.loop-left.course c.turn.new.course some again c.loop-left.invariant.goes;
-      table = c.turn.ensures.table;
+      sound = c.turn.ensures.sound;
     }
 
 pub looped-returns-in-Left-clause-goes : goal.looped-returns-in-Left-clause-goes

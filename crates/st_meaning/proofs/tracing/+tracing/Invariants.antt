@@ -1,6 +1,6 @@
 use Rattle.std.proofs.Common.{◌≡◌, ◌+◌, ◌*◌, ◌∷◌, drop, length}
 use Rattle.st_meaning.specs.Meanings.{most}
-use Rattle.st_meaning.specs.Courses.{going_view, stack_view, IsTable}
+use Rattle.st_meaning.specs.Courses.{going_view, stack_view, IsSound}
 use Rattle.st_meaning.specs.Arenas.{each, place_run, act_run, message_run, runs_of}
 use Rattle.st_meaning.specs.Traced.{acts_in, messages_in, arguments_in, nodes_in, loop_in, body_in}
 use Rattle.st_meaning.specs.Traces.{turns}
@@ -51,31 +51,31 @@ decreases-statements l = 16 * length l.before.now + 10
 abbrev pub invariant-acts-loop-one : goal.invariant-acts-loop-one
 invariant-acts-loop-one l = record {
   goes : each (act_run most (runs_of most l.before) l.bound) (drop l.one-index l.acts) l.value (going_view l.course) ≡ acts_in l.before l.bound l.acts l.fn.begun (going_view l.fn.course);
-  table : IsTable l.course.held;
+  sound : IsSound l.course;
 }
 
 abbrev pub invariant-sends-loop-one : goal.invariant-sends-loop-one
 invariant-sends-loop-one l = record {
   goes : each (λ m v. message_run most (runs_of most l.before) l.bound l.above l.receiver m) (drop l.one-index l.messages) l.value (going_view l.course) ≡ messages_in l.before l.bound l.above l.receiver l.messages (going_view l.fn.course);
-  table : IsTable l.course.held;
+  sound : IsSound l.course;
 }
 
 abbrev pub invariant-arguments-loop-place : goal.invariant-arguments-loop-place
 invariant-arguments-loop-place l = record {
   goes : each (place_run most (runs_of most l.before) l.bound (λ vs v. v ∷ vs)) (drop l.place-index l.places) (stack_view l.values.items) (going_view l.course) ≡ arguments_in l.before l.bound l.places (going_view l.fn.course);
-  table : IsTable l.course.held;
+  sound : IsSound l.course;
 }
 
 abbrev pub invariant-statements-loop-place : goal.invariant-statements-loop-place
 invariant-statements-loop-place l = record {
   goes : each (place_run most (runs_of most l.before) l.bound (λ v w. w)) (drop l.place-index l.places) l.value (going_view l.course) ≡ nodes_in l.before l.bound l.places (going_view l.fn.course);
-  table : IsTable l.course.held;
+  sound : IsSound l.course;
 }
 
 abbrev pub invariant-looped-loop-left : goal.invariant-looped-loop-left
 invariant-looped-loop-left l = record {
   goes : turns most l.left l.kind (body_in l.before l.bound l.condition) (body_in l.before l.bound l.repeated) (going_view l.course) ≡ loop_in l.before l.bound l.kind l.condition l.repeated (going_view l.fn.course);
-  table : IsTable l.course.held;
+  sound : IsSound l.course;
 }
 
 abbrev pub decreases-looped-loop-left : goal.decreases-looped-loop-left

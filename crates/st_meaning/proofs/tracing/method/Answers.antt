@@ -1,6 +1,6 @@
 use Rattle.std.proofs.Common.{◌≡◌, true, false, Err, rules}
 use Rattle.st_emit.specs.declared.step.Constant.TheVariants.{Receiver}
-use Rattle.st_meaning.specs.declared.deed.Value.TheVariants.{Constant}
+use Rattle.st_meaning.specs.Values.{constant_value}
 use Rattle.st_meaning.specs.Courses.{going_view}
 use Rattle.st_meaning.specs.Traced.{IsCut, nodes_in, method_in}
 use Rattle.st_meaning.proofs.Following.{some_went, none_over, method_is, method_over, method_cut, return_goes, return_faults}
@@ -29,7 +29,7 @@ returns-else-inside-clause-over c =
     let mid = c.statements.new.course in
     let given = some_went (nodes_in c.args.nodes.now c.args.bound c.deref.result.now old) _ c.in-Some.value (going_view mid) c.in-Some.is c.in_ok-value.ensures.goes in
     let is = method_is c.args.nodes.now c.args.bound c.args.inside.now c.deref.result.now false c.in-Some.value old (going_view mid) c.deref.ensures.value c.if-inside.false given in
-    return_goes (method_in c.args.nodes.now c.args.bound c.args.inside.now old) (Constant Receiver) mid is c.did-else-inside.new.self c.did-else-inside.result c.did-else-inside.ensures.few c.did-else-inside.ensures.went
+    return_goes (method_in c.args.nodes.now c.args.bound c.args.inside.now old) (constant_value Receiver) mid is c.did-else-inside.new.self c.did-else-inside.result c.did-else-inside.ensures.few c.did-else-inside.ensures.went
 
 pub returns-else-inside-clause-long : goal.returns-else-inside-clause-long
 returns-else-inside-clause-long c =
@@ -37,7 +37,7 @@ returns-else-inside-clause-long c =
     let mid = c.statements.new.course in
     let given = some_went (nodes_in c.args.nodes.now c.args.bound c.deref.result.now old) _ c.in-Some.value (going_view mid) c.in-Some.is c.in_ok-value.ensures.goes in
     let is = method_is c.args.nodes.now c.args.bound c.args.inside.now c.deref.result.now false c.in-Some.value old (going_view mid) c.deref.ensures.value c.if-inside.false given in
-    return_faults (method_in c.args.nodes.now c.args.bound c.args.inside.now old) (Constant Receiver) mid is c.did-else-inside.result c.did-else-inside.ensures.long
+    return_faults (method_in c.args.nodes.now c.args.bound c.args.inside.now old) (constant_value Receiver) mid is c.did-else-inside.result c.did-else-inside.ensures.long
 
 pub returns-in-None-clause-over : goal.returns-in-None-clause-over
 returns-in-None-clause-over c =

@@ -5,8 +5,15 @@ use Rattle.st_code.specs.MethodDrafts.{parts_view}
 use Rattle.st_meaning.specs.Codes.{walk_code}
 use Rattle.st_meaning.specs.Walks.{values_of}
 use Rattle.st_meaning.specs.Courses.{held_of, stack_view, walked_view}
+use Rattle.st_meaning.proofs.Numbers.{found_short}
 use Rattle.st_meaning.proofs.Continuing.{found_goes, found_faults}
 use Rattle.st_meaning.proofs.walking.advance.Goals as goal
+
+pub walk_code-requires : goal.walk_code-requires
+walk_code-requires c =
+    let there : Some c.in-Some.found ≡ instruction (drop c.args.at c.args.parts.now.bytes.items) =
+    c.in-Some.ensures ∙ ap instruction (take_rest c.deref.result.now c.args.at) ∙ ap (λ (bytes : List ℕ). instruction (drop c.args.at bytes)) c.deref.ensures.value in
+    found_short (drop c.args.at c.args.parts.now.bytes.items) c.in-Some.found there
 
 pub returns-clause-goes : goal.returns-clause-goes
 returns-clause-goes c =

@@ -10,7 +10,7 @@ pub loop-left-init : goal.loop-left-init
 loop-left-init c = record {
   goes = begins_so (parts_view c.args.parts.now) c.args.answers.now.items c.deref-2.result.now c.deref.result.now c.arity.result c.len.result c.in_ok-left.left c.new-stack.result.items c.in_ok-course.course
       c.in_ok-left.ensures (c.len.ensures ∙ c.args.parts.now.bytes.ok.0) c.arity.ensures c.deref.ensures.value c.deref-2.ensures.value c.new-stack.ensures.items c.in_ok-course.ensures.begins;
-  table = c.in_ok-course.ensures.table;
+  sound = c.in_ok-course.ensures.sound;
 }
 
 pub loop-left-preserved : goal.loop-left-preserved
@@ -19,7 +19,7 @@ loop-left-preserved c =
     let on = subst (λ (o : Option ℕ). Continues (advances (parts_view c.args.parts.now) c.loop-left.at c.loop-left.stack.items c.loop-left.course) c.advance.new.stack.items c.advance.new.course o) c.in-Some.is c.in_ok-next.ensures.goes in
     record {
       goes = goes_on (parts_view c.args.parts.now) c.loop-left.left c.loop-left.at c.in-Some.next c.loop-left.stack.items c.advance.new.stack.items c.loop-left.course c.advance.new.course (Walk (parts_view c.args.parts.now) (answers_view c.args.answers.now.items)) some on c.loop-left.invariant.goes;
-      table = c.advance.ensures.table;
+      sound = c.advance.ensures.sound;
     }
 
 pub returns-in-None-clause-list : goal.returns-in-None-clause-list

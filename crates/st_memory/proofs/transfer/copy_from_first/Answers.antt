@@ -3,12 +3,13 @@ use Rattle.std.proofs.lemmas.Bool.{false≢true}
 use Rattle.st_model.specs.Values.{value}
 use Rattle.st_model.specs.Objects.{is_pointers}
 use Rattle.st_model.specs.View.{with_fields, fields_from, object_of}
-use Rattle.st_memory.proofs.Copying.{no_method, live_after, count_after, kind_after, first_more}
+use Rattle.st_memory.proofs.Copying.{live_after, count_after, kind_after, first_more}
 use Rattle.st_memory.proofs.transfer.copy_from_first.Goals as goal
+use Rattle.st_model.proofs.KindTests.{no_method}
 
 pub loop-done-init : goal.loop-done-init
 unfolding with_fields fields_from
-loop-done-init g c = record { objects = refl; held = refl; head = refl }
+loop-done-init g c = record { objects = refl; held = refl; head = refl; places = λ v p s. s }
 
 pub overflow_add-from : goal.overflow_add-from
 overflow_add-from g c = let s = c.requires.small.0 in omega (arith, s)
@@ -47,6 +48,7 @@ loop-done-preserved g c = record {
       c.loop-done.done c.args.n (value c.pointer-x.result) c.requires.target c.requires.down c.loop-done-test.true c.loop-done.invariant.objects c.pointer-x.ensures.field c.set_pointer.ensures.objects);
   held = c.set_pointer.ensures.held ∙ c.loop-done.invariant.held;
   head = c.set_pointer.ensures.head ∙ c.loop-done.invariant.head;
+  places = λ v p s. c.set_pointer.ensures.places v p (c.loop-done.invariant.places v p s);
 }
 
 pub returns-clause-objects : goal.returns-clause-objects

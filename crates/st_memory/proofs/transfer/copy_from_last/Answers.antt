@@ -3,8 +3,9 @@ use Rattle.std.proofs.lemmas.Bool.{false≢true}
 use Rattle.st_model.specs.Values.{value}
 use Rattle.st_model.specs.Objects.{is_pointers}
 use Rattle.st_model.specs.View.{with_fields, fields_from, object_of}
-use Rattle.st_memory.proofs.Copying.{no_method, live_after, count_after, kind_after, last_more, none_yet, all_done}
+use Rattle.st_memory.proofs.Copying.{live_after, count_after, kind_after, last_more, none_yet, all_done}
 use Rattle.st_memory.proofs.transfer.copy_from_last.Goals as goal
+use Rattle.st_model.proofs.KindTests.{no_method}
 
 pub loop-left-init : goal.loop-left-init
 loop-left-init g c = record {
@@ -12,6 +13,7 @@ loop-left-init g c = record {
   objects = none_yet (g.M.Memory.view c.args.m.now).objects (value c.args.source) (value c.args.target) (c.args.from + c.args.n) (c.args.to + c.args.n) c.args.n;
   held = refl;
   head = refl;
+  places = λ v p s. s;
 }
 
 pub overflow_add-from : goal.overflow_add-from
@@ -61,6 +63,7 @@ loop-left-preserved g c =
           c.pointer-x.ensures.field c.set_pointer.ensures.objects;
       held = c.set_pointer.ensures.held ∙ c.loop-left.invariant.held;
       head = c.set_pointer.ensures.head ∙ c.loop-left.invariant.head;
+      places = λ v p s. c.set_pointer.ensures.places v p (c.loop-left.invariant.places v p s);
     }
 
 pub returns-clause-objects : goal.returns-clause-objects

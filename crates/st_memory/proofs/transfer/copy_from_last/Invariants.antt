@@ -1,6 +1,7 @@
 use Rattle.std.proofs.Common.{◌≡◌, ◌+◌, ◌≤◌, ◌-◌}
 use Rattle.st_model.specs.Values.{value}
 use Rattle.st_model.specs.View.{with_fields, fields_from}
+use Rattle.st_memory.specs.Places.{KeepsPlaces}
 use Rattle.st_memory.proofs.transfer.copy_from_last.Given as goal
 
 abbrev pub invariant-loop-left : goal.invariant-loop-left
@@ -9,6 +10,7 @@ invariant-loop-left g l = record {
   objects : (g.M.Memory.view l.m).objects ≡ with_fields (g.M.Memory.view l.fn.m).objects (value l.target) (l.to + l.left) (fields_from (g.M.Memory.view l.fn.m).objects (value l.source) (l.from + l.left) (l.n - l.left));
   held : (g.M.Memory.view l.m).held ≡ (g.M.Memory.view l.fn.m).held;
   head : (g.M.Memory.view l.m).head ≡ (g.M.Memory.view l.fn.m).head;
+  places : KeepsPlaces (g.M.Memory.stands l.fn.m) (g.M.Memory.stands l.m);
 }
 
 -- proposed from the loop's first test

@@ -4,11 +4,12 @@ use Rattle.st_chunk.specs.Definitions.{IsDefinition}
 use Rattle.st_changes.specs.Views.{definitions_of}
 use Rattle.st_install.specs.Defining.{installed}
 use Rattle.st_recover.proofs.Replaying.{again}
-use Rattle.st_recover.proofs.Rests.{entries_long, all_from, from_is, from_length}
+use Rattle.st_recover.proofs.Rests.{all_from, from_is, from_length}
 use Rattle.st_recover.proofs.reopening.install_again.Goals as goal
+use Rattle.st_changes.proofs.Superseding.{many_bytes}
 
 pub overflow_cast-before : goal.overflow_cast-before
-overflow_cast-before g c = omega (arith, c.count_before-before.ensures.within, entries_long c.args.changes.now.listed, c.requires.limit)
+overflow_cast-before g c = omega (arith, c.count_before-before.ensures.within, many_bytes c.args.changes.now.listed, c.requires.limit)
 
 pub replay_all-requires-clause-good : goal.replay_all-requires-clause-good
 replay_all-requires-clause-good g c =
@@ -22,7 +23,7 @@ replay_all-requires-clause-numbers g c =
       arith,
       from_length c.definitions.result.now c.args.changes.now.listed c.count_before-before.result c.definitions.ensures,
       c.count_before-before.ensures.within,
-      entries_long c.args.changes.now.listed,
+      many_bytes c.args.changes.now.listed,
       c.requires.limit,
     )
 

@@ -14,69 +14,66 @@ use Rattle.st_session.specs.Points.{alive}
 use Rattle.st_session.proofs.Responding.{ends_now, stays_now, line_said}
 use Rattle.st_session.proofs.Lines.{says_lines, stays_alive}
 use Rattle.st_session.proofs.Points.{GoesAs, living_answers}
-use Rattle.st_session.proofs.Starving.{never_starved}
+use Rattle.st_session.proofs.Served.{ample, served_as, served_end, served_none, served_said}
 use Rattle.st_session.proofs.answering.answer_living.Goals as goal
 
-pub returns-in-End-clause-follows : goal.returns-in-End-clause-follows
-returns-in-End-clause-follows g c =
-    let m = c.args.machine.now in
-    let a = c.args.archive.now in
+pub returns-in-End : goal.returns-in-End
+returns-in-End g c =
+    let m = c.args.kept.now.machine in
+    let a = c.args.kept.now.archive in
     let h = c.args.host.now in
-    living_answers g.M.Memory.view g.H.Host m a h m a h (λ being k. line_course in_a_store being k c.args.request) (Err status.Done) c.requires.alive
-    (λ s k shows holds. rw c.in-End.is (ends_now g.M.Memory.view g.H.Host m a k status.Done h (g.met.H.Host.only_now h) holds))
+    served_end tt tt (ample (Err status.Done) tt) (living_answers g.M.Memory.view g.H.Host m a h m a h (λ being k. line_course in_a_store being k c.args.request) (Err status.Done) c.requires.alive
+    (λ s k shows holds. rw c.in-End.is (ends_now g.M.Memory.view g.H.Host m a k status.Done h (g.met.H.Host.only_now h) holds)))
 
-pub returns-in-Wrong-clause-follows : goal.returns-in-Wrong-clause-follows
-returns-in-Wrong-clause-follows g c =
-    let m = c.args.machine.now in
-    let a = c.args.archive.now in
+pub returns-in-Wrong : goal.returns-in-Wrong
+returns-in-Wrong g c =
+    let m = c.args.kept.now.machine in
+    let a = c.args.kept.now.archive in
     let h = c.args.host.now in
-    living_answers g.M.Memory.view g.H.Host m a h m a h (λ being k. line_course in_a_store being k c.args.request) (Err (status.Script c.in-Wrong.line)) c.requires.alive
-    (λ s k shows holds. rw c.in-Wrong.is (ends_now g.M.Memory.view g.H.Host m a k (status.Script c.in-Wrong.line) h (g.met.H.Host.only_now h) holds))
+    served_end tt tt (ample (Err (status.Script c.in-Wrong.line)) tt) (living_answers g.M.Memory.view g.H.Host m a h m a h (λ being k. line_course in_a_store being k c.args.request) (Err (status.Script c.in-Wrong.line)) c.requires.alive
+    (λ s k shows holds. rw c.in-Wrong.is (ends_now g.M.Memory.view g.H.Host m a k (status.Script c.in-Wrong.line) h (g.met.H.Host.only_now h) holds)))
 
-pub returns-in-Browse-clause-follows : goal.returns-in-Browse-clause-follows
-returns-in-Browse-clause-follows g c =
-    let m = c.args.machine.now in
-    let a = c.args.archive.now in
+pub returns-in-Browse : goal.returns-in-Browse
+returns-in-Browse g c =
+    let m = c.args.kept.now.machine in
+    let a = c.args.kept.now.archive in
     let h = c.args.host.now in
-    living_answers g.M.Memory.view g.H.Host m a h m a h (λ being k. line_course in_a_store being k c.args.request) (Ok tt) c.requires.alive
+    served_none c.requires.go_on (living_answers g.M.Memory.view g.H.Host m a h m a h (λ being k. line_course in_a_store being k c.args.request) (Ok tt) c.requires.alive
     (λ s k shows holds. subst (λ course. GoesAs g.M.Memory.view g.H.Host a.name m a h h k course (Ok tt)) (sym (stays_alive in_a_store s k c.args.request c.in-Browse.is))
-    (stays_now g.M.Memory.view g.H.Host m a k (alive s k) h (g.met.H.Host.only_now h) holds (c.requires.alive, shows) refl))
+    (stays_now g.M.Memory.view g.H.Host m a k (alive s k) h (g.met.H.Host.only_now h) holds (c.requires.alive, shows) refl)))
 
-pub returns-in-Run-clause-follows : goal.returns-in-Run-clause-follows
-returns-in-Run-clause-follows g c =
+pub returns-in-Run : goal.returns-in-Run
+returns-in-Run g c =
     let view = g.M.Memory.view in
-    let m = c.args.machine.now in
-    let a = c.args.archive.now in
+    let m = c.args.kept.now.machine in
+    let a = c.args.kept.now.archive in
     let called = c.run in
-    living_answers view g.H.Host m a c.args.host.now called.new.machine called.new.archive called.new.host (λ being k. line_course in_a_store being k c.args.request) called.result c.requires.alive
-    (λ s k shows holds. rw c.in-Run.is (called.ensures.follows (alive s k) (record { stands = (c.requires.alive, shows); holds = holds })))
+    served_as called.ensures (λ none. none) (living_answers view g.H.Host m a c.args.host.now called.new.kept.machine called.new.kept.archive called.new.host (λ being k. line_course in_a_store being k c.args.request) called.result c.requires.alive
+    (λ s k shows holds. rw c.in-Run.is (called.ensures.follows (alive s k) (record { stands = (c.requires.alive, shows); holds = holds }))))
 
-pub returns-in-Trace-clause-follows : goal.returns-in-Trace-clause-follows
-returns-in-Trace-clause-follows g c =
+pub returns-in-Trace : goal.returns-in-Trace
+returns-in-Trace g c =
     let called = c.run-in-Trace in
-    living_answers g.M.Memory.view g.H.Host c.args.machine.now c.args.archive.now c.args.host.now called.new.machine called.new.archive called.new.host (λ being k. line_course in_a_store being k c.args.request) called.result c.requires.alive
-    (λ s k shows holds. rw c.in-Trace.is (called.ensures.follows (alive s k) (record { stands = (c.requires.alive, shows); holds = holds })))
+    served_as called.ensures (λ none. none) (living_answers g.M.Memory.view g.H.Host c.args.kept.now.machine c.args.kept.now.archive c.args.host.now called.new.kept.machine called.new.kept.archive called.new.host (λ being k. line_course in_a_store being k c.args.request) called.result c.requires.alive
+    (λ s k shows holds. rw c.in-Trace.is (called.ensures.follows (alive s k) (record { stands = (c.requires.alive, shows); holds = holds }))))
 
-pub returns-in-Stack-clause-follows : goal.returns-in-Stack-clause-follows
-returns-in-Stack-clause-follows g c =
+pub returns-in-Stack : goal.returns-in-Stack
+returns-in-Stack g c =
     let view = g.M.Memory.view in
-    let m = c.args.machine.now in
-    let a = c.args.archive.now in
+    let m = c.args.kept.now.machine in
+    let a = c.args.kept.now.archive in
     let old = c.args.host.now in
     let new = c.say_stack.new.host in
-    living_answers view g.H.Host m a old m a new (λ being k. line_course in_a_store being k c.args.request) c.say_stack.result c.requires.alive
+    served_said c.requires.go_on refl c.say_stack.ensures (living_answers view g.H.Host m a old m a new (λ being k. line_course in_a_store being k c.args.request) c.say_stack.result c.requires.alive
     (λ s k shows holds.
     let same = show_is (shown_by view m) s shows (g.met.M.Memory.whole m.memory).places in
     rw c.in-Stack.is (line_said view g.H.Host m a k (stack_text (show s).memory (show s).registers.active) (alive s k) old new c.say_stack.result
-    (subst (λ (x : State Table). Tells g.H.Host (stack_text x.memory x.registers.active) old new c.say_stack.result) (sym same) c.say_stack.ensures) holds (c.requires.alive, shows) refl))
+    (subst (λ (x : State Table). Tells g.H.Host (stack_text x.memory x.registers.active) old new c.say_stack.result) (sym same) c.say_stack.ensures) holds (c.requires.alive, shows) refl)))
 
-pub returns-in-Stack-clause-ample : goal.returns-in-Stack-clause-ample
-returns-in-Stack-clause-ample g c = λ none. never_starved c.say_stack.result c.say_stack.ensures.fault none
-
-pub returns-in-Snapshot-clause-follows : goal.returns-in-Snapshot-clause-follows
-returns-in-Snapshot-clause-follows g c =
-    living_answers g.M.Memory.view g.H.Host c.args.machine.now c.args.archive.now c.args.host.now c.snapshot.new.machine c.snapshot.new.archive c.snapshot.new.host (λ being k. line_course in_a_store being k c.args.request) c.snapshot.result c.requires.alive
-    (λ s k shows holds. rw c.in-Snapshot.is (c.snapshot.ensures.follows (alive s k) (record { stands = (c.requires.alive, shows); holds = holds })))
+pub returns-in-Snapshot : goal.returns-in-Snapshot
+returns-in-Snapshot g c =
+    served_as c.snapshot.ensures (λ none. none) (living_answers g.M.Memory.view g.H.Host c.args.kept.now.machine c.args.kept.now.archive c.args.host.now c.snapshot.new.kept.machine c.snapshot.new.kept.archive c.snapshot.new.host (λ being k. line_course in_a_store being k c.args.request) c.snapshot.result c.requires.alive
+    (λ s k shows holds. rw c.in-Snapshot.is (c.snapshot.ensures.follows (alive s k) (record { stands = (c.requires.alive, shows); holds = holds }))))
 
 pub say_answer-requires-clause-saying : goal.say_answer-requires-clause-saying
 say_answer-requires-clause-saying g c = says_lines c.args.request c.in_default.not-Run c.in_default.not-Trace c.in_default.not-Stack c.in_default.not-Snapshot c.in_default.not-End c.in_default.not-Wrong c.in_default.not-Define c.in_default.not-Browse

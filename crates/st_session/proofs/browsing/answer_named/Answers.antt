@@ -15,30 +15,28 @@ use Rattle.st_session.proofs.Lines.{look_is, unsourced}
 use Rattle.st_session.proofs.Looking.{memory_is}
 use Rattle.st_session.proofs.Points.{GoesAs, living_answers}
 use Rattle.st_session.proofs.Responding.{line_said}
+use Rattle.st_session.proofs.Saying.{when_ok}
+use Rattle.st_session.proofs.Served.{served_as, served_said}
 use Rattle.st_session.proofs.Sourced.{source_counts, source_served, source_starved, source_said}
-use Rattle.st_session.proofs.Starving.{never_starved}
 use Rattle.st_session.proofs.browsing.answer_named.Goals as goal
 
-pub returns-in-Until-clause-follows : goal.returns-in-Until-clause-follows
-returns-in-Until-clause-follows g c =
+pub returns-in-Until : goal.returns-in-Until
+returns-in-Until g c =
     let called = c.run_until in
-    living_answers g.M.Memory.view g.H.Host c.args.machine.now c.args.archive.now c.args.host.now called.new.machine called.new.archive called.new.host (λ being k. browse_course in_a_store being k (ask_of c.args.ask)) called.result c.requires.alive
-    (λ s k shows holds. rw c.in-Until.is (called.ensures.follows (alive s k) (record { stands = (c.requires.alive, shows); holds = holds })))
+    served_as called.ensures (λ none. absurd none) (living_answers g.M.Memory.view g.H.Host c.args.kept.now.machine c.args.kept.now.archive c.args.host.now called.new.kept.machine called.new.kept.archive called.new.host (λ being k. browse_course in_a_store being k (ask_of c.args.ask)) called.result c.requires.alive
+    (λ s k shows holds. rw c.in-Until.is (called.ensures.follows (alive s k) (record { stands = (c.requires.alive, shows); holds = holds }))))
 
-pub returns-in-Until-clause-starved : goal.returns-in-Until-clause-starved
-returns-in-Until-clause-starved g c = λ none. absurd (c.run_until.ensures.ample none)
-
-pub returns-in-Source-clause-follows : goal.returns-in-Source-clause-follows
-returns-in-Source-clause-follows g c =
+pub returns-in-Source : goal.returns-in-Source
+returns-in-Source g c =
     let view = g.M.Memory.view in
-    let m = c.args.machine.now in
-    let a = c.args.archive.now in
+    let m = c.args.kept.now.machine in
+    let a = c.args.kept.now.archive in
     let ask = Source (side_of c.in-Source.side) c.in-Source.selector.now in
     let lives = c.requires.alive in
     let old = c.args.host.now in
     let new = c.say_source.new.host in
     let result = c.say_source.result in
-    living_answers view g.H.Host m a old m a new (λ being k. browse_course in_a_store being k (ask_of c.args.ask)) result lives
+    let follows = living_answers view g.H.Host m a old m a new (λ being k. browse_course in_a_store being k (ask_of c.args.ask)) result lives
     (λ s k shows holds.
     let ready = memory_is (view m.memory) m.frame m.world (c.requires.go_on.may_run lives) in
     let same = ap view c.memory.ensures ∙ (ready ∙ ap memory_of (sym (show_is (shown_by view m) s shows (g.met.M.Memory.whole m.memory).places))) in
@@ -47,28 +45,27 @@ returns-in-Source-clause-follows g c =
     (source_said view g.H.Host m a k (asked_text (memory_of (show s)) (shown_text (memory_of (show s)) (all_of k)) ask) (alive s k) old new result
     (subst (λ v. TellsOrStarves g.H.Host (asked_text v (shown_text v (all_of k)) ask) old new result) same
     (subst (λ (ds : List Definition). TellsOrStarves g.H.Host (asked_text (view c.memory.result.now) (shown_text (view c.memory.result.now) ds) ask) old new result) listed c.say_source.ensures))
-    (g.met.H.Host.only_now old) holds (lives, shows) refl))
+    (g.met.H.Host.only_now old) holds (lives, shows) refl)) in
+    record {
+      go_on = when_ok result c.requires.go_on;
+      named = refl;
+      follows = follows;
+      counts = source_counts g.H.Host _ _ _ result c.say_source.ensures;
+      served = source_served g.H.Host _ _ _ result c.say_source.ensures;
+      starved = λ none. source_starved g.H.Host _ _ _ result c.say_source.ensures none;
+    }
 
-pub returns-in-Source-clause-counts : goal.returns-in-Source-clause-counts
-returns-in-Source-clause-counts g c = source_counts g.H.Host _ _ _ c.say_source.result c.say_source.ensures
-
-pub returns-in-Source-clause-served : goal.returns-in-Source-clause-served
-returns-in-Source-clause-served g c = source_served g.H.Host _ _ _ c.say_source.result c.say_source.ensures
-
-pub returns-in-Source-clause-starved : goal.returns-in-Source-clause-starved
-returns-in-Source-clause-starved g c = λ none. source_starved g.H.Host _ _ _ c.say_source.result c.say_source.ensures none
-
-pub returns-in_default-clause-follows : goal.returns-in_default-clause-follows
-returns-in_default-clause-follows g c =
+pub returns-in_default : goal.returns-in_default
+returns-in_default g c =
     let view = g.M.Memory.view in
-    let m = c.args.machine.now in
-    let a = c.args.archive.now in
+    let m = c.args.kept.now.machine in
+    let a = c.args.kept.now.archive in
     let ask = ask_of c.args.ask in
     let lives = c.requires.alive in
     let old = c.args.host.now in
     let new = c.say_asked.new.host in
     let result = c.say_asked.result in
-    living_answers view g.H.Host m a old m a new (λ being k. browse_course in_a_store being k ask) result lives
+    served_said c.requires.go_on refl c.say_asked.ensures (living_answers view g.H.Host m a old m a new (λ being k. browse_course in_a_store being k ask) result lives
     (λ s k shows holds.
     let ready = memory_is (view m.memory) m.frame m.world (c.requires.go_on.may_run lives) in
     let same = ap view c.memory-in_default.ensures ∙ (ready ∙ ap memory_of (sym (show_is (shown_by view m) s shows (g.met.M.Memory.whole m.memory).places))) in
@@ -77,7 +74,4 @@ returns-in_default-clause-follows g c =
     (line_said view g.H.Host m a k (asked_text (memory_of (show s)) (shown_text (memory_of (show s)) (all_of k)) ask) (alive s k) old new result
     (subst (λ (text : List ℕ). Tells g.H.Host text old new result) (unsourced (memory_of (show s)) (kept_text (all_of k)) (shown_text (memory_of (show s)) (all_of k)) c.args.ask c.in_default.not-Source)
     (subst (λ v. Tells g.H.Host (asked_text v (kept_text (all_of k)) ask) old new result) same
-    (subst (λ (ds : List Definition). Tells g.H.Host (asked_text (view c.memory-in_default.result.now) (kept_text ds) ask) old new result) listed c.say_asked.ensures))) holds (lives, shows) refl))
-
-pub returns-in_default-clause-starved : goal.returns-in_default-clause-starved
-returns-in_default-clause-starved g c = λ none. never_starved c.say_asked.result c.say_asked.ensures.fault none
+    (subst (λ (ds : List Definition). Tells g.H.Host (asked_text (view c.memory-in_default.result.now) (kept_text ds) ask) old new result) listed c.say_asked.ensures))) holds (lives, shows) refl)))

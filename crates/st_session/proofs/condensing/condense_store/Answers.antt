@@ -3,7 +3,7 @@ use Rattle.std.specs.Prelude.{Err}
 use Rattle.st_host.specs.Runs.{Spares}
 use Rattle.st_store.specs.Names.{roots_file, changes_file, IsNoFileOf}
 use Rattle.st_changes.specs.Condensing.{turned}
-use Rattle.st_changes.specs.declared.condense_fault.CondenseFault.{CondenseFault}
+use Rattle.st_host.specs.declared.file_fault.FileFault.{FileFault}
 use Rattle.st_recover.specs.Commits.{stored_of}
 use Rattle.st_recover.proofs.Making.{both_spare}
 use Rattle.st_session.proofs.Condensed.{where_ok, condensed_told, unmade, rests_same, unless_gate}
@@ -53,5 +53,5 @@ returns-in-Err-OutOfMemory-clause-does g c k told kept =
     let un = unmade g.H.Host c.args.host.now c.args.store c.args.changes.now.listed k kept c.requires.good c.condense.new.host c.condense.result (did.either x told kept.kept) (λ z. did.makes x z told kept.kept) in
     record {
       moments = un.0;
-      has = (un.1, rests_same g.H.Host c.args.host.now c.args.store c.args.changes.now.listed k kept c.requires.good c.condense.new.host (c.in-Err-OutOfMemory.ensures.starved x told kept.kept (ap (λ (e : CondenseFault). Err e) c.in-Err-OutOfMemory.field-0-is)));
+      has = (un.1, rests_same g.H.Host c.args.host.now c.args.store c.args.changes.now.listed k kept c.requires.good c.condense.new.host (c.in-Err-OutOfMemory.ensures.starved x told kept.kept (ap (λ (e : FileFault). Err e) c.in-Err-OutOfMemory.field-0-is)));
     }

@@ -14,40 +14,40 @@ use Rattle.st_session.specs.Standing.{shown_by}
 use Rattle.st_session.proofs.Looking.{memory_is}
 use Rattle.st_session.proofs.Points.{GoesAs, living_answers}
 use Rattle.st_session.proofs.Responding.{line_said}
-use Rattle.st_session.proofs.Starving.{never_starved}
+use Rattle.st_session.proofs.Served.{served_as, served_said}
 use Rattle.st_session.proofs.debugging.run_until.Goals as goal
 
-pub returns-in-Some-clause-follows : goal.returns-in-Some-clause-follows
-returns-in-Some-clause-follows g c =
+pub returns-in-Some : goal.returns-in-Some
+returns-in-Some g c =
     let view = g.M.Memory.view in
-    let m = c.args.machine.now in
-    let a = c.args.archive.now in
+    let m = c.args.kept.now.machine in
+    let a = c.args.kept.now.archive in
     let called = c.run in
     let lives = c.requires.alive in
     let side = side_of c.args.side in
     let selector = c.args.selector.now in
-    living_answers view g.H.Host m a c.args.host.now called.new.machine called.new.archive called.new.host
+    served_as called.ensures (λ none. none) (living_answers view g.H.Host m a c.args.host.now called.new.kept.machine called.new.kept.archive called.new.host
     (λ being k. going_on in_a_store (λ s d. until_course in_a_store c.args.cycles s d (method_of_side (memory_of (show s)) side selector)) being k) called.result lives
     (λ s k shows holds.
     let ready = memory_is (view m.memory) m.frame m.world (c.requires.go_on.may_run lives) in
     let same = ap view c.memory.ensures ∙ (ready ∙ ap memory_of (sym (show_is (shown_by view m) s shows (g.met.M.Memory.whole m.memory).places))) in
     let there : Some (value c.in-Some.method) ≡ method_of_side (memory_of (show s)) side selector =
     ap (option_map value) (sym c.in-Some.is) ∙ (c.find_method.ensures ∙ ap (λ v. method_of_side v side selector) same) in
-    subst (λ (o : Option Value). GoesAs view g.H.Host a.name called.new.machine called.new.archive c.args.host.now called.new.host k (until_course in_a_store c.args.cycles s k o) called.result) there
-    (called.ensures.follows (alive s k) (record { stands = (lives, shows); holds = holds })))
+    subst (λ (o : Option Value). GoesAs view g.H.Host a.name called.new.kept.machine called.new.kept.archive c.args.host.now called.new.host k (until_course in_a_store c.args.cycles s k o) called.result) there
+    (called.ensures.follows (alive s k) (record { stands = (lives, shows); holds = holds }))))
 
-pub returns-in-None-clause-follows : goal.returns-in-None-clause-follows
-returns-in-None-clause-follows g c =
+pub returns-in-None : goal.returns-in-None
+returns-in-None g c =
     let view = g.M.Memory.view in
-    let m = c.args.machine.now in
-    let a = c.args.archive.now in
+    let m = c.args.kept.now.machine in
+    let a = c.args.kept.now.archive in
     let old = c.args.host.now in
     let new = c.say_reply.new.host in
     let result = c.say_reply.result in
     let lives = c.requires.alive in
     let side = side_of c.args.side in
     let selector = c.args.selector.now in
-    living_answers view g.H.Host m a old m a new
+    served_said c.requires.go_on refl c.say_reply.ensures (living_answers view g.H.Host m a old m a new
     (λ being k. going_on in_a_store (λ s d. until_course in_a_store c.args.cycles s d (method_of_side (memory_of (show s)) side selector)) being k) result lives
     (λ s k shows holds.
     let ready = memory_is (view m.memory) m.frame m.world (c.requires.go_on.may_run lives) in
@@ -55,7 +55,4 @@ returns-in-None-clause-follows g c =
     let gone : None ≡ method_of_side (memory_of (show s)) side selector =
     ap (option_map value) (sym c.in-None.is) ∙ (c.find_method.ensures ∙ ap (λ v. method_of_side v side selector) same) in
     subst (λ (o : Option Value). GoesAs view g.H.Host a.name m a old new k (until_course in_a_store c.args.cycles s k o) result) gone
-    (line_said view g.H.Host m a k missing_text (alive s k) old new result c.say_reply.ensures holds (lives, shows) refl))
-
-pub returns-in-None-clause-ample : goal.returns-in-None-clause-ample
-returns-in-None-clause-ample g c = λ none. never_starved c.say_reply.result c.say_reply.ensures.fault none
+    (line_said view g.H.Host m a k missing_text (alive s k) old new result c.say_reply.ensures holds (lives, shows) refl)))

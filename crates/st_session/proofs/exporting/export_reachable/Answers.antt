@@ -1,7 +1,7 @@
 use Rattle.std.proofs.Common.{refl, ap, arith}
 use Rattle.std.specs.Prelude.{Some, Err}
 use Rattle.st_host.proofs.Touching.{above_changes}
-use Rattle.st_clean.specs.declared.fault.CleanFault.{CleanFault}
+use Rattle.st_host.specs.declared.file_fault.FileFault.{FileFault}
 use Rattle.st_call.specs.Replies.{cleaned_text}
 use Rattle.st_session.specs.Exports.{Export, ExportsImage}
 use Rattle.st_session.specs.declared.extent.Extent.TheVariants.{Reachable}
@@ -45,14 +45,14 @@ pub returns-in-Err-Disk-clause-counts : goal.returns-in-Err-Disk-clause-counts
 returns-in-Err-Disk-clause-counts g c = record {
   disk = c.clean.ensures.cause.later;
   say = omega (arith, c.clean.ensures.writes.run.say);
-  cause = c.in-Err-Disk.ensures.cause.rose (ap (λ (e : CleanFault). Err e) c.in-Err-Disk.field-0-is);
+  cause = c.in-Err-Disk.ensures.cause.rose (ap (λ (e : FileFault). Err e) c.in-Err-Disk.field-0-is);
 }
 
 pub returns-in-Err-OutOfMemory-clause-has : goal.returns-in-Err-OutOfMemory-clause-has
 returns-in-Err-OutOfMemory-clause-has g c told =
     let host = g.H.Host in
     let name = c.args.image.now in
-    let same = c.in-Err-OutOfMemory.ensures.none (ap (λ (e : CleanFault). Err e) c.in-Err-OutOfMemory.field-0-is) in
+    let same = c.in-Err-OutOfMemory.ensures.none (ap (λ (e : FileFault). Err e) c.in-Err-OutOfMemory.field-0-is) in
     record { file = ap (λ h. host.files h name) same; quiet = ap host.said same }
 
 pub returns-in-Err-OutOfMemory-clause-others : goal.returns-in-Err-OutOfMemory-clause-others

@@ -4,11 +4,12 @@ use Rattle.st_install.specs.Defining.{installed}
 use Rattle.st_session.specs.Keeping.{in_a_store}
 use Rattle.st_session.specs.Sessions.{follow}
 use Rattle.st_session.proofs.Points.{GoesAs}
+use Rattle.st_session.proofs.Served.{served_as}
 use Rattle.st_session.proofs.reading.end.Goals as goal
 
-pub returns-clause-follows : goal.returns-clause-follows
-returns-clause-follows g c = λ p at.
+pub returns-clause-serves : goal.returns-clause-serves
+returns-clause-serves g c =
     let called = c.answer_told in
-    subst (λ x. GoesAs g.M.Memory.view g.H.Host c.args.archive.now.name called.new.machine called.new.archive c.args.host.now called.new.host p.kept x called.result)
+    served_as called.ensures (λ none. none) (λ p at. subst (λ x. GoesAs g.M.Memory.view g.H.Host c.args.kept.now.archive.name called.new.kept.machine called.new.kept.archive c.args.host.now called.new.host p.kept x called.result)
     (λ i. follow in_a_store installed p (asked_by (c.finish-request.ensures.read i, c.finish-request.ensures.told i)))
-    (called.ensures.follows p at)
+    (called.ensures.follows p at))

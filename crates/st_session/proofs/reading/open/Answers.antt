@@ -1,4 +1,4 @@
-use Rattle.std.proofs.Common.{◌∷◌, [], inl, inr, refl, Err}
+use Rattle.std.proofs.Common.{◌∷◌, [], inl, inr, refl, ap, Err}
 use Rattle.st_store.specs.Names.{IsNoFileOf}
 use Rattle.st_protocol.specs.declared.status.Status.TheVariants as status
 use Rattle.st_protocol.specs.Courses.{Reply}
@@ -21,19 +21,19 @@ pub returns-in-Ok-say_opening-clause-follows : goal.returns-in-Ok-say_opening-cl
 unfolding session
 returns-in-Ok-say_opening-clause-follows g c = λ told p at.
     let view = g.M.Memory.view in
-    let a = c.args.archive.now in
+    let a = c.args.kept.now.archive in
     let name = a.name in
     let text = opening_text c.args.replayed (losses_of c.args.lost.now) in
     let mid = c.say_opening.new.host in
     let new = c.follow.new in
     let said = c.in-Ok-say_opening.ensures in
-    obeys_behind g.H.Host (OpensAs name) (IsNoFileOf name) (IsAt view g.H.Host new.machine new.archive new.host) (λ (q : Point Commit). q.kept) p.kept (Reply text ∷ []) (follow_script in_a_store installed p (g.S.Source.remaining c.args.script.now)) c.follow.result c.args.host.now mid new.host
+    obeys_behind g.H.Host (OpensAs name) (IsNoFileOf name) (IsAt view g.H.Host new.kept.machine new.kept.archive new.host) (λ (q : Point Commit). q.kept) p.kept (Reply text ∷ []) (follow_script in_a_store installed p (g.S.Source.remaining c.args.script.now)) (Err c.follow.result) c.args.host.now mid new.host
     (did_reply g.H.Host (OpensAs name) (IsNoFileOf name) p.kept text c.args.host.now mid said (holds_rest g.H.Host a p.kept at.holds))
     (c.follow.ensures.follows told p (record { stands = at.stands; holds = holds_said g.H.Host a p.kept said.says at.holds }))
 
 pub returns-in-Ok-say_opening-clause-told : goal.returns-in-Ok-say_opening-clause-told
 returns-in-Ok-say_opening-clause-told g c = λ fault told p at.
-    let a = c.args.archive.now in
+    let a = c.args.kept.now.archive in
     let name = a.name in
     let text = opening_text c.args.replayed (losses_of c.args.lost.now) in
     let mid = c.say_opening.new.host in
@@ -43,20 +43,20 @@ returns-in-Ok-say_opening-clause-told g c = λ fault told p at.
     (c.follow.ensures.told fault told p (record { stands = at.stands; holds = holds_said g.H.Host a p.kept said.says at.holds }))
 
 pub returns-in-Ok-say_opening-clause-counts : goal.returns-in-Ok-say_opening-clause-counts
-returns-in-Ok-say_opening-clause-counts g c = counts_behind g.H.Host _ c.args.host.now c.say_opening.new.host c.follow.new.host c.follow.result c.in-Ok-say_opening.ensures.counts.disk c.in-Ok-say_opening.ensures.counts.say c.follow.ensures.counts
+returns-in-Ok-say_opening-clause-counts g c = counts_behind g.H.Host _ c.args.host.now c.say_opening.new.host c.follow.new.host (Err c.follow.result) c.in-Ok-say_opening.ensures.counts.disk c.in-Ok-say_opening.ensures.counts.say c.follow.ensures.counts
 
 pub returns-clause-follows : goal.returns-clause-follows
 unfolding session
 returns-clause-follows g c = λ told p at.
-    let a = c.args.archive.now in
+    let a = c.args.kept.now.archive in
     let name = a.name in
     let text = opening_text c.args.replayed (losses_of c.args.lost.now) in
     let new = c.say_opening.new.host in
-    unsaid_before g.H.Host (OpensAs name) (IsNoFileOf name) p.kept (IsAt g.M.Memory.view g.H.Host c.args.machine.now a new) (λ (q : Point Commit). q.kept) text (follow_script in_a_store installed p (g.S.Source.remaining c.args.script.now)) c.in-Err-say_opening.status c.args.host.now new
+    unsaid_before g.H.Host (OpensAs name) (IsNoFileOf name) p.kept (IsAt g.M.Memory.view g.H.Host c.args.kept.now.machine a new) (λ (q : Point Commit). q.kept) text (follow_script in_a_store installed p (g.S.Source.remaining c.args.script.now)) c.in-Err-say_opening.status c.args.host.now new
     c.in-Err-say_opening.ensures (holds_rest g.H.Host a p.kept at.holds)
 
 pub returns-clause-told : goal.returns-clause-told
-returns-clause-told g c = λ fault told p at. absurd (no_read g.H.Host c.args.host.now c.say_opening.new.host (Err c.in-Err-say_opening.status) c.in-Err-say_opening.ensures.counts fault)
+returns-clause-told g c = λ fault told p at. absurd (no_read g.H.Host c.args.host.now c.say_opening.new.host (Err c.in-Err-say_opening.status) c.in-Err-say_opening.ensures.counts (ap Err fault))
 
 pub returns-clause-counts : goal.returns-clause-counts
 returns-clause-counts g c = counts_wider g.H.Host _ c.args.host.now c.say_opening.new.host (Err c.in-Err-say_opening.status) c.in-Err-say_opening.ensures.counts
@@ -64,11 +64,11 @@ returns-clause-counts g c = counts_wider g.H.Host _ c.args.host.now c.say_openin
 pub returns-in-Err-clause-follows : goal.returns-in-Err-clause-follows
 returns-in-Err-clause-follows g c = λ told p at.
     let h = c.args.host.now in
-    fails_now g.M.Memory.view g.H.Host c.args.machine.now c.args.archive.now p.kept (session in_a_store installed c.args.replayed (losses_of c.args.lost.now) p (g.S.Source.remaining c.args.script.now)) status.OutOfMemory h tt (g.met.H.Host.only_now h) at.holds
+    fails_now g.M.Memory.view g.H.Host c.args.kept.now.machine c.args.kept.now.archive p.kept (session in_a_store installed c.args.replayed (losses_of c.args.lost.now) p (g.S.Source.remaining c.args.script.now)) status.OutOfMemory h tt (g.met.H.Host.only_now h) at.holds
 
 pub returns-in-Ok-say_opening-clause-starved : goal.returns-in-Ok-say_opening-clause-starved
 returns-in-Ok-say_opening-clause-starved g c = λ none told. inr (λ p at.
-    let a = c.args.archive.now in
+    let a = c.args.kept.now.archive in
     let name = a.name in
     let text = opening_text c.args.replayed (losses_of c.args.lost.now) in
     let mid = c.say_opening.new.host in
@@ -78,7 +78,7 @@ returns-in-Ok-say_opening-clause-starved g c = λ none told. inr (λ p at.
     (c.follow.ensures.starved none told p (record { stands = at.stands; holds = holds_said g.H.Host a p.kept said.says at.holds })))
 
 pub returns-clause-starved : goal.returns-clause-starved
-returns-clause-starved g c = λ none told. never_starved (Err c.in-Err-say_opening.status) c.in-Err-say_opening.ensures.fault none
+returns-clause-starved g c = λ none told. never_starved (Err c.in-Err-say_opening.status) c.in-Err-say_opening.ensures.fault (ap Err none)
 
 pub returns-in-Err-clause-starved : goal.returns-in-Err-clause-starved
 returns-in-Err-clause-starved g c = λ none told. inl refl

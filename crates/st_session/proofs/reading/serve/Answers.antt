@@ -11,20 +11,18 @@ use Rattle.st_frames.specs.Shown.{shown}
 use Rattle.st_store.specs.Names.{IsNoFileOf}
 use Rattle.st_protocol.specs.declared.status.Status.{Status}
 use Rattle.st_protocol.specs.declared.status.Status.TheVariants as status
-use Rattle.st_protocol.specs.Statuses.{StatusHasCause}
 use Rattle.st_protocol.proofs.Joins.{obeys_fault}
 use Rattle.st_install.specs.Defining.{installed}
 use Rattle.st_recover.specs.Archives.{ArchiveState, Holds}
 use Rattle.st_recover.specs.Commits.{Commit, OpensAs}
 use Rattle.st_recover.specs.Replays.{Loss, losses_of}
 use Rattle.st_recover.proofs.Gates.{own_gate}
-use Rattle.st_call.specs.Telling.{IsOfServing}
 use Rattle.st_session.specs.Ends.{SessionEnds, status_in}
 use Rattle.st_session.specs.Keeping.{in_a_store}
 use Rattle.st_session.specs.Opening.{session_over, session_so_far_over}
 use Rattle.st_session.specs.Points.{Point, alive}
 use Rattle.st_session.specs.Standing.{IsAt, shown_by}
-use Rattle.st_session.proofs.Ending.{session_ends, ends_of, complete_of, cause_of, served_in}
+use Rattle.st_session.proofs.Ending.{session_ends, ends_of, complete_of}
 use Rattle.st_session.proofs.Holding.{holds_rest}
 use Rattle.st_session.proofs.Lawful.{session_law}
 use Rattle.st_session.proofs.Points.{ready_new}
@@ -78,19 +76,17 @@ returns-clause-ends g c = λ told k s o.
     let holds : Holds g.H.Host h a k = subst (λ (x : ArchiveState). Holds g.H.Host h x k) (sym c.new-archive.ensures)
     (subst (λ (n : List ℕ). Holds g.H.Host h (record { name = n; store = Some opened.store; listed = opened.changes.listed }) k) (sym c.requires.named) o.holds) in
     let at : IsAt view g.H.Host m a h p = record { stands = (boots.alive, subst (λ (x : State Table). Shows x s) (sym same) o.shows); holds = holds } in
-    let on = IsAt view g.H.Host c.open.new.machine c.open.new.archive new in
+    let on = IsAt view g.H.Host c.open.new.kept.machine c.open.new.kept.archive new in
     let named : a.name ≡ opened.store.name = ap (λ (x : ArchiveState). x.name) c.new-archive.ensures ∙ c.requires.named in
-    ends_so g.H.Host k s opened.replayed script left h new a.name opened.store.name lost (losses_of opened.lost.items) (status_in c.open.result) c.status_of.result named (ap losses_of c.deref.ensures.value) (sym c.status_of.ensures)
+    ends_so g.H.Host k s opened.replayed script left h new a.name opened.store.name lost (losses_of opened.lost.items) c.open.result c.open.result named (ap losses_of c.deref.ensures.value) refl
     (ends_of g.H.Host (OpensAs a.name) (IsNoFileOf a.name) k on (λ (x : Point Commit). x.kept) (session_over opened.replayed lost s k script) (session_so_far_over opened.replayed lost s k) script left a.name
-    (λ tells other x new gate. own_gate g.H.Host a.name other x new tells (λ y n. g.met.H.Host.read_counts y n tells) gate) c.open.result h new
-    (session_ends in_a_store installed opened.replayed lost p script) (session_law opened.replayed lost p script) (c.open.ensures.follows told p at) (λ fault. c.open.ensures.told fault told p at)
+    (λ tells other x new gate. own_gate g.H.Host a.name other x new tells (λ y n. g.met.H.Host.read_counts y n tells) gate) (Err c.open.result) h new
+    (session_ends in_a_store installed opened.replayed lost p script) (session_law opened.replayed lost p script) (c.open.ensures.follows told p at) (λ fault. c.open.ensures.told (ap status_in fault) told p at)
     (λ none tells. ⊎_elim (λ same. none_acknowledged g.H.Host a.name p opened.replayed lost script h new same (holds_rest g.H.Host a k holds) tells)
-    (λ some. some_acknowledged g.H.Host a.name p opened.replayed lost script h new (some p at) tells) (c.open.ensures.starved none told)))
+    (λ some. some_acknowledged g.H.Host a.name p opened.replayed lost script h new (some p at) tells) (c.open.ensures.starved (ap status_in none) told)))
 
 pub returns-clause-cause : goal.returns-clause-cause
-returns-clause-cause g c =
-    let reads = Rose (g.S.Source.read_faults c.args.script.now) (g.S.Source.read_faults c.open.new.script) in
-    subst (λ (x : Status). StatusHasCause g.H.Host reads c.args.host.now c.open.new.host x) (sym c.status_of.ensures) (cause_of g.H.Host reads c.args.host.now c.open.new.host c.open.result c.open.ensures.counts.cause)
+returns-clause-cause g c = c.open.ensures.counts.cause
 
 pub returns-clause-complete : goal.returns-clause-complete
 returns-clause-complete g c = λ told k s o end calm.
@@ -98,11 +94,8 @@ returns-clause-complete g c = λ told k s o end calm.
     let name = opened.store.name in
     let script = g.S.Source.remaining c.args.script.now in
     let lost = losses_of opened.lost.items in
-    complete_of g.H.Host (OpensAs name) (IsNoFileOf name) k (λ (x : Point Commit). Unit {0}) (λ (x : Point Commit). x.kept) (session_over opened.replayed lost s k script) (session_so_far_over opened.replayed lost s k) script (g.S.Source.remaining c.open.new.script) name (Rose (g.S.Source.read_faults c.args.script.now) (g.S.Source.read_faults c.open.new.script)) c.status_of.result c.args.host.now c.open.new.host
+    complete_of g.H.Host (OpensAs name) (IsNoFileOf name) k (λ (x : Point Commit). Unit {0}) (λ (x : Point Commit). x.kept) (session_over opened.replayed lost s k script) (session_so_far_over opened.replayed lost s k) script (g.S.Source.remaining c.open.new.script) name (Rose (g.S.Source.read_faults c.args.script.now) (g.S.Source.read_faults c.open.new.script)) c.open.result c.args.host.now c.open.new.host
     (returns-clause-ends g c told k s o) (returns-clause-cause g c) end calm
-
-pub returns-clause-kind : goal.returns-clause-kind
-returns-clause-kind g c = subst IsOfServing (sym c.status_of.ensures) (served_in c.open.result c.open.ensures.served)
 
 pub returns-clause-counts : goal.returns-clause-counts
 returns-clause-counts g c = record { disk = c.open.ensures.counts.disk; say = c.open.ensures.counts.say }

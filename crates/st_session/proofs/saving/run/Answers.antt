@@ -12,6 +12,7 @@ use Rattle.st_session.specs.Watched.{watched_stretch}
 use Rattle.st_session.specs.Watching.{look_of}
 use Rattle.st_session.proofs.Points.{living_answers}
 use Rattle.st_session.proofs.Snapshots.{ran_none, run_over, run_unsaid, asked, at_snapshot, snapshot_failed, snapshot_died, snapshot_kept}
+use Rattle.st_session.proofs.Served.{ample}
 use Rattle.st_session.proofs.saving.run.Goals as goal
 
 some_of : (x : Option Dead) → is_some x ≡ true → (cause : Dead) × (x ≡ Some cause)
@@ -30,89 +31,114 @@ stretches-init g c = record {
   few = omega arith;
   disk = omega arith;
   say = omega arith;
-  ran = λ s k shows holds. ran_none g.M.Memory.view g.H.Host (look_of c.args.watch) c.args.cycles s k c.args.machine.now c.args.archive.now c.args.host.now (g.met.H.Host.only_now c.args.host.now) shows holds;
+  ran = λ s k shows holds. ran_none g.M.Memory.view g.H.Host (look_of c.args.watch) c.args.cycles s k c.args.kept.now.machine c.args.kept.now.archive c.args.host.now (g.met.H.Host.only_now c.args.host.now) shows holds;
 }
 
 -- THE RUN'S END
 
-pub returns-in-Ok-None-clause-follows : goal.returns-in-Ok-None-clause-follows
-returns-in-Ok-None-clause-follows g c =
+pub returns-in-Ok-None : goal.returns-in-Ok-None
+returns-in-Ok-None g c =
     let view = g.M.Memory.view in
     let n = c.args.cycles in
     let inv = c.stretches.invariant in
     let m1 = c.say_stretch.new.machine in
     let mid = c.say_stretch.new.host in
-    living_answers view g.H.Host c.args.machine.now c.args.archive.now c.args.host.now m1 c.stretches.archive mid (λ being. going_on in_a_store (watched_course in_a_store (look_of c.args.watch) 0 n) being) (Ok tt) c.requires.alive
+    let follows = living_answers view g.H.Host c.args.kept.now.machine c.args.kept.now.archive c.args.host.now m1 c.stretches.kept.archive mid (λ being. going_on in_a_store (watched_course in_a_store (look_of c.args.watch) 0 n) being) (Ok tt) c.requires.alive
     (λ s k shows holds.
     let far = inv.ran s k shows holds in
     run_over view g.H.Host (look_of c.args.watch) far inv.few (sym inv.named) m1 mid (g.met.H.Host.only_now mid)
-    (subst (λ (x : Option ℕ). SaysStretch g.H.Host m1.death (shown_by view m1) (watched_stretch (look_of c.args.watch) c.stretches.finished (n - c.stretches.finished) far.state) c.stretches.host mid (Ok x)) c.in-Ok-None.field-0-is (c.in-Ok-None.ensures.says far.state far.shows)))
-
-pub returns-in-Ok-None-clause-counts : goal.returns-in-Ok-None-clause-counts
-returns-in-Ok-None-clause-counts g c = counts_behind g.H.Host ⊥ c.args.host.now c.stretches.host c.say_stretch.new.host (Ok tt) c.stretches.invariant.disk c.stretches.invariant.say c.in-Ok-None.ensures.counts
+    (subst (λ (x : Option ℕ). SaysStretch g.H.Host m1.death (shown_by view m1) (watched_stretch (look_of c.args.watch) c.stretches.finished (n - c.stretches.finished) far.state) c.stretches.host mid (Ok x)) c.in-Ok-None.field-0-is (c.in-Ok-None.ensures.says far.state far.shows))) in
+    record {
+      go_on = record { may_run = c.say_stretch.ensures.may_run; is_open = inv.go_on.is_open };
+      named = inv.named;
+      follows = follows;
+      counts = counts_behind g.H.Host ⊥ c.args.host.now c.stretches.host mid (Ok tt) inv.disk inv.say c.in-Ok-None.ensures.counts;
+      served = tt;
+      starved = ample (Ok tt) tt;
+    }
 
 -- WHAT IS SAID ISN'T SAID WHOLE
 
-pub returns-in-Err-clause-follows : goal.returns-in-Err-clause-follows
-returns-in-Err-clause-follows g c =
+pub returns-in-Err : goal.returns-in-Err
+returns-in-Err g c =
     let view = g.M.Memory.view in
     let inv = c.stretches.invariant in
     let m1 = c.say_stretch.new.machine in
     let mid = c.say_stretch.new.host in
-    living_answers view g.H.Host c.args.machine.now c.args.archive.now c.args.host.now m1 c.stretches.archive mid (λ being. going_on in_a_store (watched_course in_a_store (look_of c.args.watch) 0 c.args.cycles) being) (Err c.in-Err.status) c.requires.alive
+    let follows = living_answers view g.H.Host c.args.kept.now.machine c.args.kept.now.archive c.args.host.now m1 c.stretches.kept.archive mid (λ being. going_on in_a_store (watched_course in_a_store (look_of c.args.watch) 0 c.args.cycles) being) (Err c.in-Err.status) c.requires.alive
     (λ s k shows holds.
     let far = inv.ran s k shows holds in
-    run_unsaid view g.H.Host (look_of c.args.watch) far inv.few (sym inv.named) m1 mid m1 c.stretches.archive c.in-Err.status (c.in-Err.ensures.says far.state far.shows))
-
-pub returns-in-Err-clause-counts : goal.returns-in-Err-clause-counts
-returns-in-Err-clause-counts g c = counts_behind g.H.Host ⊥ c.args.host.now c.stretches.host c.say_stretch.new.host (Err c.in-Err.status) c.stretches.invariant.disk c.stretches.invariant.say c.in-Err.ensures.counts
-
-pub returns-in-Err-clause-ample : goal.returns-in-Err-clause-ample
-returns-in-Err-clause-ample g c = λ none. c.in-Err.ensures.ample (let same : c.in-Err.status ≡ OutOfMemory = cc in ap Err same)
+    run_unsaid view g.H.Host (look_of c.args.watch) far inv.few (sym inv.named) m1 mid m1 c.stretches.kept.archive c.in-Err.status (c.in-Err.ensures.says far.state far.shows)) in
+    record {
+      go_on = tt;
+      named = inv.named;
+      follows = follows;
+      counts = counts_behind g.H.Host ⊥ c.args.host.now c.stretches.host mid (Err c.in-Err.status) inv.disk inv.say c.in-Err.ensures.counts;
+      served = c.in-Err.ensures.served;
+      starved = λ none. c.in-Err.ensures.ample (let same : c.in-Err.status ≡ OutOfMemory = cc in ap Err same);
+    }
 
 -- A SNAPSHOT
 
-pub returns-in-Err-snapshot-clause-follows : goal.returns-in-Err-snapshot-clause-follows
-returns-in-Err-snapshot-clause-follows g c =
+pub returns-in-Err-snapshot : goal.returns-in-Err-snapshot
+returns-in-Err-snapshot g c =
     let view = g.M.Memory.view in
     let n = c.args.cycles in
     let inv = c.stretches.invariant in
     let m1 = c.say_stretch.new.machine in
     let mid = c.say_stretch.new.host in
-    let m2 = c.snapshot.new.machine in
-    let b = c.snapshot.new.archive in
+    let m2 = c.snapshot.new.kept.machine in
+    let b = c.snapshot.new.kept.archive in
     let new = c.snapshot.new.host in
     let j = c.in-Ok-Some.asked in
-    living_answers view g.H.Host c.args.machine.now c.args.archive.now c.args.host.now m2 b new (λ being. going_on in_a_store (watched_course in_a_store (look_of c.args.watch) 0 n) being) (Err c.in-Err-snapshot.status) c.requires.alive
+    let first = c.in-Ok-Some.ensures.counts in
+    let follows = living_answers view g.H.Host c.args.kept.now.machine c.args.kept.now.archive c.args.host.now m2 b new (λ being. going_on in_a_store (watched_course in_a_store (look_of c.args.watch) 0 n) being) (Err c.in-Err-snapshot.status) c.requires.alive
     (λ s k shows holds.
     let far = inv.ran s k shows holds in
     let said = subst (λ (x : Option ℕ). SaysStretch g.H.Host m1.death (shown_by view m1) (watched_stretch (look_of c.args.watch) c.stretches.finished (n - c.stretches.finished) far.state) c.stretches.host mid (Ok x)) c.in-Ok-Some.field-0-is (c.in-Ok-Some.ensures.says far.state far.shows) in
     let from = at_snapshot view g.H.Host (look_of c.args.watch) far inv.few (sym inv.named) m1 mid j said m2 b new in
     let p = alive (asked view g.H.Host (look_of c.args.watch) far inv.few (sym inv.named) m1 mid j said m2 b new).state far.commit in
     snapshot_failed view g.H.Host (look_of c.args.watch) far inv.few (sym inv.named) m1 mid j said m2 b new c.in-Err-snapshot.status
-    (c.in-Err-snapshot.ensures.follows p from))
+    (c.in-Err-snapshot.ensures.follows p from)) in
+    record {
+      go_on = tt;
+      named = c.snapshot.ensures.named ∙ inv.named;
+      follows = follows;
+      counts = counts_behind g.H.Host ⊥ c.args.host.now mid new (Err c.in-Err-snapshot.status) (omega (arith, inv.disk, first.disk)) (omega (arith, inv.say, first.say)) c.in-Err-snapshot.ensures.counts;
+      served = c.in-Err-snapshot.ensures.served;
+      starved = c.in-Err-snapshot.ensures.starved;
+    }
 
 -- the machine died of saving
-pub returns-then-is_some-clause-follows : goal.returns-then-is_some-clause-follows
-returns-then-is_some-clause-follows g c =
+pub returns-then-is_some : goal.returns-then-is_some
+returns-then-is_some g c =
     let view = g.M.Memory.view in
     let n = c.args.cycles in
     let inv = c.stretches.invariant in
     let m1 = c.say_stretch.new.machine in
     let mid = c.say_stretch.new.host in
-    let m2 = c.snapshot.new.machine in
-    let b = c.snapshot.new.archive in
+    let m2 = c.snapshot.new.kept.machine in
+    let b = c.snapshot.new.kept.archive in
     let new = c.snapshot.new.host in
     let j = c.in-Ok-Some.asked in
     let died = some_of c.death.result (sym c.is_some.ensures ∙ c.if-is_some.true) in
-    living_answers view g.H.Host c.args.machine.now c.args.archive.now c.args.host.now m2 b new (λ being. going_on in_a_store (watched_course in_a_store (look_of c.args.watch) 0 n) being) (Ok tt) c.requires.alive
+    let first = c.in-Ok-Some.ensures.counts in
+    let follows = living_answers view g.H.Host c.args.kept.now.machine c.args.kept.now.archive c.args.host.now m2 b new (λ being. going_on in_a_store (watched_course in_a_store (look_of c.args.watch) 0 n) being) (Ok tt) c.requires.alive
     (λ s k shows holds.
     let far = inv.ran s k shows holds in
     let said = subst (λ (x : Option ℕ). SaysStretch g.H.Host m1.death (shown_by view m1) (watched_stretch (look_of c.args.watch) c.stretches.finished (n - c.stretches.finished) far.state) c.stretches.host mid (Ok x)) c.in-Ok-Some.field-0-is (c.in-Ok-Some.ensures.says far.state far.shows) in
     let from = at_snapshot view g.H.Host (look_of c.args.watch) far inv.few (sym inv.named) m1 mid j said m2 b new in
     let p = alive (asked view g.H.Host (look_of c.args.watch) far inv.few (sym inv.named) m1 mid j said m2 b new).state far.commit in
     snapshot_died view g.H.Host (look_of c.args.watch) far inv.few (sym inv.named) m1 mid j said m2 b new died.0 (sym c.death.ensures ∙ died.1) (sym (c.snapshot.ensures.named ∙ inv.named)) (g.met.H.Host.only_now new)
-    (c.in-Ok.ensures.follows p from))
+    (c.in-Ok.ensures.follows p from)) in
+    record {
+      go_on = c.in-Ok.ensures.go_on;
+      named = c.snapshot.ensures.named ∙ inv.named;
+      follows = follows;
+      counts = counts_behind g.H.Host ⊥ c.args.host.now mid new (Ok tt) (omega (arith, inv.disk, first.disk)) (omega (arith, inv.say, first.say)) c.in-Ok.ensures.counts;
+      served = tt;
+      starved = ample (Ok tt) tt;
+    }
 
 pub stretches-preserved : goal.stretches-preserved
 stretches-preserved g c =
@@ -121,8 +147,8 @@ stretches-preserved g c =
     let inv = c.stretches.invariant in
     let m1 = c.say_stretch.new.machine in
     let mid = c.say_stretch.new.host in
-    let m2 = c.snapshot.new.machine in
-    let b = c.snapshot.new.archive in
+    let m2 = c.snapshot.new.kept.machine in
+    let b = c.snapshot.new.kept.archive in
     let new = c.snapshot.new.host in
     let j = c.in-Ok-Some.asked in
     let is = c.in-Ok-Some.field-0-is in

@@ -7,43 +7,56 @@ use Rattle.st_install.specs.Prepareds.{IsPrepared}
 use Rattle.st_session.specs.Answers.{definition_course}
 use Rattle.st_session.specs.Keeping.{in_a_store}
 use Rattle.st_call.specs.Replies.{accepted_line}
+use Rattle.st_protocol.proofs.Joins.{counts_behind}
 use Rattle.st_session.proofs.Accepting.{accepted_said, accepted_unkept}
 use Rattle.st_install.proofs.Compiling.{is_accepted}
 use Rattle.st_session.proofs.Points.{living_answers}
+use Rattle.st_session.proofs.Saying.{when_ok}
+use Rattle.st_session.proofs.Served.{keeping_serves}
 use Rattle.st_session.proofs.Starving.{never_starved}
 use Rattle.st_session.proofs.serving.accept.Goals as goal
 
-pub returns-in-Ok-clause-follows : goal.returns-in-Ok-clause-follows
-returns-in-Ok-clause-follows g c =
+pub returns-in-Ok : goal.returns-in-Ok
+returns-in-Ok g c =
     let view = g.M.Memory.view in
-    let m = c.args.machine.now in
-    let a = c.args.archive.now in
+    let m = c.args.kept.now.machine in
+    let a = c.args.kept.now.archive in
     let d = definition_of c.args.definition.now in
     let n = record m { memory = c.carry_out-selector.new.m } in
     let b = c.accept.new.self in
     let same = sym c.memory_mut.ensures.value in
     let ready = subst (λ x. IsReady (view x) m.frame m.world) same (c.requires.go_on.may_run c.requires.alive) in
     let prepared = subst (λ x. IsPrepared (view x) d c.args.prepared) same c.requires.prepared in
-    living_answers view g.H.Host m a c.args.host.now n b c.say_reply.new.host (λ being k. definition_course in_a_store installed being k d) c.say_reply.result c.requires.alive
+    let follows = living_answers view g.H.Host m a c.args.host.now n b c.say_reply.new.host (λ being k. definition_course in_a_store installed being k d) c.say_reply.result c.requires.alive
     (λ s k shows holds.
     accepted_said view g.H.Host a.name n b s k d c.carry_out-selector.result (installed d s) _ c.args.host.now c.accept.new.host c.say_reply.new.host c.say_reply.result c.accept.ensures.named (c.in-Ok.ensures.obeys k holds)
     (c.carry_out-selector.ensures.installs d m.frame m.world s prepared ready (subst (λ x. Shows (shown (view x) m.frame m.world) s) same shows)) c.requires.alive
-    (ap (accepted_line d.class d.meta) c.deref.ensures.value) c.say_reply.ensures)
+    (ap (accepted_line d.class d.meta) c.deref.ensures.value) c.say_reply.ensures) in
+    record {
+      go_on = when_ok c.say_reply.result (record { may_run = λ lives. c.carry_out-selector.ensures.ready m.frame m.world ready; is_open = c.in-Ok.ensures.«open» });
+      named = c.accept.ensures.named;
+      follows = follows;
+      counts = counts_behind g.H.Host ⊥ c.args.host.now c.accept.new.host c.say_reply.new.host c.say_reply.result c.in-Ok.ensures.counts.disk c.in-Ok.ensures.counts.say c.say_reply.ensures.counts;
+      served = c.say_reply.ensures.served;
+      starved = λ none. never_starved c.say_reply.result c.say_reply.ensures.fault none;
+    }
 
-pub returns-in-Err-clause-follows : goal.returns-in-Err-clause-follows
-returns-in-Err-clause-follows g c =
+pub returns-in-Err : goal.returns-in-Err
+returns-in-Err g c =
     let view = g.M.Memory.view in
-    let m = c.args.machine.now in
-    let a = c.args.archive.now in
+    let m = c.args.kept.now.machine in
+    let a = c.args.kept.now.archive in
     let d = definition_of c.args.definition.now in
     let b = c.accept.new.self in
-    living_answers view g.H.Host m a c.args.host.now m b c.accept.new.host (λ being k. definition_course in_a_store installed being k d) _ c.requires.alive
+    let follows = living_answers view g.H.Host m a c.args.host.now m b c.accept.new.host (λ being k. definition_course in_a_store installed being k d) _ c.requires.alive
     (λ s k shows holds.
     let is = is_accepted (view m.memory) d c.args.prepared c.requires.prepared (g.met.M.Memory.whole m.memory) m.frame m.world (c.requires.go_on.may_run c.requires.alive) s shows in
-    accepted_unkept view g.H.Host a.name m b s k d (installed d s) _ is.0 c.in-Err.status c.args.host.now c.accept.new.host is.1 (c.in-Err.ensures.obeys k holds))
-
-pub returns-in-Ok-clause-starved : goal.returns-in-Ok-clause-starved
-returns-in-Ok-clause-starved g c = λ none. never_starved c.say_reply.result c.say_reply.ensures.fault none
-
-pub returns-in-Err-clause-starved : goal.returns-in-Err-clause-starved
-returns-in-Err-clause-starved g c = λ none. c.in-Err.ensures.untouched (λ disk. cc)
+    accepted_unkept view g.H.Host a.name m b s k d (installed d s) _ is.0 c.in-Err.status c.args.host.now c.accept.new.host is.1 (c.in-Err.ensures.obeys k holds)) in
+    record {
+      go_on = tt;
+      named = c.accept.ensures.named;
+      follows = follows;
+      counts = c.in-Err.ensures.counts;
+      served = keeping_serves c.in-Err.status c.in-Err.ensures.kind;
+      starved = λ none. c.in-Err.ensures.untouched (λ disk. cc);
+    }

@@ -9,31 +9,28 @@ use Rattle.st_session.specs.Standing.{shown_by}
 use Rattle.st_session.proofs.Accepting.{refused_said}
 use Rattle.st_session.proofs.Points.{living_answers}
 use Rattle.st_session.proofs.Responding.{fails_now}
-use Rattle.st_session.proofs.Starving.{never_starved}
+use Rattle.st_session.proofs.Served.{served_end, served_said}
 use Rattle.st_session.proofs.serving.define.Goals as goal
 
-pub returns-in-Refused-clause-follows : goal.returns-in-Refused-clause-follows
-returns-in-Refused-clause-follows g c =
+pub returns-in-Refused : goal.returns-in-Refused
+returns-in-Refused g c =
     let view = g.M.Memory.view in
-    let m = c.args.machine.now in
-    let a = c.args.archive.now in
+    let m = c.args.kept.now.machine in
+    let a = c.args.kept.now.archive in
     let d = definition_of c.args.definition.now in
     let why = c.in-Refused.why in
     let new = c.say_reply.new.host in
-    living_answers view g.H.Host m a c.args.host.now m a new (λ being k. definition_course in_a_store installed being k d) c.say_reply.result c.requires.alive
+    served_said c.requires.go_on refl c.say_reply.ensures (living_answers view g.H.Host m a c.args.host.now m a new (λ being k. definition_course in_a_store installed being k d) c.say_reply.result c.requires.alive
     (λ s k shows holds.
     let refuses = subst (λ u. PreparesAs (view m.memory) d (Err u)) c.in-Refused.is (subst (λ x. PreparesAs (view x) d (Err c.in-Err.unprepared)) c.memory.ensures c.in-Err.ensures) in
-    refused_said view g.H.Host m a s k d (installed d s) why c.args.host.now new c.say_reply.result (refuses (shown_by view m) s (record { objects = refl; head = refl }) shows) c.requires.alive shows holds c.say_reply.ensures)
+    refused_said view g.H.Host m a s k d (installed d s) why c.args.host.now new c.say_reply.result (refuses (shown_by view m) s (record { objects = refl; head = refl }) shows) c.requires.alive shows holds c.say_reply.ensures))
 
-pub returns-in-OutOfMemory-clause-follows : goal.returns-in-OutOfMemory-clause-follows
-returns-in-OutOfMemory-clause-follows g c =
+pub returns-in-OutOfMemory : goal.returns-in-OutOfMemory
+returns-in-OutOfMemory g c =
     let view = g.M.Memory.view in
-    let m = c.args.machine.now in
-    let a = c.args.archive.now in
+    let m = c.args.kept.now.machine in
+    let a = c.args.kept.now.archive in
     let d = definition_of c.args.definition.now in
     let h = c.args.host.now in
-    living_answers view g.H.Host m a h m a h (λ being k. definition_course in_a_store installed being k d) (Err status.OutOfMemory) c.requires.alive
-    (λ s k shows holds. fails_now view g.H.Host m a k (defined_course in_a_store s k d (installed d s)) status.OutOfMemory h tt (g.met.H.Host.only_now h) holds)
-
-pub returns-in-Refused-clause-starved : goal.returns-in-Refused-clause-starved
-returns-in-Refused-clause-starved g c = λ none. never_starved c.say_reply.result c.say_reply.ensures.fault none
+    served_end tt tt (λ none. refl) (living_answers view g.H.Host m a h m a h (λ being k. definition_course in_a_store installed being k d) (Err status.OutOfMemory) c.requires.alive
+    (λ s k shows holds. fails_now view g.H.Host m a k (defined_course in_a_store s k d (installed d s)) status.OutOfMemory h tt (g.met.H.Host.only_now h) holds))

@@ -7,13 +7,11 @@ use Rattle.st_model.specs.Table.{bounded_table}
 use Rattle.st_at_once.proofs.Keeping.{near_unless, make_stays}
 use Rattle.st_at_once.proofs.objects.NearObjects.make.Goals as goal
 
-pub invariant_of-self-else-is_err : goal.invariant_of-self-else-is_err
-invariant_of-self-else-is_err g c =
+pub look_at_places-self-requires : goal.look_at_places-self-requires
+look_at_places-self-requires g c =
     let a = c.args in
     let made = c.make-made in
     let ok : is_err made.result ≡ false = search rules in
-    record {
-      near = near_unless (make bounded_table (word a.class) a.kind a.size a.literals) word made.result
-          (g.M.Memory.view a.self.now.memory.now) (g.M.Memory.view made.new.self) a.self.now.known
-          (make_stays (word a.class) a.kind a.size a.literals) ok made.ensures.makes (ap (λ (v : View). v.held) made.ensures.fixed) a.self.now.near;
-    }
+    near_unless (make bounded_table (word a.class) a.kind a.size a.literals) word made.result
+    (g.M.Memory.view a.self.now.memory.now) (g.M.Memory.view made.new.self) a.self.now.known
+    (make_stays (word a.class) a.kind a.size a.literals) ok made.ensures.makes (ap (λ (v : View). v.held) made.ensures.fixed) a.self.now.near

@@ -5,14 +5,16 @@ use Rattle.st_model.specs.Table.{Table}
 use Rattle.st_model.specs.View.{View, is_live, object_of}
 use Rattle.st_counted.specs.Counts.{is_unused}
 use Rattle.st_counted.specs.Contents.{counts_of}
-use Rattle.st_heap.specs.Tables.{objects_of, room_of}
+use Rattle.st_heap.specs.Tables.{objects_of}
 use Rattle.st_heap.proofs.Placing.{length-objects}
-use Rattle.st_counted.specs.declared.contents.Contents.{Contents}
+use Rattle.st_counted.specs.declared.contents.Head.{Head}
+use Rattle.st_counted.specs.Held.{held_of}
 use Rattle.st_counted.specs.References.{all_roots, references, IsCounted}
 use Rattle.st_counted.specs.Counted.{counted_view, numbers_of}
 use Rattle.st_counted.proofs.Swept.{place_value, live_entry}
 use Rattle.st_counted.proofs.Tallying.{hand_counted, hand_some}
 use Rattle.st_counted.proofs.Dropping.{unused_live, counted_dropped}
+use Rattle.st_counted.proofs.Listing.{listed_gone}
 use Rattle.st_counted.proofs.Storing.{lowered_to}
 use Rattle.st_counted.proofs.contents.Contents.drop_object.Goals as goal
 
@@ -30,7 +32,8 @@ in_hand v cs cs1 k x class h unused long within named is left =
 pub class_of-class-requires : goal.class_of-class-requires
 class_of-class-requires c =
     let v = counted_view c.args.self.now in
-    ap (is_live v.objects) (place_value c.pointer_of-o.result.0 c.args.k c.pointer_of-o.ensures)
+    ap (λ (t : Table). is_live t (value c.pointer_of-o.result)) c.leave.ensures.objects
+    ∙ ap (is_live v.objects) (place_value c.pointer_of-o.result.0 c.args.k c.pointer_of-o.ensures)
     ∙ unused_live v.objects (references v.objects (all_roots v) []) (numbers_of c.args.self.now) c.args.k c.requires.counted.tallied c.requires.unused
 
 pub lower-requires-clause-counted : goal.lower-requires-clause-counted
@@ -41,7 +44,7 @@ lower-requires-clause-counted c small =
     let x = value c.pointer_of-o.result in
     hand_counted (slice_set v.objects k None) (all_roots v) (object_of v.objects x).fields (counts_of c.leave.new.self) c.class_of-class.result.0
     (in_hand v (numbers_of m) (counts_of c.leave.new.self) k x (value c.class_of-class.result) c.requires.counted c.requires.unused (length-objects m.objects.store) c.requires.place
-    (place_value c.pointer_of-o.result.0 k c.pointer_of-o.ensures) c.class_of-class.ensures c.leave.ensures) small
+    (place_value c.pointer_of-o.result.0 k c.pointer_of-o.ensures) (c.class_of-class.ensures ∙ ap (λ (t : Table). Ref (object_of t x).class) c.leave.ensures.objects) c.leave.ensures.counts) small
 
 pub lower-requires-clause-some : goal.lower-requires-clause-some
 lower-requires-clause-some c small =
@@ -51,12 +54,13 @@ lower-requires-clause-some c small =
     let x = value c.pointer_of-o.result in
     hand_some (slice_set v.objects k None) (all_roots v) (object_of v.objects x).fields (counts_of c.leave.new.self) c.class_of-class.result.0
     (in_hand v (numbers_of m) (counts_of c.leave.new.self) k x (value c.class_of-class.result) c.requires.counted c.requires.unused (length-objects m.objects.store) c.requires.place
-    (place_value c.pointer_of-o.result.0 k c.pointer_of-o.ensures) c.class_of-class.ensures c.leave.ensures) small
+    (place_value c.pointer_of-o.result.0 k c.pointer_of-o.ensures) (c.class_of-class.ensures ∙ ap (λ (t : Table). Ref (object_of t x).class) c.leave.ensures.objects) c.leave.ensures.counts) small
 
 pub lower_fields-requires-clause-live : goal.lower_fields-requires-clause-live
 lower_fields-requires-clause-live c =
     let v = counted_view c.args.self.now in
-    ap (is_live v.objects) (place_value c.pointer_of-o.result.0 c.args.k c.pointer_of-o.ensures)
+    ap (λ (t : Table). is_live t (value c.pointer_of-o.result)) (c.lower.ensures.objects ∙ c.leave.ensures.objects)
+    ∙ ap (is_live v.objects) (place_value c.pointer_of-o.result.0 c.args.k c.pointer_of-o.ensures)
     ∙ unused_live v.objects (references v.objects (all_roots v) []) (numbers_of c.args.self.now) c.args.k c.requires.counted.tallied c.requires.unused
 
 pub lower_fields-requires-clause-counted : goal.lower_fields-requires-clause-counted
@@ -67,17 +71,18 @@ lower_fields-requires-clause-counted c =
     let x = value c.pointer_of-o.result in
     let two = c.pointer_of-o.ensures in
     let half : c.pointer_of-o.result.0 / 2 ≡ k = omega (arith, two) in
-    subst (λ n. IsCounted (slice_set v.objects n None) (all_roots v) (object_of v.objects x).fields (counts_of c.lower.new.counts)) (sym half)
+    subst (λ (t : Table). IsCounted (slice_set t (c.pointer_of-o.result.0 / 2) None) (all_roots v) (object_of t x).fields (counts_of c.lower.new.counts)) (sym (c.lower.ensures.objects ∙ c.leave.ensures.objects))
+    (subst (λ n. IsCounted (slice_set v.objects n None) (all_roots v) (object_of v.objects x).fields (counts_of c.lower.new.counts)) (sym half)
     (lowered_to (slice_set v.objects k None) (all_roots v) (object_of v.objects x).fields (counts_of c.leave.new.self) (counts_of c.lower.new.counts) (value c.class_of-class.result)
     (in_hand v (numbers_of m) (counts_of c.leave.new.self) k x (value c.class_of-class.result) c.requires.counted c.requires.unused (length-objects m.objects.store) c.requires.place
-    (place_value c.pointer_of-o.result.0 k c.pointer_of-o.ensures) c.class_of-class.ensures c.leave.ensures) c.lower.ensures)
+    (place_value c.pointer_of-o.result.0 k c.pointer_of-o.ensures) (c.class_of-class.ensures ∙ ap (λ (t : Table). Ref (object_of t x).class) c.leave.ensures.objects) c.leave.ensures.counts) c.lower.ensures.counts))
 
 pub remove-requires : goal.remove-requires
 remove-requires c =
     let v = counted_view c.args.self.now in
-    subst (λ (y : Contents). is_live (objects_of y.objects) (value c.pointer_of-o.result) ≡ true) (sym c.lower_fields.ensures.rest)
-    (ap (is_live v.objects) (place_value c.pointer_of-o.result.0 c.args.k c.pointer_of-o.ensures)
-    ∙ unused_live v.objects (references v.objects (all_roots v) []) (numbers_of c.args.self.now) c.args.k c.requires.counted.tallied c.requires.unused)
+    ap (λ (t : Table). is_live t (value c.pointer_of-o.result)) (c.lower_fields.ensures.rest.objects ∙ c.lower.ensures.objects ∙ c.leave.ensures.objects)
+    ∙ ap (is_live v.objects) (place_value c.pointer_of-o.result.0 c.args.k c.pointer_of-o.ensures)
+    ∙ unused_live v.objects (references v.objects (all_roots v) []) (numbers_of c.args.self.now) c.args.k c.requires.counted.tallied c.requires.unused
 
 pub returns-clause-objects : goal.returns-clause-objects
 returns-clause-objects c =
@@ -85,20 +90,32 @@ returns-clause-objects c =
     let two = c.pointer_of-o.ensures in
     let half : c.pointer_of-o.result.0 / 2 ≡ c.args.k = omega (arith, two) in
     c.remove.ensures.objects
-    ∙ ap (λ (y : Contents). slice_set (objects_of y.objects) (c.pointer_of-o.result.0 / 2) None) c.lower_fields.ensures.rest
+    ∙ ap (λ (t : Table). slice_set t (c.pointer_of-o.result.0 / 2) None) (c.lower_fields.ensures.rest.objects ∙ c.lower.ensures.objects ∙ c.leave.ensures.objects)
     ∙ ap (λ n. slice_set v.objects n None) half
 
 pub returns-clause-held : goal.returns-clause-held
-returns-clause-held c = ap (λ (y : Contents). (counted_view y).held) c.lower_fields.ensures.rest
+returns-clause-held c = ap held_of c.lower_fields.ensures.rest.roots
 
 pub returns-clause-head : goal.returns-clause-head
-returns-clause-head c = ap (λ (y : Contents). y.head) c.lower_fields.ensures.rest
+returns-clause-head c = c.lower_fields.ensures.rest.head
 
 pub returns-clause-counted : goal.returns-clause-counted
 returns-clause-counted c =
     let l = c.lower_fields.new.self in
     subst (λ (t : Table). IsCounted t (all_roots (counted_view l)) [] (numbers_of l)) (sym c.remove.ensures.objects) c.lower_fields.ensures.counted
 
+pub returns-clause-listed : goal.returns-clause-listed
+returns-clause-listed c =
+    let l = c.lower_fields.new.self in
+    listed_gone l.objects c.remove.new.self l.counts (objects_of l.objects) _ (c.pointer_of-o.result.0 / 2) c.lower_fields.ensures.listed c.remove.ensures.links c.lower_fields.ensures.counted.tallied c.remove.ensures.objects
+
 pub returns-clause-room : goal.returns-clause-room
 returns-clause-room c = λ h.
-    c.remove.ensures.room ∙ ap (λ (y : Contents). room_of y.objects) c.lower_fields.ensures.rest ∙ h ∙ sym (ap (λ (y : Contents). y.head.capacity.words) c.lower_fields.ensures.rest)
+    let rest = c.lower_fields.ensures.rest in
+    c.remove.ensures.room ∙ rest.room ∙ c.lower.ensures.room ∙ c.leave.ensures.room ∙ h ∙ sym (ap (λ (y : Head). y.capacity.words) rest.head)
+
+pub returns-clause-places : goal.returns-clause-places
+returns-clause-places c = λ k other.
+    let two = c.pointer_of-o.ensures in
+    let half : c.pointer_of-o.result.0 / 2 ≡ c.args.k = omega (arith, two) in
+    c.remove.ensures.places k (λ q. other (q ∙ half)) ∙ c.lower_fields.ensures.places k ∙ c.lower.ensures.places k ∙ c.leave.ensures.places k

@@ -1,5 +1,6 @@
 use Rattle.std.proofs.Common.{◌≡◌, ◌∙◌, ap, ◌/◌, [], ◌∷◌, refl, sym, subst, arith}
 use Rattle.std.proofs.lemmas.Bool.{eqb-true}
+use Rattle.st_model.specs.Table.{Table}
 use Rattle.st_model.specs.View.{with_held}
 use Rattle.st_counted.specs.Held.{held_of}
 use Rattle.st_model.specs.Values.{Value, value, value_of}
@@ -30,7 +31,7 @@ lower-requires-clause-counted c small =
     let cs1 = counts_of c.raise.new.counts in
     hand_counted w.objects (all_roots w) [] cs1 c.held-old.result.0
     (subst (λ (x : Value). IsCounted w.objects (all_roots w) (x ∷ []) cs1) (sym c.held-old.ensures)
-    (counted_held v w [] cs1 c.args.place (value c.args.o) (raised_to v.objects (all_roots v) [] (numbers_of m) cs1 (value c.args.o) 1 c.requires.counted c.requires.known c.raise.ensures)
+    (counted_held v w [] cs1 c.args.place (value c.args.o) (raised_to v.objects (all_roots v) [] (numbers_of m) cs1 (value c.args.o) 1 c.requires.counted c.requires.known c.raise.ensures.counts)
     c.requires.place c.requires.whole.pending refl c.hold.ensures refl)) small
 
 pub lower-requires-clause-some : goal.lower-requires-clause-some
@@ -41,7 +42,7 @@ lower-requires-clause-some c small =
     let cs1 = counts_of c.raise.new.counts in
     hand_some w.objects (all_roots w) [] cs1 c.held-old.result.0
     (subst (λ (x : Value). IsCounted w.objects (all_roots w) (x ∷ []) cs1) (sym c.held-old.ensures)
-    (counted_held v w [] cs1 c.args.place (value c.args.o) (raised_to v.objects (all_roots v) [] (numbers_of m) cs1 (value c.args.o) 1 c.requires.counted c.requires.known c.raise.ensures)
+    (counted_held v w [] cs1 c.args.place (value c.args.o) (raised_to v.objects (all_roots v) [] (numbers_of m) cs1 (value c.args.o) 1 c.requires.counted c.requires.known c.raise.ensures.counts)
     c.requires.place c.requires.whole.pending refl c.hold.ensures refl)) small
 
 pub returns-clause-counted : goal.returns-clause-counted
@@ -50,10 +51,11 @@ returns-clause-counted c =
     let v = counted_view m in
     let w = counted_view (record m { roots = c.hold.new.self }) in
     let cs1 = counts_of c.raise.new.counts in
-    lowered_to w.objects (all_roots w) [] cs1 (counts_of c.lower.new.counts) (value c.held-old.result)
+    subst (λ (t : Table). IsCounted t (all_roots w) [] (counts_of c.lower.new.counts)) (sym (c.lower.ensures.objects ∙ c.raise.ensures.objects))
+    (lowered_to w.objects (all_roots w) [] cs1 (counts_of c.lower.new.counts) (value c.held-old.result)
     (subst (λ (x : Value). IsCounted w.objects (all_roots w) (x ∷ []) cs1) (sym c.held-old.ensures)
-    (counted_held v w [] cs1 c.args.place (value c.args.o) (raised_to v.objects (all_roots v) [] (numbers_of m) cs1 (value c.args.o) 1 c.requires.counted c.requires.known c.raise.ensures)
-    c.requires.place c.requires.whole.pending refl c.hold.ensures refl)) c.lower.ensures
+    (counted_held v w [] cs1 c.args.place (value c.args.o) (raised_to v.objects (all_roots v) [] (numbers_of m) cs1 (value c.args.o) 1 c.requires.counted c.requires.known c.raise.ensures.counts)
+    c.requires.place c.requires.whole.pending refl c.hold.ensures refl)) c.lower.ensures.counts)
 
 -- what is held already stays
 pub returns-then-eq-clause-held : goal.returns-then-eq-clause-held
@@ -61,3 +63,12 @@ returns-then-eq-clause-held c =
     let h = held_of c.args.self.now.roots in
     let same : value c.held-old.result ≡ value c.args.o = ap value_of (eqb-true c.held-old.result.0 c.args.o.0 (sym c.eq.ensures ∙ c.if-eq.true)) in
     sym (ap (with_held h c.args.place) (sym same ∙ c.held-old.ensures) ∙ held_already h c.args.place)
+
+pub returns-clause-objects : goal.returns-clause-objects
+returns-clause-objects c = c.lower.ensures.objects ∙ c.raise.ensures.objects
+
+pub returns-clause-room : goal.returns-clause-room
+returns-clause-room c = λ h. c.lower.ensures.room ∙ c.raise.ensures.room ∙ h
+
+pub returns-clause-places : goal.returns-clause-places
+returns-clause-places c = λ k. c.lower.ensures.places k ∙ c.raise.ensures.places k

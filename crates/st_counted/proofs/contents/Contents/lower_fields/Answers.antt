@@ -1,37 +1,38 @@
-use Rattle.std.proofs.Common.{◌≡◌, ◌≢◌, ℕ, zero, suc, ◌+◌, ◌<◌, ◌≤◌, cond, List, [], ◌∷◌, ◌++◌, length, drop, replicate, true, refl, sym, ap, ◌∙◌, subst, arith}
+use Rattle.std.proofs.Common.{◌≡◌, ℕ, ◌+◌, ◌<◌, List, [], ◌∷◌, ◌++◌, length, drop, replicate, refl, sym, ap, ◌∙◌, subst, arith}
 use Rattle.std.specs.Prelude.{Option, Some, None, slice_get, slice_set}
-use Rattle.st_model.specs.Values.{Value, Ref, value, value_of}
+use Rattle.st_model.specs.Values.{Value, value, value_of}
 use Rattle.st_model.specs.Objects.{nil}
 use Rattle.st_model.specs.Table.{Table}
-use Rattle.st_model.specs.View.{is_live, object_of, IsKnown}
+use Rattle.st_model.specs.View.{is_live, object_of}
 use Rattle.st_table.specs.Entries.{place}
-use Rattle.st_counted.specs.Counts.{is_counted, number_at}
 use Rattle.st_counted.specs.Contents.{counts_of}
+use Rattle.st_heap.specs.Places.{SamePlaces}
 use Rattle.st_heap.specs.Tables.{objects_of}
-use Rattle.st_heap.specs.declared.objects.Objects.{Objects}
 use Rattle.st_counted.specs.declared.contents.Contents.{Contents}
 use Rattle.st_counted.specs.References.{all_roots, IsCounted}
-use Rattle.st_counted.specs.Counted.{counted_view, numbers_of}
+use Rattle.st_counted.specs.Counted.{counted_view, numbers_of, SameButLinks}
+use Rattle.st_counted.specs.Links.{IsListed}
+use Rattle.st_counted.proofs.Moved.{moved}
 use Rattle.st_counted.proofs.Tallying.{hand_counted, hand_some}
 use Rattle.st_counted.proofs.Storing.{nil_is, lowered_to, dropped_all, taken_in_hand, nil_more, nils_counted, nils_few, without_nils}
 use Rattle.st_counted.proofs.contents.Contents.lower_fields.Goals as goal
 use Rattle.st_counted.proofs.contents.Contents.lower_fields.Goals.{then-v, else-v}
 
 -- the field that is read is the first in hand
-next_first : (m l : Contents) (t : Table) (o : Value) (roots : List Value) (nils i : ℕ) (x : Value) → l ≡ record m { counts = l.counts } → i < length (object_of (objects_of m.objects) o).fields → slice_get (object_of (objects_of l.objects) o).fields i ≡ Some x
+next_first : (m l : Contents) (t : Table) (o : Value) (roots : List Value) (nils i : ℕ) (x : Value) → SameButLinks m l → i < length (object_of (objects_of m.objects) o).fields → slice_get (object_of (objects_of l.objects) o).fields i ≡ Some x
     → IsCounted t roots (replicate nils nil ++ drop i (object_of (objects_of m.objects) o).fields) (numbers_of l) → IsCounted t roots (x ∷ (replicate nils nil ++ drop (i + 1) (object_of (objects_of m.objects) o).fields)) (numbers_of l)
 next_first m l t o roots nils i x rest within is h =
-    let there : slice_get (object_of (objects_of m.objects) o).fields i ≡ Some x = subst (λ (y : Objects). slice_get (object_of (objects_of y) o).fields i ≡ Some x) (ap (λ (y : Contents). y.objects) rest) is in
+    let there : slice_get (object_of (objects_of m.objects) o).fields i ≡ Some x = subst (λ (u : Table). slice_get (object_of u o).fields i ≡ Some x) rest.objects is in
     taken_in_hand t roots (numbers_of l) nils (object_of (objects_of m.objects) o).fields i x within there h
 
 pub field-v-requires-clause-live : goal.field-v-requires-clause-live
-field-v-requires-clause-live c = subst (λ (m : Contents). is_live (objects_of m.objects) (value c.args.o) ≡ true) (sym c.loop-i.invariant.rest) c.requires.live
+field-v-requires-clause-live c = ap (λ (t : Table). is_live t (value c.args.o)) c.loop-i.invariant.rest.objects ∙ c.requires.live
 
 pub field-v-requires-clause-range : goal.field-v-requires-clause-range
 field-v-requires-clause-range c =
     let count = c.count_fields-i-end.ensures in
     let within : c.loop-i.i < length (object_of (counted_view c.args.self.now).objects (value c.args.o)).fields = omega (arith, count) in
-    subst (λ (m : Contents). c.loop-i.i < length (object_of (objects_of m.objects) (value c.args.o)).fields) (sym c.loop-i.invariant.rest) within
+    subst (λ (t : Table). c.loop-i.i < length (object_of t (value c.args.o)).fields) (sym c.loop-i.invariant.rest.objects) within
 
 pub lower-requires-clause-counted : goal.lower-requires-clause-counted
 lower-requires-clause-counted c small =
@@ -54,7 +55,7 @@ lower-requires-clause-some c small =
     (next_first m c.loop-i.self t (value c.args.o) (all_roots v) c.loop-i.nils c.loop-i.i (value c.field-v.result) i.rest (omega (arith, count)) c.field-v.ensures i.counted) small
 
 pub loop-i-init : goal.loop-i-init
-loop-i-init c = record { counted = c.requires.counted; few = omega arith; rest = refl }
+loop-i-init c = record { counted = c.requires.counted; few = omega arith; listed = c.requires.listed; rest = record { objects = refl; room = refl; roots = refl; head = refl }; places = λ k. refl }
 
 pub loop-i-preserved : goal.loop-i-preserved
 loop-i-preserved c =
@@ -74,15 +75,19 @@ loop-i-preserved c =
             counted = subst (λ (l : Contents). IsCounted t (all_roots v) (replicate c.if-v.nils nil ++ left) (numbers_of l)) (sym w.self-is)
                 (subst (λ n. IsCounted t (all_roots v) (replicate n nil ++ left) (numbers_of c.loop-i.self)) (sym w.nils-is) more);
             few = omega (arith, w.nils-is, i.few);
-            rest = ap (λ (l : Contents). l) w.self-is ∙ i.rest ∙ ap (λ (l : Contents). record m { counts = l.counts }) (sym w.self-is);
+            listed = subst (λ (l : Contents). IsListed l.objects l.counts) (sym w.self-is) i.listed;
+            rest = subst (λ (l : Contents). SameButLinks m l) (sym w.self-is) i.rest;
+            places = subst (λ (l : Contents). SamePlaces m.objects.store l.objects.store) (sym w.self-is) i.places;
           }
       | else-v w ↦
-          let less = lowered_to t (all_roots v) (replicate c.loop-i.nils nil ++ left) (numbers_of c.loop-i.self) (counts_of w.lower.new.counts) (value c.field-v.result) first w.lower.ensures in
+          let less = lowered_to t (all_roots v) (replicate c.loop-i.nils nil ++ left) (numbers_of c.loop-i.self) (counts_of w.lower.new.counts) (value c.field-v.result) first w.lower.ensures.counts in
           record {
             counted = subst (λ n. IsCounted t (all_roots v) (replicate n nil ++ left) (numbers_of c.if-v.self)) (sym w.nils-is)
                 (subst (λ (l : Contents). IsCounted t (all_roots v) (replicate c.loop-i.nils nil ++ left) (numbers_of l)) (sym w.self-is) less);
             few = omega (arith, w.nils-is, i.few);
-            rest = w.self-is ∙ ap (λ (l : Contents). record l { counts = w.lower.new.counts }) i.rest ∙ ap (λ (l : Contents). record m { counts = l.counts }) (sym w.self-is);
+            listed = subst (λ (l : Contents). IsListed l.objects l.counts) (sym w.self-is) w.lower.ensures.listed;
+            rest = subst (λ (l : Contents). SameButLinks m l) (sym w.self-is) (record { objects = w.lower.ensures.objects ∙ i.rest.objects; room = w.lower.ensures.room ∙ i.rest.room; roots = i.rest.roots; head = i.rest.head });
+            places = subst (λ (l : Contents). SamePlaces m.objects.store l.objects.store) (sym w.self-is) (λ k. w.lower.ensures.places k ∙ i.places k);
           }
     ]
 
@@ -117,10 +122,18 @@ returns-then-nils-gt0-clause-counted c =
     let count = c.count_fields-i-end.ensures in
     let fields = (object_of v.objects (value c.args.o)).fields in
     let some = c.if-nils-gt0.true in
+    let e = c.lower-then-nils-gt0.ensures in
     let cs = counts_of c.lower-then-nils-gt0.new.self in
-    subst (λ (w : Contents). IsCounted (slice_set (counted_view w).objects (place c.args.o) None) (all_roots (counted_view w)) [] cs) (sym i.rest)
-    (subst (λ ns. IsCounted t (all_roots v) [] ns) (sym c.lower-then-nils-gt0.ensures)
+    moved m (record c.loop-i.self { objects = c.lower-then-nils-gt0.new.objects }) (place c.args.o) [] cs
+    (record { objects = e.objects ∙ i.rest.objects; room = e.room ∙ i.rest.room; roots = i.rest.roots; head = i.rest.head })
+    (subst (λ ns. IsCounted t (all_roots v) [] ns) (sym e.counts)
     (without_nils t (all_roots v) (numbers_of c.loop-i.self) c.loop-i.nils (omega (arith, some)) (all_met t (all_roots v) _ c.loop-i.nils c.loop-i.i fields (omega (arith, count)) i.counted)))
+
+pub returns-then-nils-gt0-clause-rest : goal.returns-then-nils-gt0-clause-rest
+returns-then-nils-gt0-clause-rest c =
+    let i = c.loop-i.invariant in
+    let e = c.lower-then-nils-gt0.ensures in
+    record { objects = e.objects ∙ i.rest.objects; room = e.room ∙ i.rest.room; roots = i.rest.roots; head = i.rest.head }
 
 pub returns-else-nils-gt0-clause-counted : goal.returns-else-nils-gt0-clause-counted
 returns-else-nils-gt0-clause-counted c =
@@ -131,6 +144,9 @@ returns-else-nils-gt0-clause-counted c =
     let fields = (object_of v.objects (value c.args.o)).fields in
     let t = slice_set v.objects (place c.args.o) None in
     let none : c.loop-i.nils ≡ 0 = omega (arith, c.if-nils-gt0.false) in
-    subst (λ (w : Contents). IsCounted (slice_set (counted_view w).objects (place c.args.o) None) (all_roots (counted_view w)) [] (numbers_of c.loop-i.self)) (sym i.rest)
+    moved m c.loop-i.self (place c.args.o) [] (numbers_of c.loop-i.self) i.rest
     (subst (λ n. IsCounted t (all_roots v) (replicate n nil ++ []) (numbers_of c.loop-i.self)) none
     (all_met t (all_roots v) _ c.loop-i.nils c.loop-i.i fields (omega (arith, count)) i.counted))
+
+pub returns-then-nils-gt0-clause-places : goal.returns-then-nils-gt0-clause-places
+returns-then-nils-gt0-clause-places c = λ k. c.lower-then-nils-gt0.ensures.places k ∙ c.loop-i.invariant.places k

@@ -14,13 +14,13 @@ use Rattle.st_counted.proofs.Rooting.{times_few}
 use Rattle.st_counted.proofs.Finishing.{times_words, adds_none, adds_more}
 use Rattle.st_counted.proofs.contents.Contents.raise_all.Goals as goal
 
-pub raise-requires-clause-counted : goal.raise-requires-clause-counted
-raise-requires-clause-counted c small =
+pub add-requires-clause-counted : goal.add-requires-clause-counted
+add-requires-clause-counted c small =
     let words = c.args.words.now in
     known_counted (counted_view c.args.self.now).objects _ (numbers_of c.loop-o.self) _ c.loop-o.invariant.adds (c.requires.known c.loop-o.o-index _ (slice_get-get_or words c.loop-o.o-index _ (omega arith))) small
 
-pub raise-requires-clause-room : goal.raise-requires-clause-room
-raise-requires-clause-room c =
+pub add-requires-clause-room : goal.add-requires-clause-room
+add-requires-clause-room c =
     let words = c.args.words.now in
     let at = c.loop-o.o-index in
     let all : (j : ℕ) → number_at (numbers_of c.loop-o.self) j + 1 < 4294967296 = λ j.
@@ -41,9 +41,9 @@ loop-o-preserved c =
     let at = c.loop-o.o-index in
     let i = c.loop-o.invariant in
     let x = slice_index_or words at (record { 0 = 2 }) in
-    let raised : counts_of c.raise.new.counts ≡ raised_by (numbers_of c.loop-o.self) (value x) 1 = grind (arith, common_steps, c.raise.ensures) in
+    let raised : counts_of c.add.new.counts ≡ raised_by (numbers_of c.loop-o.self) (value x) 1 = grind (arith, common_steps, c.add.ensures) in
     record {
-      adds = adds_more (counted_view m).objects (numbers_of m) (numbers_of c.loop-o.self) (counts_of c.raise.new.counts) (map value (take at words)) (map value (take (at + 1) words)) (value x) c.requires.entered i.adds
+      adds = adds_more (counted_view m).objects (numbers_of m) (numbers_of c.loop-o.self) (counts_of c.add.new.counts) (map value (take at words)) (map value (take (at + 1) words)) (value x) c.requires.entered i.adds
           (c.requires.known at x (slice_get-get_or words at (record { 0 = 2 }) (omega arith))) raised (λ j. times_words j words at (record { 0 = 2 }) (omega arith));
-      rest = ap (λ (l : Contents). record l { counts = c.raise.new.counts }) i.rest;
+      rest = ap (λ (l : Contents). record l { counts = c.add.new.counts }) i.rest;
     }

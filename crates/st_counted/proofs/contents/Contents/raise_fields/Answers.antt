@@ -30,15 +30,15 @@ field-v-requires-clause-range c =
     let within : c.loop-i.i < length (object_of (counted_view c.args.self.now).objects (value c.args.o)).fields = omega (arith, count) in
     subst (λ (m : Contents). c.loop-i.i < length (object_of (objects_of m.objects) (value c.args.o)).fields) (sym c.loop-i.invariant.rest) within
 
-pub raise-requires-clause-counted : goal.raise-requires-clause-counted
-raise-requires-clause-counted c small =
+pub add-requires-clause-counted : goal.add-requires-clause-counted
+add-requires-clause-counted c small =
     let v = counted_view c.args.self.now in
     let i = c.loop-i.invariant in
     let is = same_field c.loop-i.self c.args.self.now (value c.args.o) c.loop-i.i (value c.field-v.result) (ap (λ (m : Contents). m.objects) i.rest) c.field-v.ensures in
     known_counted v.objects _ (numbers_of c.loop-i.self) c.field-v.result.0 i.adds (field_known v c.requires.whole (value c.args.o) c.requires.live c.loop-i.i (value c.field-v.result) is) small
 
-pub raise-requires-clause-room : goal.raise-requires-clause-room
-raise-requires-clause-room c =
+pub add-requires-clause-room : goal.add-requires-clause-room
+add-requires-clause-room c =
     let v = counted_view c.args.self.now in
     let fields = (object_of v.objects (value c.args.o)).fields in
     let i = c.loop-i.invariant in
@@ -64,9 +64,9 @@ loop-i-preserved c =
     let count = c.count_fields-i-end.ensures in
     let is = same_field c.loop-i.self m (value c.args.o) at x (ap (λ (l : Contents). l.objects) i.rest) c.field-v.ensures in
     record {
-      adds = adds_more v.objects (numbers_of m) (numbers_of c.loop-i.self) (counts_of c.raise.new.counts) (take at fields) (take (at + 1) fields) x c.requires.entered i.adds
-          (field_known v c.requires.whole (value c.args.o) c.requires.live at x is) c.raise.ensures (λ j. times_more j fields at x (omega (arith, count)) is);
-      rest = ap (λ (l : Contents). record l { counts = c.raise.new.counts }) i.rest;
+      adds = adds_more v.objects (numbers_of m) (numbers_of c.loop-i.self) (counts_of c.add.new.counts) (take at fields) (take (at + 1) fields) x c.requires.entered i.adds
+          (field_known v c.requires.whole (value c.args.o) c.requires.live at x is) c.add.ensures (λ j. times_more j fields at x (omega (arith, count)) is);
+      rest = ap (λ (l : Contents). record l { counts = c.add.new.counts }) i.rest;
     }
 
 pub returns-clause-adds : goal.returns-clause-adds

@@ -11,38 +11,38 @@ use Rattle.st_counted.proofs.Tallying.{known_counted, entered_tally, tally_enter
 use Rattle.st_counted.proofs.Finishing.{class_known, raised_tally, raised_few, adds_object}
 use Rattle.st_counted.proofs.contents.Contents.raise_object.Goals as goal
 
-pub raise-requires-clause-counted : goal.raise-requires-clause-counted
-raise-requires-clause-counted c small =
+pub add-requires-clause-counted : goal.add-requires-clause-counted
+add-requires-clause-counted c small =
     let m = c.args.self.now in
     let v = counted_view m in
     let is = live_entry v.objects (value c.pointer_of-o.result) c.args.k (place_value c.pointer_of-o.result.0 c.args.k c.pointer_of-o.ensures) (sym c.live.ensures ∙ c.if-live.true) in
     known_counted v.objects (number_at (numbers_of m)) (numbers_of m) c.class_of-class.result.0 (entered_tally v.objects (numbers_of m) c.requires.entered)
     (class_known v c.args.k (object_of v.objects (value c.pointer_of-o.result)) (value c.class_of-class.result) c.requires.whole is c.class_of-class.ensures) small
 
-pub raise-requires-clause-room : goal.raise-requires-clause-room
-raise-requires-clause-room c = let a = c.requires.room (c.class_of-class.result.0 / 2) in omega (arith, a)
+pub add-requires-clause-room : goal.add-requires-clause-room
+add-requires-clause-room c = let a = c.requires.room (c.class_of-class.result.0 / 2) in omega (arith, a)
 
 pub raise_fields-requires-clause-entered : goal.raise_fields-requires-clause-entered
 raise_fields-requires-clause-entered c =
     let m = c.args.self.now in
     let v = counted_view m in
     let cs = numbers_of m in
-    let cs1 = counts_of c.raise.new.counts in
+    let cs1 = counts_of c.add.new.counts in
     let x = value c.class_of-class.result in
     let is = live_entry v.objects (value c.pointer_of-o.result) c.args.k (place_value c.pointer_of-o.result.0 c.args.k c.pointer_of-o.ensures) (sym c.live.ensures ∙ c.if-live.true) in
     tally_entered v.objects _ cs1 (raised_tally v.objects cs cs1 x 1 c.requires.entered
-    (class_known v c.args.k (object_of v.objects (value c.pointer_of-o.result)) x c.requires.whole is c.class_of-class.ensures) c.raise.ensures)
+    (class_known v c.args.k (object_of v.objects (value c.pointer_of-o.result)) x c.requires.whole is c.class_of-class.ensures) c.add.ensures)
 
 pub raise_fields-requires-clause-room : goal.raise_fields-requires-clause-room
 raise_fields-requires-clause-room c = λ j.
     let m = c.args.self.now in
     let v = counted_view m in
     let cs = numbers_of m in
-    let cs1 = counts_of c.raise.new.counts in
+    let cs1 = counts_of c.add.new.counts in
     let x = value c.class_of-class.result in
     let is = live_entry v.objects (value c.pointer_of-o.result) c.args.k (place_value c.pointer_of-o.result.0 c.args.k c.pointer_of-o.ensures) (sym c.live.ensures ∙ c.if-live.true) in
     let a = raised_few v.objects cs cs1 x 1 j c.requires.entered
-    (class_known v c.args.k (object_of v.objects (value c.pointer_of-o.result)) x c.requires.whole is c.class_of-class.ensures) c.raise.ensures in
+    (class_known v c.args.k (object_of v.objects (value c.pointer_of-o.result)) x c.requires.whole is c.class_of-class.ensures) c.add.ensures in
     let b = c.requires.room j in omega (arith, a, b)
 
 pub returns-then-live-clause-tallied : goal.returns-then-live-clause-tallied
@@ -50,12 +50,12 @@ returns-then-live-clause-tallied c =
     let m = c.args.self.now in
     let v = counted_view m in
     let cs = numbers_of m in
-    let cs1 = counts_of c.raise.new.counts in
+    let cs1 = counts_of c.add.new.counts in
     let x = value c.class_of-class.result in
     let o = object_of v.objects (value c.pointer_of-o.result) in
     let is = live_entry v.objects (value c.pointer_of-o.result) c.args.k (place_value c.pointer_of-o.result.0 c.args.k c.pointer_of-o.ensures) (sym c.live.ensures ∙ c.if-live.true) in
     adds_object v.objects cs cs1 (numbers_of c.raise_fields.new.self) c.args.k o x c.requires.entered (class_known v c.args.k o x c.requires.whole is c.class_of-class.ensures)
-    c.class_of-class.ensures is c.raise.ensures c.raise_fields.ensures.adds
+    c.class_of-class.ensures is c.add.ensures c.raise_fields.ensures.adds
 
 pub returns-else-live-clause-tallied : goal.returns-else-live-clause-tallied
 returns-else-live-clause-tallied c =

@@ -99,15 +99,15 @@ raise_all-requires-clause-room c = λ j.
     let a = tally_most (objs m) (λ k. uses k (objs m)) (numbers_of m) j c.requires.tallied in
     let b = uses_small m j c.requires.whole in omega (arith, a, b)
 
-pub raise-requires-clause-counted : goal.raise-requires-clause-counted
+pub add-requires-clause-counted : goal.add-requires-clause-counted
 unfolding value_of
-raise-requires-clause-counted c small =
+add-requires-clause-counted c small =
     let m = c.args.self.now in
     known_counted (objs m) (with_page m) (numbers_of c.raise_all.new.self) 2 (tally_page m c.raise_all.new.self c.requires.tallied c.raise_all.ensures.adds) (nil_known m c.requires.whole) small
 
-pub raise-requires-clause-room : goal.raise-requires-clause-room
+pub add-requires-clause-room : goal.add-requires-clause-room
 unfolding value_of
-raise-requires-clause-room c =
+add-requires-clause-room c =
     let m = c.args.self.now in
     let a = tally_most (objs m) (with_page m) (numbers_of c.raise_all.new.self) 1 (tally_page m c.raise_all.new.self c.requires.tallied c.raise_all.ensures.adds) in
     let b = uses_small m 1 c.requires.whole in
@@ -122,17 +122,17 @@ unfolding value_of
 raise_table-requires-clause-entered c =
     let m = c.args.self.now in
     let s1 = c.raise_all.new.self in
-    let cs2 = counts_of c.raise.new.counts in
+    let cs2 = counts_of c.add.new.counts in
     subst (λ (y : Contents). IsEntered (objs y) cs2) (sym c.raise_all.ensures.rest)
-    (tally_entered (objs m) (with_nil m) cs2 (tally_nil m s1 cs2 c.requires.whole (tally_page m s1 c.requires.tallied c.raise_all.ensures.adds) c.raise.ensures))
+    (tally_entered (objs m) (with_nil m) cs2 (tally_nil m s1 cs2 c.requires.whole (tally_page m s1 c.requires.tallied c.raise_all.ensures.adds) c.add.ensures))
 
 pub raise_table-requires-clause-room : goal.raise_table-requires-clause-room
 unfolding value_of
 raise_table-requires-clause-room c = λ j.
     let m = c.args.self.now in
     let s1 = c.raise_all.new.self in
-    let cs2 = counts_of c.raise.new.counts in
-    let a = tally_most (objs m) (with_nil m) cs2 j (tally_nil m s1 cs2 c.requires.whole (tally_page m s1 c.requires.tallied c.raise_all.ensures.adds) c.raise.ensures) in
+    let cs2 = counts_of c.add.new.counts in
+    let a = tally_most (objs m) (with_nil m) cs2 j (tally_nil m s1 cs2 c.requires.whole (tally_page m s1 c.requires.tallied c.raise_all.ensures.adds) c.add.ensures) in
     let b = uses_small m j c.requires.whole in
     let d = page_small j in
     let e = nil_small j in omega (arith, a, b, d, e)
@@ -152,10 +152,10 @@ raise_table-requires-2-clause-entered c =
     let m = c.args.self.now in
     let s1 = c.raise_all.new.self in
     let s3 = c.raise_table.new.self in
-    let cs2 = counts_of c.raise.new.counts in
+    let cs2 = counts_of c.add.new.counts in
     let r1 = c.raise_all.ensures.rest in
     let r = rest_of m s1 s3 r1 c.raise_table.ensures.rest in
-    let h = tally_nil m s1 cs2 c.requires.whole (tally_page m s1 c.requires.tallied c.raise_all.ensures.adds) c.raise.ensures in
+    let h = tally_nil m s1 cs2 c.requires.whole (tally_page m s1 c.requires.tallied c.raise_all.ensures.adds) c.add.ensures in
     subst (λ (y : Contents). IsEntered (objs y) (numbers_of s3)) (sym r) (tally_entered (objs m) (with_globals m) (numbers_of s3) (tally_globals m s1 cs2 (numbers_of s3) r1 h c.raise_table.ensures.adds))
 
 pub raise_table-requires-2-clause-room : goal.raise_table-requires-2-clause-room
@@ -164,8 +164,8 @@ raise_table-requires-2-clause-room c = λ j.
     let m = c.args.self.now in
     let s1 = c.raise_all.new.self in
     let s3 = c.raise_table.new.self in
-    let cs2 = counts_of c.raise.new.counts in
-    let h = tally_nil m s1 cs2 c.requires.whole (tally_page m s1 c.requires.tallied c.raise_all.ensures.adds) c.raise.ensures in
+    let cs2 = counts_of c.add.new.counts in
+    let h = tally_nil m s1 cs2 c.requires.whole (tally_page m s1 c.requires.tallied c.raise_all.ensures.adds) c.add.ensures in
     let a = tally_most (objs m) (with_globals m) (numbers_of s3) j (tally_globals m s1 cs2 (numbers_of s3) c.raise_all.ensures.rest h c.raise_table.ensures.adds) in
     let b = uses_small m j c.requires.whole in
     let d = page_small j in
@@ -185,11 +185,11 @@ returns-clause-counted c =
     let s1 = c.raise_all.new.self in
     let s3 = c.raise_table.new.self in
     let s4 = c.raise_table-2.new.self in
-    let cs2 = counts_of c.raise.new.counts in
+    let cs2 = counts_of c.add.new.counts in
     let r1 = c.raise_all.ensures.rest in
     let r3 = rest_of m s1 s3 r1 c.raise_table.ensures.rest in
     let r4 = rest_of m s3 s4 r3 c.raise_table-2.ensures.rest in
-    let h = tally_nil m s1 cs2 c.requires.whole (tally_page m s1 c.requires.tallied c.raise_all.ensures.adds) c.raise.ensures in
+    let h = tally_nil m s1 cs2 c.requires.whole (tally_page m s1 c.requires.tallied c.raise_all.ensures.adds) c.add.ensures in
     let g = tally_globals m s1 cs2 (numbers_of s3) r1 h c.raise_table.ensures.adds in
     subst (λ (y : Contents). IsCounted (objs y) (all_roots (counted_view y)) [] (numbers_of s4)) (sym r4)
     (all_counted (counted_view m) (numbers_of s4) c.requires.whole c.requires.held (tally_symbols m s3 (numbers_of s3) (numbers_of s4) r3 g c.raise_table-2.ensures.adds))

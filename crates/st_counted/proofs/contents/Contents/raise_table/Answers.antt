@@ -10,15 +10,15 @@ use Rattle.st_counted.proofs.Tallying.{test_other, known_counted, entered_tally,
 use Rattle.st_counted.proofs.Finishing.{raised_tally}
 use Rattle.st_counted.proofs.contents.Contents.raise_table.Goals as goal
 
-pub raise-requires-clause-counted : goal.raise-requires-clause-counted
-raise-requires-clause-counted c small =
+pub add-requires-clause-counted : goal.add-requires-clause-counted
+add-requires-clause-counted c small =
     let m = c.args.self.now in
     let t = (counted_view m).objects in
     let is = ap (λ b. cond b None (Some (value c.args.o))) (test_other c.args.o.0 0 c.if-o-ne0.true) in
     known_counted t _ (numbers_of m) c.args.o.0 (entered_tally t (numbers_of m) c.requires.entered) (λ s. c.requires.known (value c.args.o) is) small
 
-pub raise-requires-clause-room : goal.raise-requires-clause-room
-raise-requires-clause-room c = c.requires.room (c.args.o.0 / 2)
+pub add-requires-clause-room : goal.add-requires-clause-room
+add-requires-clause-room c = c.requires.room (c.args.o.0 / 2)
 
 pub returns-then-o-ne0-clause-adds : goal.returns-then-o-ne0-clause-adds
 returns-then-o-ne0-clause-adds c =
@@ -26,8 +26,8 @@ returns-then-o-ne0-clause-adds c =
     let t = (counted_view m).objects in
     let x = value c.args.o in
     let is = ap (λ b. cond b None (Some x)) (test_other c.args.o.0 0 c.if-o-ne0.true) in
-    let cs1 = counts_of c.raise.new.counts in
-    tally_same t _ (λ j. times j (table_root (cond (c.args.o.0 == 0) None (Some x))) + number_at (numbers_of m) j) cs1 (raised_tally t (numbers_of m) cs1 x 1 c.requires.entered (λ s. c.requires.known x is) c.raise.ensures)
+    let cs1 = counts_of c.add.new.counts in
+    tally_same t _ (λ j. times j (table_root (cond (c.args.o.0 == 0) None (Some x))) + number_at (numbers_of m) j) cs1 (raised_tally t (numbers_of m) cs1 x 1 c.requires.entered (λ s. c.requires.known x is) c.add.ensures)
     (λ j. let a : times j (table_root (cond (c.args.o.0 == 0) None (Some x))) ≡ times j (x ∷ []) = ap (λ y. times j (table_root y)) is in omega (arith, a))
 
 pub returns-else-o-ne0-clause-adds : goal.returns-else-o-ne0-clause-adds

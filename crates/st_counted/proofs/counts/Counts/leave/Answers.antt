@@ -1,19 +1,56 @@
-use Rattle.std.proofs.Common.{None, false, refl, ◌∙◌, length-set}
-use Rattle.st_counted.specs.Counts.{count_at, is_unused}
-use Rattle.st_counted.proofs.ZeroList.{relisted, zero_counted, counted_within, none_still, not_here}
+use Rattle.std.proofs.Common.{None, refl, ap, sym, ◌∙◌, subst, false, arith}
+use Rattle.st_table.specs.Entries.{place}
+use Rattle.st_heap.specs.Links.{next_of, before_of}
+use Rattle.st_heap.specs.Tables.{objects_of}
+use Rattle.st_model.specs.View.{is_live}
+use Rattle.st_counted.specs.Counts.{count_at}
+use Rattle.st_counted.specs.Links.{IsEnd}
+use Rattle.st_counted.proofs.Swept.{place_value}
+use Rattle.st_counted.proofs.Listing.{half_of, live_place, next_end, before_end, listed_without}
+use Rattle.st_counted.proofs.ZeroList.{zero_counted, not_here}
+use Rattle.st_counted.specs.Slots.{counts_in}
+use Rattle.st_counted.proofs.Slots.{counted_slot, counts_set, as_many, none_first_still}
 use Rattle.st_counted.proofs.counts.Counts.leave.Goals as goal
+
+pub index_mut-requires : goal.index_mut-requires
+index_mut-requires c =
+    let counts = c.args.self.now.counts in
+    let long = counts.ok.0 in
+    let within = counted_slot counts.items c.args.k (zero_counted (count_at (counts_in counts.items) c.args.k) c.requires.unused) in omega (arith, long, within)
 
 pub invariant_of-self : goal.invariant_of-self
 invariant_of-self c =
     let s = c.args.self.now in
     let k = c.args.k in
-    let cs = s.counts.items in
-    let e = c.unlink.ensures in
-    let counted = zero_counted (count_at cs k) c.requires in
-    record {
-      places = rw length-set s.places;
-      first = none_still cs k None s.first (not_here cs k s.first counted);
-      within = e.within;
-      size = e.size ∙ s.size;
-      listed = relisted c.unlink.new.self cs k None false (counted_within cs k counted) refl (e.holds (is_unused cs) s.listed c.requires);
-    }
+    let cs = counts_in s.counts.items in
+    let is = counts_set s.counts.items k (record { number = c.index_mut.result.now.number; counted = false }) in
+    record { places = as_many cs _ k None is s.places; none_first = none_first_still cs _ k None is s.none_first (not_here cs k s.none_first (zero_counted (count_at cs k) c.requires.unused)) }
+
+pub unlink-self-requires-clause-live : goal.unlink-self-requires-clause-live
+unlink-self-requires-clause-live c =
+    let t = objects_of c.args.objects.now in
+    let k = c.args.k in
+    ap (is_live t) (place_value c.pointer_of.result.0 k c.pointer_of.ensures) ∙ live_place t k (c.requires.listed.stored k (zero_counted (count_at (counts_in c.args.self.now.counts.items) k) c.requires.unused))
+
+pub unlink-self-requires-clause-next : goal.unlink-self-requires-clause-next
+unlink-self-requires-clause-next c =
+    let s = c.args.self.now in
+    let o = c.args.objects.now in
+    let k = c.args.k in
+    subst (λ j. IsEnd o (next_of o.store j)) (sym (half_of c.pointer_of.result.0 k c.pointer_of.ensures)) (next_end o (place s.first) k (counts_in s.counts.items) c.requires.listed.list c.requires.listed.stored c.requires.unused)
+
+pub unlink-self-requires-clause-before : goal.unlink-self-requires-clause-before
+unlink-self-requires-clause-before c =
+    let s = c.args.self.now in
+    let o = c.args.objects.now in
+    let k = c.args.k in
+    subst (λ j. IsEnd o (before_of o.store j)) (sym (half_of c.pointer_of.result.0 k c.pointer_of.ensures)) (before_end o (place s.first) k (counts_in s.counts.items) c.requires.listed.list c.requires.listed.stored c.requires.unused)
+
+pub returns-clause-listed : goal.returns-clause-listed
+returns-clause-listed c =
+    let s = c.args.self.now in
+    listed_without c.args.objects.now c.unlink-self.new.objects s _ c.pointer_of.result.0 c.args.k None c.requires.listed c.requires.unused refl (half_of c.pointer_of.result.0 c.args.k c.pointer_of.ensures)
+    (counts_set s.counts.items c.args.k (record { number = c.index_mut.result.now.number; counted = false })) c.unlink-self.ensures.objects c.unlink-self.ensures.holds
+
+pub returns-clause-counts : goal.returns-clause-counts
+returns-clause-counts c = counts_set c.args.self.now.counts.items c.args.k (record { number = c.index_mut.result.now.number; counted = false })

@@ -10,6 +10,7 @@ use Rattle.st_counted.specs.declared.contents.Head.{Head}
 use Rattle.st_counted.specs.References.{all_roots, references}
 use Rattle.st_counted.specs.Counted.{counted_view, numbers_of}
 use Rattle.st_counted.proofs.Dropping.{no_reference, keeps_left, without_is, fewer, settles_to, unused_within}
+use Rattle.st_counted.proofs.Placed.{left_live, left_stand}
 use Rattle.st_counted.proofs.memory.CountedMemory.drop_unused.Goals as goal
 
 pub drop_object-requires-clause-place : goal.drop_object-requires-clause-place
@@ -31,10 +32,11 @@ invariant_of-self c =
           (ap (λ (h : Head). head_of h.capacity h.globals h.symbols) e.head);
       room = e.room m.room;
       counted = e.counted;
+      listed = e.listed;
     }
 
 pub loop-k-init : goal.loop-k-init
-loop-k-init c = record { drops = drops_none (counted_view c.args.self.now.contents).objects (view_roots (counted_view c.args.self.now.contents)); held = refl; head = refl }
+loop-k-init c = record { drops = drops_none (counted_view c.args.self.now.contents).objects (view_roots (counted_view c.args.self.now.contents)); held = refl; head = refl; places = λ v p l s. s }
 
 pub loop-k-smaller : goal.loop-k-smaller
 loop-k-smaller c =
@@ -61,10 +63,11 @@ loop-k-preserved c =
           (subst (λ (xs : List Value). KeepsNeeded v.objects xs keep) (moved_roots first v i.held i.head) (keeps_left v cs k m.counted unused)));
       held = e.held ∙ i.held;
       head = ap (λ (h : Head). head_of h.capacity h.globals h.symbols) e.head ∙ i.head;
+      places = λ x p live s. left_stand m.contents.objects c.drop_object.new.self.objects k e.objects e.places x p live (i.places x p (left_live m.contents.objects c.drop_object.new.self.objects k e.objects x live) s);
     }
 
-pub returns : goal.returns
-returns c =
+pub returns-clause-settles : goal.returns-clause-settles
+returns-clause-settles c =
     let m = c.loop-k.self in
     let i = c.loop-k.invariant in
     settles_to (counted_view c.args.self.now.contents) (counted_view m.contents) (numbers_of m.contents) i.drops i.held i.head m.counted c.in_default.ensures.none

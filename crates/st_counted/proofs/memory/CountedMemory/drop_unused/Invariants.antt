@@ -3,6 +3,8 @@ use Rattle.st_model.specs.Objects.{one}
 use Rattle.st_model.specs.Table.{total_used}
 use Rattle.st_model.specs.View.{view_roots}
 use Rattle.st_model.proofs.Settling.{DropsTo}
+use Rattle.st_memory.specs.Places.{KeepsPlacesIn}
+use Rattle.st_heap.specs.Places.{Stands}
 use Rattle.st_counted.specs.Counted.{counted_view}
 use Rattle.st_counted.proofs.memory.CountedMemory.drop_unused.Given as goal
 
@@ -12,6 +14,7 @@ invariant-loop-k l = record {
   drops : DropsTo (counted_view l.fn.self.contents).objects (counted_view l.self.contents).objects (view_roots (counted_view l.fn.self.contents));
   held : (counted_view l.self.contents).held ≡ (counted_view l.fn.self.contents).held;
   head : (counted_view l.self.contents).head ≡ (counted_view l.fn.self.contents).head;
+  places : KeepsPlacesIn (counted_view l.self.contents).objects (Stands l.fn.self.contents.objects) (Stands l.self.contents.objects);
 }
 
 abbrev pub decreases-loop-k : goal.decreases-loop-k

@@ -4,6 +4,7 @@ use Rattle.st_counted.specs.declared.contents.Head.{Head}
 use Rattle.st_model.specs.Values.{value}
 use Rattle.st_model.proofs.WholeLemmas.{whole_held}
 use Rattle.st_counted.specs.Counted.{counted_view}
+use Rattle.st_counted.proofs.Placed.{all_stand}
 use Rattle.st_counted.proofs.memory.CountedMemoryMemory.hold.Goals as goal
 
 pub invariant_of-self : goal.invariant_of-self
@@ -15,4 +16,8 @@ invariant_of-self c =
       whole = whole_held v w c.args.place (value c.args.o) m.whole c.requires.known c.hold.ensures.objects c.hold.ensures.held (ap (λ (h : Head). head_of h.capacity h.globals h.symbols) c.hold.ensures.head);
       room = c.hold.ensures.room m.room;
       counted = c.hold.ensures.counted;
+      listed = c.hold.ensures.listed;
     }
+
+pub returns-clause-places : goal.returns-clause-places
+returns-clause-places c = all_stand c.args.self.now.contents.objects c.hold.new.self.objects c.hold.ensures.places

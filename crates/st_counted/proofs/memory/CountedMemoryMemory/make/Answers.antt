@@ -18,4 +18,5 @@ invariant_of-self c =
       whole = whole_made v (counted_view c.make.new.self) (c.args.class.0 / 2) c.args.kind c.args.size c.args.literals m.whole class c.requires.makeable c.requires.room e.objects e.held (ap (λ (h : Head). head_of h.capacity h.globals h.symbols) e.head);
       room = e.words;
       counted = e.counted;
+      listed = e.listed;
     }

@@ -5,7 +5,9 @@ use Rattle.st_model.proofs.FormedLemmas.{unit_limit-word}
 use Rattle.st_model.specs.Table.{Table}
 use Rattle.st_memory.specs.Copied.{with_units_in}
 use Rattle.st_cells.specs.Words.{with_run}
-use Rattle.st_counted.specs.References.{all_roots, IsCounted}
+use Rattle.st_counted.specs.References.{all_roots, references, IsCounted}
+use Rattle.st_heap.specs.Tables.{objects_of}
+use Rattle.st_counted.proofs.Listing.{relinked, tally_stored}
 use Rattle.st_counted.specs.Counted.{counted_view, numbers_of}
 use Rattle.st_counted.proofs.Stretches.{laid_is, changed_is, whole_run, counted_run}
 use Rattle.st_counted.proofs.memory.CountedMemoryMemory.write_words.Goals as goal
@@ -17,12 +19,15 @@ invariant_of-self c =
     let x = value c.args.o in
     let is = c.write_words.ensures.objects ∙ changed_is v.objects c.args.o (with_run (object_of v.objects x).units c.args.at c.args.words.now) c.requires.live in
     let now = c.write_words.new.self in
+    let counted : IsCounted (objects_of now) (all_roots v) [] (numbers_of m.contents) =
+    subst (λ (t : Table). IsCounted t (all_roots v) [] (numbers_of m.contents)) (sym is)
+    (counted_run v.objects (all_roots v) [] (numbers_of m.contents) x (with_run (object_of v.objects x).units c.args.at c.args.words.now) m.counted c.requires.live) in
     record {
       whole = whole_run v (counted_view (record m.contents { objects = now })) x c.args.at c.args.words.now m.whole c.requires.live
           (λ j. subst (λ n. get_or c.args.words.now j 0 < n) (sym (unit_limit-word (object_of v.objects x).kind c.requires.kind)) (let small = (c.type_inv.words j).fits in omega (arith, small))) is refl refl;
       room = c.write_words.ensures.room ∙ m.room;
-      counted = subst (λ (t : Table). IsCounted t (all_roots v) [] (numbers_of m.contents)) (sym is)
-          (counted_run v.objects (all_roots v) [] (numbers_of m.contents) x (with_run (object_of v.objects x).units c.args.at c.args.words.now) m.counted c.requires.live);
+      counted = counted;
+      listed = relinked m.contents.objects now m.contents.counts m.listed c.write_words.ensures.links (tally_stored now (references (objects_of now) (all_roots v) []) (numbers_of m.contents) counted.tallied);
     }
 
 pub returns-clause-objects : goal.returns-clause-objects

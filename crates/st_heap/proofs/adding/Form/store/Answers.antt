@@ -33,6 +33,7 @@ loop-i-preserved c =
       };
       written = more (new_cell c.args.self.now) t.cells c.loop-i.i c.word.result within c.word.ensures was.written;
       capacity = c.set_word.ensures.capacity ∙ was.capacity;
+      links = record { next = λ j ne. c.set_word.ensures.links.next j ∙ was.links.next j ne; before = λ j ne. c.set_word.ensures.links.before j ∙ was.links.before j ne };
     }
 
 pub returns-clause-stored : goal.returns-clause-stored

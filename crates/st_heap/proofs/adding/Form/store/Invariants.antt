@@ -1,6 +1,7 @@
 use Rattle.std.proofs.Common.{◌≡◌, ℕ, ◌<◌, ◌/◌, get_or}
 use Rattle.st_heap.specs.Stored.{Takes}
 use Rattle.st_heap.specs.Stores.{stored_of, capacity_of}
+use Rattle.st_heap.specs.Links.{SameOtherLinks}
 use Rattle.st_heap.specs.Fresh.{new_cell}
 use Rattle.st_heap.proofs.adding.Form.store.Given as goal
 
@@ -10,4 +11,5 @@ invariant-loop-i l = record {
   taken : Takes (stored_of l.fn.store) (stored_of l.store) (l.at.0 / 2) l.self.kind l.self.odd l.self.words;
   written : (j : ℕ) → j < l.i → get_or taken.cells j 0 ≡ new_cell l.self j;
   capacity : capacity_of l.store ≡ capacity_of l.fn.store;
+  links : SameOtherLinks l.fn.store l.store (l.at.0 / 2);
 }

@@ -7,6 +7,9 @@ use Rattle.st_heap.proofs.Storing.{slot_entry, same_all}
 use Rattle.st_heap.proofs.Swapping.{exchanged_all, exchanged_first, exchanged_second}
 use Rattle.st_heap.proofs.Totals.{used_exchanged}
 use Rattle.st_heap.proofs.Tying.{are_tied, tied_entry}
+use Rattle.st_heap.specs.Links.{next_in, before_in}
+use Rattle.st_heap.proofs.Laying.{entry_inside}
+use Rattle.st_heap.proofs.Linking.{set_twice}
 use Rattle.st_heap.proofs.store.Store.exchange.Goals as goal
 
 pub set_entry-requires-2 : goal.set_entry-requires-2
@@ -64,3 +67,23 @@ returns-clause-stored c =
     let is : c.set_entry-2.new.self ≡ set (set moved a (Some x)) b (Some y) = c.set_entry-2.ensures ∙ ap (λ es. set es b (Some y)) (c.set_entry.ensures ∙ ap (λ es. set es a (Some x)) c.exchange.ensures.entries) in
     same_all ws (words_of c.exchange.new.self) (exchanged_blocks old s.table c.args.a c.args.b) (blocks_of c.exchange.new.self) (set (set moved a (Some x)) b (Some y)) c.set_entry-2.new.self c.exchange.ensures.words c.exchange.ensures.blocks is
     ∙ exchanged_all ws old s.table c.args.a c.args.b e f x y c.entry-first.ensures c.entry-second.ensures refl refl
+
+pub returns-clause-links : goal.returns-clause-links
+returns-clause-links c =
+    let s = c.args.self.now in
+    let a = c.args.a.0 / 2 in
+    let b = c.args.b.0 / 2 in
+    let e = c.entry-first.result in
+    let f = c.entry-second.result in
+    let x : Entry = record { at = f.at; kind = f.kind; odd = f.odd; next = e.next; before = e.before } in
+    let y : Entry = record { at = e.at; kind = e.kind; odd = e.odd; next = f.next; before = f.before } in
+    let moved = exchanged_entries s.table c.args.a c.args.b in
+    let is : c.set_entry-2.new.self ≡ set (set moved a (Some x)) b (Some y) = c.set_entry-2.ensures ∙ ap (λ es. set es b (Some y)) (c.set_entry.ensures ∙ ap (λ es. set es a (Some x)) c.exchange.ensures.entries) in
+    let u = moved_entry (get_or s.table a None) (entry_at (get_or s.table b None)) in
+    let v = moved_entry (get_or s.table b None) (entry_at (get_or s.table a None)) in
+    let ina = entry_inside s.table a e c.entry-first.ensures in
+    let inb = entry_inside s.table b f c.entry-second.ensures in
+    record {
+      next = λ j. ap (λ (es : List (Option Entry)). next_in (get_or es j None)) is ∙ set_twice next_in s.table a b u v (Some x) (Some y) ina inb (ap next_in (sym c.entry-first.ensures)) (ap next_in (sym c.entry-second.ensures)) j;
+      before = λ j. ap (λ (es : List (Option Entry)). before_in (get_or es j None)) is ∙ set_twice before_in s.table a b u v (Some x) (Some y) ina inb (ap before_in (sym c.entry-first.ensures)) (ap before_in (sym c.entry-second.ensures)) j;
+    }

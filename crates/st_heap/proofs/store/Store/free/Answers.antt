@@ -1,15 +1,18 @@
-use Rattle.std.proofs.Common.{◌≡◌, ◌-◌, ◌/◌, List, Option, None, length, set, refl, sym, ap, ◌∙◌, arith, length-set}
+use Rattle.std.proofs.Common.{◌≡◌, ◌≢◌, ℕ, get_or, ◌-◌, ◌/◌, List, Option, None, length, set, refl, sym, ap, ◌∙◌, arith, length-set}
 use Rattle.st_model.specs.declared.demand.Demand.{Demand}
 use Rattle.st_table.specs.declared.entry.Entry.{Entry}
 use Rattle.st_heap.specs.Blocks.{block_at, given_back, with_owner}
 use Rattle.st_heap.specs.Heaps.{words_of, blocks_of}
 use Rattle.st_heap.proofs.Laying.{entered_owner}
+use Rattle.st_heap.proofs.Placed.{places_without}
 use Rattle.st_heap.proofs.Taking.{tied_given}
 use Rattle.st_heap.specs.Stored.{Stored, stored_at, stored_all, total, one_stored, stored_words, used_of}
 use Rattle.st_heap.proofs.Storing.{length_entry, stored_entry, slot_entry, lengths_all, set_all, same_all}
 use Rattle.st_heap.proofs.Swapping.{owner_set}
 use Rattle.st_heap.proofs.Totals.{total_gone, slot_inside}
 use Rattle.st_heap.proofs.Tying.{tied_of, are_tied}
+use Rattle.std.proofs.lemmas.List.{get_or-set_other}
+use Rattle.st_heap.specs.Links.{next_in, before_in}
 use Rattle.st_heap.proofs.store.Store.free.Goals as goal
 
 pub give-requires : goal.give-requires
@@ -82,3 +85,13 @@ returns-clause-stored c =
     same_all ws (words_of c.give.new.self) (given_back bs e.at) (blocks_of c.give.new.self) (set s.table k None) c.free_entry.new.self c.give.ensures.words c.give.ensures.blocks c.free_entry.ensures
     ∙ lengths_all ws bs (given_back bs e.at) (set s.table k None) (λ j. owner_set bs (e.at / 2) (with_owner (record { 0 = 0 }) (block_at bs e.at)) j refl)
     ∙ set_all ws bs s.table k None
+
+pub returns-clause-links : goal.returns-clause-links
+returns-clause-links c =
+    let s = c.args.self.now in
+    let k = c.args.o.0 / 2 in
+    let now = λ (j : ℕ) (ne : j ≢ k). ap (λ (es : List (Option Entry)). get_or es j None) c.free_entry.ensures ∙ get_or-set_other s.table k j None None ne in
+    record { next = λ j ne. ap next_in (now j ne); before = λ j ne. ap before_in (now j ne) }
+
+pub returns-clause-places : goal.returns-clause-places
+returns-clause-places c = λ k other. places_without c.args.self.now.table c.free_entry.new.self (c.args.o.0 / 2) k c.free_entry.ensures other

@@ -1,4 +1,4 @@
-use Rattle.std.proofs.Common.{◌≡◌, ◌+◌, ◌<◌, ◌/◌, List, Option, Some, length, set, refl, sym, ap, ◌∙◌, arith, length-set}
+use Rattle.std.proofs.Common.{◌≡◌, ◌≢◌, ℕ, None, get_or, ◌+◌, ◌<◌, ◌/◌, List, Option, Some, length, set, refl, sym, ap, ◌∙◌, arith, length-set}
 use Rattle.st_model.specs.declared.demand.Demand.{Demand}
 use Rattle.st_table.specs.declared.entry.Entry.{Entry}
 use Rattle.st_heap.specs.declared.block.Block.{Block}
@@ -8,6 +8,9 @@ use Rattle.st_heap.proofs.Runs.{length-run}
 use Rattle.st_heap.proofs.Storing.{keeps_all, set_all, same_all, length-all}
 use Rattle.st_heap.proofs.Totals.{total_count, used_new}
 use Rattle.st_heap.proofs.Tying.{are_tied}
+use Rattle.std.proofs.lemmas.List.{get_or-set_other}
+use Rattle.st_heap.specs.Links.{next_in, before_in}
+use Rattle.st_heap.proofs.Linking.{next_moved, before_moved}
 use Rattle.st_heap.proofs.store.Store.take.Goals as goal
 
 pub overflow_add-self : goal.overflow_add-self
@@ -57,4 +60,17 @@ returns-clause-stored c =
       cells = (stored_at ws bs e).cells;
       long = length-run _ _ ∙ ap (λ (b : Block). b.len) c.take-at.ensures.block;
       is = same_all ws ws bs bs (set t k (Some e)) c.take_entry.new.self refl refl c.take_entry.ensures ∙ set_all ws bs t k (Some e) ∙ ap (λ xs. set xs k (Some (stored_at ws bs e))) kept;
+    }
+
+pub returns-clause-links : goal.returns-clause-links
+returns-clause-links c =
+    let s = c.args.self.now in
+    let k = c.args.o.0 / 2 in
+    let t = c.take-at.new.t in
+    let e : Entry = record { at = c.take-at.result; kind = c.args.kind; odd = c.args.odd; next = record { 0 = 0 }; before = record { 0 = 0 } } in
+    let was = λ (j : ℕ). c.take-at.ensures.keeps.entry j in
+    let now = λ (j : ℕ) (ne : j ≢ k). ap (λ (es : List (Option Entry)). get_or es j None) c.take_entry.ensures ∙ get_or-set_other t k j (Some e) None ne ∙ was j in
+    record {
+      next = λ j ne. ap next_in (now j ne) ∙ next_moved (get_or s.table j None) _;
+      before = λ j ne. ap before_in (now j ne) ∙ before_moved (get_or s.table j None) _;
     }

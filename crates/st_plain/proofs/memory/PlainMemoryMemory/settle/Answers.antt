@@ -30,8 +30,8 @@ loop-preserved c =
       head = e.head ∙ i.head;
     }
 
-pub returns-then-drop_unneeded-eq0 : goal.returns-then-drop_unneeded-eq0
-returns-then-drop_unneeded-eq0 c =
+pub returns-then-drop_unneeded-eq0-clause-settles : goal.returns-then-drop_unneeded-eq0-clause-settles
+returns-then-drop_unneeded-eq0-clause-settles c =
     let i = c.loop.invariant in
     let e = c.drop_unneeded.ensures in
     let none = c.if-drop_unneeded-eq0.true in

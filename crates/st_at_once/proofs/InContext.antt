@@ -1,0 +1,336 @@
+-- What a row that stays in its context does leaves the registers that name objects.
+use Rattle.std.proofs.Common.{◌≡◌, ℕ, zero, suc, ◌+◌, ◌-◌, Bool, true, false, Option, Some, None, Result, Ok, Err, refl, sym, ap, ◌∙◌, subst}
+use Rattle.std.specs.Prelude.{◌==◌, nat_lt, nat_le, ℤ, if◌then◌else◌, length, slice_get}
+use Rattle.st_model.specs.declared.dead.Dead.{Dead}
+use Rattle.st_model.specs.declared.page.PageObject.{PageObject}
+use Rattle.st_model.specs.declared.bytecode.Operand.{Operand}
+use Rattle.st_model.specs.declared.bytecode.Operand.TheVariants.{ReceiverVariable, TemporaryVariable, LiteralConstant, LiteralVariable}
+use Rattle.st_model.specs.declared.bytecode.Constant.{Constant}
+use Rattle.st_model.specs.declared.bytecode.Constant.TheVariants as constant
+use Rattle.st_model.specs.declared.bytecode.Bytecode.{Bytecode}
+use Rattle.st_model.specs.declared.bytecode.Bytecode.TheVariants as code
+use Rattle.st_model.specs.declared.integers.IntAnswer.{IntAnswer}
+use Rattle.st_model.specs.declared.integers.IntAnswer.TheVariants.{Number, Truth, Point}
+use Rattle.st_model.specs.Values.{Value, Small, Ref}
+use Rattle.st_model.specs.Objects.{Object, is_pointers, is_method}
+use Rattle.st_model.specs.Machine.{ObjectMemory, Registers, State, Transition, Died, Went, Step, is_there, answer, die, after, or_left, tried, ◌>>=◌, ◌>>◌}
+use Rattle.st_model.specs.Steps.{get_active, get_home, get_method, get_receiver, get_ip, get_sp, set_ip, set_sp, found, object_named, object, stored_at, store_at, set_field, of_page, class_of, same_value, or_die, check, integer_or_die, fetch_field, store_field, count_fields, put, push, top, under, drop_words, pop, literal, code_byte, byte_at, next_byte, jump}
+use Rattle.st_model.specs.Primitives.{pop_words, answer_with, succeed, truth}
+use Rattle.st_model.specs.Arithmetic.{integer_under, integer_answer, value_of_answer, arithmetic_number, equivalence, receiver_class}
+use Rattle.st_model.specs.Integers.{binary}
+use Rattle.st_model.specs.Bytecodes.{fetch_receiver_variable, fetch_temporary_variable, fetch_literal_constant, fetch_literal_variable, fetch_operand, store_receiver_variable, store_temporary_variable, store_literal_variable, store_operand, push_operand, store_and_pop, push_receiver, constant_value, push_constant, extended_push, extended_store, extended_store_and_pop, pop_stack, duplicate_top, push_active_context, short_unconditional_jump, long_unconditional_jump}
+use Rattle.st_control.specs.AtOnce.{at_once, jump_at_once}
+use Rattle.st_at_once.specs.AtOnce.{NamesSame, answered_at_once, arithmetic_at_once_by, arithmetic_at_once, long_jump_at_once, row_in_context}
+
+abbrev same : (r : Registers) → NamesSame r r
+same r = record { active = refl; home = refl; method = refl; receiver = refl }
+
+pub names_then : (r q p : Registers) → NamesSame r q → NamesSame q p → NamesSame r p
+names_then r q p a b = record { active = b.active ∙ a.active; home = b.home ∙ a.home; method = b.method ∙ a.method; receiver = b.receiver ∙ a.receiver }
+
+-- where it goes on, the registers name what they named
+abbrev pub Left : {H A : Type 0} → Registers → Transition (State H) A → Type 0
+Left r (Died cause) = Unit {0}
+Left r (Went a s) = NamesSame r s.registers
+
+pub record Stays {H A : Type 0} (m : Step H A) : Type 0 where
+  pub stays : (s : State H) → Left s.registers (m.run s)
+
+left_then : {H A : Type 0} (r q : Registers) (o : Transition (State H) A) → NamesSame r q → Left q o → Left r o
+left_then r q (Died cause) a l = tt
+left_then r q (Went x s) a l = names_then r q s.registers a l
+
+after_stays : {H A B : Type 0} (r : Registers) (o : Transition (State H) A) (f : A → Step H B) → Left r o → ((a : A) → Stays (f a)) → Left r (after o (λ a t. (f a).run t))
+unfolding after
+after_stays r (Died cause) f l h = tt
+after_stays r (Went a t) f l h = left_then r t.registers ((f a).run t) l ((h a).stays t)
+
+then_stays : {H A B : Type 0} (m : Step H A) (f : A → Step H B) → Stays m → ((a : A) → Stays (f a)) → Stays (m >>= f)
+unfolding ◌>>=◌
+then_stays m f h k = record { stays = λ s. after_stays s.registers (m.run s) f (h.stays s) k }
+
+next_stays : {H A B : Type 0} (m : Step H A) (n : Step H B) → Stays m → Stays n → Stays (m >> n)
+unfolding ◌>>◌
+next_stays m n h k = then_stays m (λ a. n) h (λ a. k)
+
+answer_stays : {H A : Type 0} (x : A) → Stays (answer {H = H} x)
+unfolding answer
+answer_stays x = record { stays = λ s. same s.registers }
+
+die_stays : {H A : Type 0} (d : Dead) → Stays (die {H = H} {A = A} d)
+unfolding die
+die_stays d = record { stays = λ s. tt }
+
+if_stays : {H A : Type 0} (b : Bool) (m n : Step H A) → Stays m → Stays n → Stays (if b then m else n)
+if_stays true m n h k = h
+if_stays false m n h k = k
+
+check_stays : {H : Type 0} (d : Dead) (b : Bool) → Stays (check {H = H} d b)
+unfolding check
+check_stays d true = answer_stays tt
+check_stays d false = die_stays d
+
+or_die_stays : {H A : Type 0} (d : Dead) (x : Option A) → Stays (or_die {H = H} d x)
+unfolding or_die
+or_die_stays d None = die_stays d
+or_die_stays d (Some a) = answer_stays a
+
+or_left_stays : {H A : Type 0} (s : State H) (o : Transition (State H) A) → Left s.registers o → Left s.registers (or_left s o)
+or_left_stays s (Died cause) l = same s.registers
+or_left_stays s (Went a t) l = l
+
+tried_stays : {H A : Type 0} (m : Step H A) → Stays m → Stays (tried m)
+unfolding tried
+tried_stays m h = record { stays = λ s. or_left_stays s (m.run s) (h.stays s) }
+
+-- registers
+
+active_stays : {H : Type 0} → Stays (get_active {H = H})
+unfolding get_active
+active_stays = record { stays = λ s. same s.registers }
+
+home_stays : {H : Type 0} → Stays (get_home {H = H})
+unfolding get_home
+home_stays = record { stays = λ s. same s.registers }
+
+method_stays : {H : Type 0} → Stays (get_method {H = H})
+unfolding get_method
+method_stays = record { stays = λ s. same s.registers }
+
+receiver_stays : {H : Type 0} → Stays (get_receiver {H = H})
+unfolding get_receiver
+receiver_stays = record { stays = λ s. same s.registers }
+
+ip_stays : {H : Type 0} → Stays (get_ip {H = H})
+unfolding get_ip
+ip_stays = record { stays = λ s. same s.registers }
+
+sp_stays : {H : Type 0} → Stays (get_sp {H = H})
+unfolding get_sp
+sp_stays = record { stays = λ s. same s.registers }
+
+set_ip_stays : {H : Type 0} (n : ℤ) → Stays (set_ip {H = H} n)
+unfolding set_ip
+set_ip_stays n = record { stays = λ s. record { active = refl; home = refl; method = refl; receiver = refl } }
+
+set_sp_stays : {H : Type 0} (n : ℕ) → Stays (set_sp {H = H} n)
+unfolding set_sp
+set_sp_stays n = record { stays = λ s. record { active = refl; home = refl; method = refl; receiver = refl } }
+
+jump_stays : {H : Type 0} (d : ℤ) → Stays (jump {H = H} d)
+unfolding jump ◌>>◌
+jump_stays d = then_stays _ _ ip_stays (λ ip. then_stays _ _ (check_stays _ _) (λ u. then_stays _ _ (check_stays _ _) (λ u. set_ip_stays _)))
+
+drop_stays : {H : Type 0} (n : ℕ) → Stays (drop_words {H = H} n)
+unfolding drop_words ◌>>◌
+drop_stays n = then_stays _ _ sp_stays (λ sp. then_stays _ _ (check_stays _ _) (λ u. set_sp_stays _))
+
+integer_stays : {H : Type 0} (v : Value) → Stays (integer_or_die {H = H} v)
+unfolding integer_or_die
+integer_stays (Small n) = answer_stays _
+integer_stays (Ref n) = die_stays _
+
+module _ {H : Type 0} (m : ObjectMemory H) where
+  -- objects
+
+  found_stays : (e : Option Object) → Stays (found {H = H} e)
+  unfolding found
+  found_stays None = die_stays _
+  found_stays (Some o) = answer_stays o
+
+  named_stays : (n : ℕ) → Stays (object_named m n)
+  unfolding object_named
+  named_stays n = record { stays = λ s. (found_stays (m.read s.memory n)).stays s }
+
+  object_stays : (v : Value) → Stays (object m v)
+  unfolding object
+  object_stays (Small n) = die_stays _
+  object_stays (Ref n) = named_stays n
+
+  stored_stays : (n i : ℕ) (x : Value) (s : State H) (e : Option Object) (b : Bool) → Left s.registers (stored_at m n i x s e b)
+  unfolding stored_at
+  stored_stays n i x s None b = tt
+  stored_stays n i x s (Some o) false = tt
+  stored_stays n i x s (Some o) true = same s.registers
+
+  set_field_stays : (v : Value) (i : ℕ) (x : Value) → Stays (set_field m v i x)
+  unfolding set_field store_at
+  set_field_stays (Small n) i x = die_stays _
+  set_field_stays (Ref n) i x = record { stays = λ s. stored_stays n i x s (m.read s.memory n) (is_there m s.memory x) }
+
+  page_stays : (q : PageObject) → Stays (of_page m q)
+  unfolding of_page
+  page_stays q = record { stays = λ s. same s.registers }
+
+  class_stays : (v : Value) → Stays (class_of m v)
+  unfolding class_of
+  class_stays (Small n) = page_stays _
+  class_stays (Ref n) = then_stays _ _ (named_stays n) (λ o. answer_stays _)
+
+  fetch_stays : (v : Value) (i : ℕ) → Stays (fetch_field m v i)
+  unfolding fetch_field ◌>>◌
+  fetch_stays v i = then_stays _ _ (object_stays v) (λ o. then_stays _ _ (check_stays _ _) (λ u. or_die_stays _ _))
+
+  store_stays : (v : Value) (i : ℕ) (x : Value) → Stays (store_field m v i x)
+  unfolding store_field ◌>>◌
+  store_stays v i x = then_stays _ _ (object_stays v) (λ o. then_stays _ _ (check_stays _ _) (λ u. then_stays _ _ (check_stays _ _) (λ u. set_field_stays v i x)))
+
+  count_stays : (v : Value) → Stays (count_fields m v)
+  unfolding count_fields ◌>>◌
+  count_stays v = then_stays _ _ (object_stays v) (λ o. then_stays _ _ (check_stays _ _) (λ u. answer_stays _))
+
+  literal_stays : (v : Value) (i : ℕ) → Stays (literal m v i)
+  unfolding literal ◌>>◌
+  literal_stays v i = then_stays _ _ (object_stays v) (λ o. then_stays _ _ (check_stays _ _) (λ u. or_die_stays _ _))
+
+  byte_stays : (v : Value) (ip : ℤ) → Stays (byte_at m v ip)
+  unfolding byte_at ◌>>◌
+  byte_stays v ip = then_stays _ _ (object_stays v) (λ o. then_stays _ _ (check_stays _ _) (λ u. or_die_stays _ _))
+
+  pub next_byte_stays : Stays (next_byte m)
+  unfolding next_byte ◌>>◌
+  next_byte_stays = then_stays _ _ method_stays (λ v. then_stays _ _ ip_stays (λ ip. then_stays _ _ (byte_stays v ip) (λ b. then_stays _ _ (set_ip_stays _) (λ u. answer_stays b))))
+
+  -- the stack
+
+  put_stays : (c : Value) (at : ℕ) (x : Value) → Stays (put m c at x)
+  unfolding put ◌>>◌
+  put_stays c at x = then_stays _ _ (count_stays c) (λ n. then_stays _ _ (check_stays _ _) (λ u. then_stays _ _ (check_stays _ _) (λ u. store_stays c at x)))
+
+  push_stays : (x : Value) → Stays (push m x)
+  unfolding push ◌>>◌
+  push_stays x = then_stays _ _ active_stays (λ c. then_stays _ _ sp_stays (λ sp. then_stays _ _ (put_stays c _ x) (λ u. set_sp_stays _)))
+
+  top_stays : Stays (top m)
+  unfolding top ◌>>◌
+  top_stays = then_stays _ _ sp_stays (λ sp. then_stays _ _ (check_stays _ _) (λ u. then_stays _ _ active_stays (λ c. fetch_stays c sp)))
+
+  under_stays : (k : ℕ) → Stays (under m k)
+  unfolding under ◌>>◌
+  under_stays k = then_stays _ _ sp_stays (λ sp. then_stays _ _ (check_stays _ _) (λ u. then_stays _ _ active_stays (λ c. fetch_stays c _)))
+
+  pop_stays : Stays (pop m)
+  unfolding pop ◌>>◌
+  pop_stays = then_stays _ _ top_stays (λ v. then_stays _ _ sp_stays (λ sp. then_stays _ _ (set_sp_stays _) (λ u. answer_stays v)))
+
+  pops_stay : (n : ℕ) → Stays (pop_words m n)
+  unfolding pop_words
+  pops_stay zero = answer_stays tt
+  pops_stay (suc n) = then_stays _ _ pop_stays (λ x. pops_stay n)
+
+  answer_with_stays : (n : ℕ) (v : Value) → Stays (answer_with m n v)
+  unfolding answer_with ◌>>◌
+  answer_with_stays n v = then_stays _ _ (pops_stay _) (λ u. push_stays v)
+
+  truth_stays : (b : Bool) → Stays (truth m b)
+  unfolding truth
+  truth_stays true = page_stays _
+  truth_stays false = page_stays _
+
+  -- operands
+
+  constant_stays : (i : ℕ) → Stays (fetch_literal_constant m i)
+  unfolding fetch_literal_constant
+  constant_stays i = then_stays _ _ method_stays (λ v. literal_stays v i)
+
+  operand_stays : (o : Operand) → Stays (fetch_operand m o)
+  unfolding fetch_operand fetch_receiver_variable fetch_temporary_variable fetch_literal_variable
+  operand_stays (ReceiverVariable i) = then_stays _ _ receiver_stays (λ v. fetch_stays v i)
+  operand_stays (TemporaryVariable i) = then_stays _ _ home_stays (λ v. fetch_stays v _)
+  operand_stays (LiteralConstant i) = constant_stays i
+  operand_stays (LiteralVariable i) = then_stays _ _ (constant_stays i) (λ v. fetch_stays v 1)
+
+  store_operand_stays : (o : Operand) (x : Value) → Stays (store_operand m o x)
+  unfolding store_operand store_receiver_variable store_temporary_variable store_literal_variable
+  store_operand_stays (ReceiverVariable i) x = then_stays _ _ receiver_stays (λ v. store_stays v i x)
+  store_operand_stays (TemporaryVariable i) x = then_stays _ _ home_stays (λ v. store_stays v _ x)
+  store_operand_stays (LiteralConstant i) x = die_stays _
+  store_operand_stays (LiteralVariable i) x = then_stays _ _ (constant_stays i) (λ v. store_stays v 1 x)
+
+  push_operand_stays : (o : Operand) → Stays (push_operand m o)
+  unfolding push_operand
+  push_operand_stays o = then_stays _ _ (operand_stays o) push_stays
+
+  store_and_pop_stays : (o : Operand) → Stays (store_and_pop m o)
+  unfolding store_and_pop
+  store_and_pop_stays o = then_stays _ _ pop_stays (store_operand_stays o)
+
+  constant_value_stays : (c : Constant) → Stays (constant_value m c)
+  unfolding constant_value
+  constant_value_stays constant.True = page_stays _
+  constant_value_stays constant.False = page_stays _
+  constant_value_stays constant.Nil = page_stays _
+  constant_value_stays constant.MinusOne = answer_stays _
+  constant_value_stays constant.Zero = answer_stays _
+  constant_value_stays constant.One = answer_stays _
+  constant_value_stays constant.Two = answer_stays _
+
+  -- arithmetic
+
+  under_integer_stays : (k : ℕ) → Stays (integer_under m k)
+  unfolding integer_under
+  under_integer_stays k = then_stays _ _ (under_stays k) integer_stays
+
+  answers_stay : (n : ℕ) → Stays (integer_answer m n)
+  unfolding integer_answer
+  answers_stay n = then_stays _ _ (under_integer_stays 1) (λ a. then_stays _ _ (under_integer_stays 0) (λ b. or_die_stays _ _))
+
+  answered_stays : (a : Option IntAnswer) → Stays (answered_at_once m a)
+  unfolding answered_at_once succeed value_of_answer ◌>>◌
+  answered_stays None = answer_stays false
+  answered_stays (Some (Number n)) = then_stays _ _ (answer_stays _) (λ v. then_stays _ _ (answer_with_stays 1 v) (λ u. answer_stays true))
+  answered_stays (Some (Truth b)) = then_stays _ _ (truth_stays b) (λ v. then_stays _ _ (answer_with_stays 1 v) (λ u. answer_stays true))
+  answered_stays (Some (Point x y)) = answer_stays false
+
+  arithmetic_by_stays : (k : ℕ) (v : Value) → Stays (arithmetic_at_once_by m k v)
+  unfolding arithmetic_at_once_by
+  arithmetic_by_stays k (Small n) = then_stays _ _ (tried_stays _ (answers_stay _)) answered_stays
+  arithmetic_by_stays k (Ref n) = answer_stays false
+
+  pub equivalence_stays : Stays (equivalence m)
+  unfolding equivalence
+  equivalence_stays = then_stays _ _ (under_stays 1) (λ a. then_stays _ _ top_stays (λ b. then_stays _ _ (truth_stays _) (answer_with_stays 1)))
+
+  pub class_answer_stays : Stays (receiver_class m)
+  unfolding receiver_class
+  class_answer_stays = then_stays _ _ top_stays (λ a. then_stays _ _ (class_stays a) (answer_with_stays 0))
+
+  -- rows
+
+  pub at_once_stays : (n : Step H Unit) → Stays n → Stays (at_once n)
+  unfolding at_once ◌>>◌
+  at_once_stays n h = then_stays _ _ h (λ u. answer_stays true)
+
+  jump_on_stays : (wanted other : PageObject) (d : ℤ) → Stays (jump_at_once m wanted other d)
+  unfolding jump_at_once
+  jump_on_stays wanted other d =
+      then_stays _ _ pop_stays (λ x. then_stays _ _ (page_stays _) (λ a. then_stays _ _ (page_stays _) (λ b.
+      if_stays (same_value x a) _ _ (at_once_stays _ (jump_stays d)) (answer_stays _))))
+
+  long_jump_stays : (wanted other : PageObject) (i : ℕ) → Stays (long_jump_at_once m wanted other i)
+  unfolding long_jump_at_once
+  long_jump_stays wanted other i = then_stays _ _ next_byte_stays (λ b. jump_on_stays wanted other _)
+
+  pub row_stays : (b : Bytecode) → Stays (row_in_context m b)
+  unfolding row_in_context push_receiver push_constant extended_push extended_store extended_store_and_pop pop_stack duplicate_top push_active_context short_unconditional_jump long_unconditional_jump arithmetic_at_once
+  row_stays (code.Push o) = at_once_stays _ (push_operand_stays o)
+  row_stays (code.StoreAndPop o) = at_once_stays _ (store_and_pop_stays o)
+  row_stays code.PushReceiver = at_once_stays _ (then_stays _ _ receiver_stays push_stays)
+  row_stays (code.PushConstant c) = at_once_stays _ (then_stays _ _ (constant_value_stays c) push_stays)
+  row_stays code.ExtendedPush = at_once_stays _ (then_stays _ _ next_byte_stays (λ b. push_operand_stays _))
+  row_stays code.ExtendedStore = at_once_stays _ (then_stays _ _ next_byte_stays (λ b. then_stays _ _ top_stays (store_operand_stays _)))
+  row_stays code.ExtendedStoreAndPop = at_once_stays _ (then_stays _ _ next_byte_stays (λ b. store_and_pop_stays _))
+  row_stays code.PopStack = at_once_stays _ (then_stays _ _ pop_stays (λ x. answer_stays tt))
+  row_stays code.DuplicateTop = at_once_stays _ (then_stays _ _ top_stays push_stays)
+  row_stays code.PushActiveContext = at_once_stays _ (then_stays _ _ active_stays push_stays)
+  row_stays (code.ShortUnconditionalJump i) = at_once_stays _ (jump_stays _)
+  row_stays (code.ShortJumpOnFalse i) = jump_on_stays _ _ _
+  row_stays (code.LongUnconditionalJump i) = at_once_stays _ (then_stays _ _ next_byte_stays (λ b. jump_stays _))
+  row_stays (code.LongJumpOnTrue i) = long_jump_stays _ _ i
+  row_stays (code.LongJumpOnFalse i) = long_jump_stays _ _ i
+  row_stays (code.ArithmeticSend k) = then_stays _ _ (under_stays 1) (arithmetic_by_stays k)
+  row_stays b = answer_stays false
+
+-- what a step that went leaves
+pub names_left : {H A : Type 0} (m : Step H A) (s t : State H) (a : A) → Stays m → m.run s ≡ Went a t → NamesSame s.registers t.registers
+names_left m s t a h e = subst (Left s.registers) e (h.stays s)

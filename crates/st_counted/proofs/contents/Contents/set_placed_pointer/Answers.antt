@@ -1,0 +1,61 @@
+use Rattle.std.proofs.Common.{◌/◌, [], ap, sym, ◌∙◌, subst, is_some, arith}
+use Rattle.st_model.specs.Values.{value}
+use Rattle.st_model.specs.Table.{Table, entry}
+use Rattle.st_counted.specs.Contents.{counts_of}
+use Rattle.st_heap.specs.Tables.{objects_of}
+use Rattle.st_counted.specs.References.{all_roots, references, IsCounted}
+use Rattle.st_counted.specs.Counted.{counted_view, numbers_of}
+use Rattle.st_counted.proofs.Tallying.{known_counted, hand_counted, hand_some}
+use Rattle.st_counted.proofs.Listing.{relinked, live_with}
+use Rattle.st_counted.proofs.Rooting.{counted_few}
+use Rattle.st_counted.proofs.Storing.{stored, lowered_to}
+use Rattle.st_counted.proofs.contents.Contents.set_placed_pointer.Goals as goal
+
+pub raise-requires-clause-counted : goal.raise-requires-clause-counted
+raise-requires-clause-counted c small =
+    let v = counted_view c.args.self.now in
+    known_counted v.objects (references v.objects (all_roots v) []) (numbers_of c.args.self.now) c.args.v.0 c.requires.counted.tallied c.requires.known small
+
+pub raise-requires-clause-room : goal.raise-requires-clause-room
+raise-requires-clause-room c =
+    let v = counted_view c.args.self.now in
+    let a = counted_few v [] (numbers_of c.args.self.now) (c.args.v.0 / 2) c.requires.whole c.requires.counted in omega (arith, a)
+
+pub lower-requires-clause-counted : goal.lower-requires-clause-counted
+lower-requires-clause-counted c small =
+    let v = counted_view c.args.self.now in
+    hand_counted (objects_of c.set_placed_field.new.self) (all_roots v) [] (counts_of c.raise.new.counts) c.placed_field-old.result.0
+    (stored v (numbers_of c.args.self.now) (counts_of c.raise.new.counts) (objects_of c.set_placed_field.new.self) (value c.args.o) c.args.at (value c.args.v) (value c.placed_field-old.result)
+    c.requires.counted c.requires.known c.requires.live c.placed_field-old.ensures c.raise.ensures.counts c.set_placed_field.ensures.objects) small
+
+pub lower-requires-clause-some : goal.lower-requires-clause-some
+lower-requires-clause-some c small =
+    let v = counted_view c.args.self.now in
+    hand_some (objects_of c.set_placed_field.new.self) (all_roots v) [] (counts_of c.raise.new.counts) c.placed_field-old.result.0
+    (stored v (numbers_of c.args.self.now) (counts_of c.raise.new.counts) (objects_of c.set_placed_field.new.self) (value c.args.o) c.args.at (value c.args.v) (value c.placed_field-old.result)
+    c.requires.counted c.requires.known c.requires.live c.placed_field-old.ensures c.raise.ensures.counts c.set_placed_field.ensures.objects) small
+
+pub returns-clause-counted : goal.returns-clause-counted
+returns-clause-counted c =
+    let v = counted_view c.args.self.now in
+    subst (λ (t : Table). IsCounted t (all_roots v) [] (counts_of c.lower.new.counts)) (sym (c.lower.ensures.objects ∙ c.raise.ensures.objects))
+    (lowered_to (objects_of c.set_placed_field.new.self) (all_roots v) [] (counts_of c.raise.new.counts) (counts_of c.lower.new.counts) (value c.placed_field-old.result)
+    (stored v (numbers_of c.args.self.now) (counts_of c.raise.new.counts) (objects_of c.set_placed_field.new.self) (value c.args.o) c.args.at (value c.args.v) (value c.placed_field-old.result)
+    c.requires.counted c.requires.known c.requires.live c.placed_field-old.ensures c.raise.ensures.counts c.set_placed_field.ensures.objects) c.lower.ensures.counts)
+
+-- the links stay where a field is stored
+pub raise-requires-clause-listed : goal.raise-requires-clause-listed
+raise-requires-clause-listed c =
+    let m = c.args.self.now in
+    let e = c.set_placed_field.ensures in
+    relinked m.objects c.set_placed_field.new.self m.counts c.requires.listed e.links
+    (λ k counted. ap (λ (t : Table). is_some (entry t k)) e.objects ∙ live_with (objects_of m.objects) (value c.args.o) c.args.at (value c.args.v) k ∙ c.requires.listed.stored k counted)
+
+pub returns-clause-objects : goal.returns-clause-objects
+returns-clause-objects c = c.lower.ensures.objects ∙ c.raise.ensures.objects ∙ c.set_placed_field.ensures.objects
+
+pub returns-clause-room : goal.returns-clause-room
+returns-clause-room c = λ h. c.lower.ensures.room ∙ c.raise.ensures.room ∙ c.set_placed_field.ensures.room ∙ h
+
+pub returns-clause-places : goal.returns-clause-places
+returns-clause-places c = λ k. c.lower.ensures.places k ∙ c.raise.ensures.places k ∙ c.set_placed_field.ensures.places k

@@ -1,0 +1,13 @@
+use Rattle.std.proofs.Common.{◌≡◌, ◌/◌, false, ap, sym, ◌∙◌, arith}
+use Rattle.std.proofs.lemmas.Grind.{common_steps}
+use Rattle.st_model.specs.Values.{value, is_small}
+use Rattle.st_counted.specs.Counts.{raised}
+use Rattle.st_counted.specs.Contents.{counts_of}
+use Rattle.st_counted.proofs.Tallying.{raised_even}
+use Rattle.st_counted.proofs.counting.add.Goals as goal
+
+pub returns-then-not-is_small : goal.returns-then-not-is_small
+returns-then-not-is_small c =
+    let small : is_small (value c.args.v) ≡ false = grind (arith, common_steps) in
+    let place : c.from.result ≡ c.args.v.0 / 2 = grind (arith, common_steps) in
+    c.add.ensures ∙ ap (λ k. raised (counts_of c.args.counts.now) k c.args.by) place ∙ sym (raised_even (counts_of c.args.counts.now) c.args.v.0 c.args.by small)
