@@ -4,7 +4,7 @@ use Rattle.std.proofs.lemmas.List.{get_or-set_same, get_or-set_other, get_or-rep
 use Rattle.st_model.specs.declared.oop.Oop.{Oop}
 use Rattle.st_table.specs.declared.entry.Entry.{Entry}
 use Rattle.st_table.specs.Bits.{bit, IsLeast}
-use Rattle.st_table.specs.Entries.{HasEntry, IsFree, IsLeastFree}
+use Rattle.st_table.specs.Entries.{entry_of, IsFree, IsLeastFree}
 use Rattle.st_table.specs.Mapped.{IsMapped}
 
 -- a place gets an entry or loses it, and its bit goes with it
@@ -94,21 +94,21 @@ least_pointer ws es k o h lowest within is =
     least p free false q =
         let over : k ≤ p.0 / 2 = grind (arith, q) in omega (arith, is, over)
 
-none_there : (x : Option Entry) → x ≡ None → IsSome x → ⊥
+pub none_there : (x : Option Entry) → x ≡ None → IsSome x → ⊥
 none_there x e h = cc
 
 -- a pointer with an entry is one that the table serves
-pub entered_within : (ws : List ℕ) (es : List (Option Entry)) (o : Oop) → IsMapped ws es → HasEntry es o → (0 < o.0 / 2) × (o.0 / 2 < length es)
-entered_within ws es o h has = (above (o.0 / 2 == 0) refl, below (nat_lt (o.0 / 2) (length es)) refl)
+pub entered_within : (ws : List ℕ) (es : List (Option Entry)) (o : Oop) → IsMapped ws es → IsSome (entry_of es o) → (0 < o.0 / 2) × (o.0 / 2 < length es)
+entered_within ws es o h there = (above (o.0 / 2 == 0) refl, below (nat_lt (o.0 / 2) (length es)) refl)
   where
     above : (b : Bool) → (o.0 / 2 == 0) ≡ b → 0 < o.0 / 2
     above true q =
         let at : o.0 / 2 ≡ 0 = grind (arith, q) in
-        absurd (none_there (get_or es (o.0 / 2) None) (ap (λ j. get_or es j None) at ∙ h.first) has.entered)
+        absurd (none_there (get_or es (o.0 / 2) None) (ap (λ j. get_or es j None) at ∙ h.first) there)
     above false q = let ne : o.0 / 2 ≢ 0 = λ z. grind (arith, q, z) in omega (arith, ne)
 
     below : (b : Bool) → nat_lt (o.0 / 2) (length es) ≡ b → o.0 / 2 < length es
     below true q = grind (arith, q)
     below false q =
         let up : length es ≤ o.0 / 2 = grind (arith, q) in
-        absurd (none_there (get_or es (o.0 / 2) None) (get_or_past es (o.0 / 2) None up) has.entered)
+        absurd (none_there (get_or es (o.0 / 2) None) (get_or_past es (o.0 / 2) None up) there)

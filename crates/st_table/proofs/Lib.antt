@@ -1,2 +1,3 @@
 mod Search
 mod Keeping
+mod Slots

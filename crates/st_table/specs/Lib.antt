@@ -1,3 +1,4 @@
 pub mod Bits
 pub mod Entries
 pub mod Mapped
+pub mod Slots

@@ -1,18 +1,27 @@
 ghost use Rattle.std.specs.Prelude.{◌≡◌, ℕ, ◌+◌, ◌≤◌, ◌↔◌, Some, None, replicate, slice_set, IfOk, IfSome, IfNone, IsSome, IsTrue};
+ghost use Rattle.st_table.specs.Slots.{no_entry};
 ghost use Rattle.st_table.specs.Entries.{place, entry_of, with_next, with_before, HasEntry, IsFree, IsLeastFree};
 ghost use Rattle.st_model.specs.declared.oop.Oop.{Oop as Pointer};
 
 use crate::entry::Entry;
 use crate::free_map::FreeMap;
-use st_model::Oop;
+use st_model::{Kind, Oop};
 use std::alloc::{AllocError, Global};
 use std::marker::Model;
+
+/// What is kept of a place: an entry, which stands there where the place is taken. So an entry is read and changed without a look
+/// at whether there is one.
+#[derive(Clone, Copy)]
+struct Slot {
+    entry: Entry,
+    taken: bool,
+}
 
 /// A table that serves the pointers from 2 to twice its number of entries. Clauses see it as a list, which has at each place
 /// the entry of the pointer that is twice the place, or none.
 #[derive(Drop)]
 pub struct Table {
-    entries: Vec<Option<Entry>>,
+    slots: Vec<Slot>,
     places: FreeMap,
 }
 
@@ -20,12 +29,13 @@ impl Model for Table {
     ghost use Rattle.std.specs.Prelude.{List, Option};
     ghost use Rattle.st_table.specs.declared.entry.Entry.{Entry as Kept};
     ghost use Rattle.st_table.specs.Mapped.{IsMapped};
+    ghost use Rattle.st_table.specs.Slots.{entries_in};
 
     ghost Value = { List (Option Kept) };
 
-    ghost view = { λ t. t.entries.items };
+    ghost view = { λ t. entries_in t.slots.items };
 
-    ghost invariant = { λ t. IsMapped t.places.words.items t.entries.items };
+    ghost invariant = { λ t. IsMapped t.places.words.items (entries_in t.slots.items) };
 }
 
 impl Table {
@@ -35,8 +45,8 @@ impl Table {
         ensures { IfOk result (λ t. t ≡ replicate (entries + 1) None) }
     {
         let places = FreeMap::with_free(alloc, entries as usize)?;
-        let entries = no_entries(alloc, entries as usize + 1)?;
-        Ok(Table { entries, places })
+        let slots = no_entries(alloc, entries as usize + 1)?;
+        Ok(Table { slots, places })
     }
 
     /// The least pointer that it serves and that has no entry.
@@ -53,7 +63,7 @@ impl Table {
         ensures { IsTrue result ↔ HasEntry self.now o }
     {
         let k = (o.0 / 2) as usize;
-        o.0 % 2 == 0 && k < self.entries.len() && self.entries[k].is_some()
+        o.0 % 2 == 0 && k < self.slots.len() && self.slots[k].taken
     }
 
     /// The entry of a pointer.
@@ -61,7 +71,7 @@ impl Table {
         requires { HasEntry self.now o }
         ensures { entry_of self.now o ≡ Some result }
     {
-        self.entries[(o.0 / 2) as usize].unwrap()
+        self.slots[(o.0 / 2) as usize].entry
     }
 
     /// Gives a pointer without an entry one.
@@ -71,7 +81,10 @@ impl Table {
     {
         let k = (o.0 / 2) as usize;
         self.places.take(k);
-        self.entries[k] = Some(e);
+        self.slots[k] = Slot {
+            entry: e,
+            taken: true,
+        };
     }
 
     /// Changes the entry of a pointer.
@@ -79,7 +92,7 @@ impl Table {
         requires { HasEntry self.old o }
         ensures { self.new ≡ slice_set self.old (place o) (Some e) }
     {
-        self.entries[(o.0 / 2) as usize] = Some(e);
+        self.slots[(o.0 / 2) as usize].entry = e;
     }
 
     /// Has another follow what has an entry at the place of a pointer, in the list that it is in.
@@ -87,10 +100,7 @@ impl Table {
         requires { IsSome (entry_of self.old o) }
         ensures { self.new ≡ slice_set self.old (place o) (with_next (entry_of self.old o) next) }
     {
-        match &mut self.entries[(o.0 / 2) as usize] {
-            Some(entry) => entry.next = next,
-            None => unreachable!(),
-        }
+        self.slots[(o.0 / 2) as usize].entry.next = next;
     }
 
     /// Has another stand before it there.
@@ -98,10 +108,7 @@ impl Table {
         requires { IsSome (entry_of self.old o) }
         ensures { self.new ≡ slice_set self.old (place o) (with_before (entry_of self.old o) before) }
     {
-        match &mut self.entries[(o.0 / 2) as usize] {
-            Some(entry) => entry.before = before,
-            None => unreachable!(),
-        }
+        self.slots[(o.0 / 2) as usize].entry.before = before;
     }
 
     /// Takes the entry of a pointer away.
@@ -111,13 +118,24 @@ impl Table {
     {
         let k = (o.0 / 2) as usize;
         self.places.free(k);
-        self.entries[k] = None;
+        self.slots[k].taken = false;
     }
 }
 
-/// Places without entries.
-fn no_entries(alloc: Global, n: usize) -> Result<Vec<Option<Entry>>, AllocError>
-    ensures { IfOk result (λ v. v.items ≡ replicate n None) }
+/// Slots of n places, none of which is taken.
+fn no_entries(alloc: Global, n: usize) -> Result<Vec<Slot>, AllocError>
+    ensures { IfOk result (λ v. v.items ≡ replicate n no_entry) }
 {
-    vec![in alloc; None; n]
+    let entry = Entry {
+        at: 0,
+        kind: Kind::Pointers,
+        odd: false,
+        next: Oop(0),
+        before: Oop(0),
+    };
+    let slot = Slot {
+        entry,
+        taken: false,
+    };
+    vec![in alloc; slot; n]
 }
