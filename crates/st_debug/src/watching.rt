@@ -1,7 +1,6 @@
 // The bytecode that comes next.
 ghost use Rattle.std.specs.Prelude.{◌≡◌, option_map};
-ghost use Rattle.st_model.specs.Values.{value};
-ghost use Rattle.st_model.specs.Machine.{World};
+ghost use Rattle.st_model.specs.{Values.value, Machine.World};
 ghost use Rattle.st_frames.specs.Shown.{IsFrame, shown};
 ghost use Rattle.st_call.specs.Saying.{Pushes};
 ghost use Rattle.st_debug.specs.Watched.{at_of, at_text, is_entered, is_first, watched};
