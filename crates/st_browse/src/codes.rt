@@ -2,15 +2,10 @@
 
 ghost use Rattle.std.specs.Prelude.{◌≡◌, ◌<◌, ◌≤◌, ◌+◌, ◌*◌, Some, true, false, IfSome, IfNone, drop, length, slice_get, take};
 ghost use Rattle.std.specs.List.{list_any};
-ghost use Rattle.st_model.specs.Values.{value};
-ghost use Rattle.st_model.specs.Text.{numbers_text};
-ghost use Rattle.st_model.specs.View.{object_of};
+ghost use Rattle.st_model.specs.{Values.value, Text.numbers_text, View.object_of};
 ghost use Rattle.st_call.specs.Saying.{Pushes};
-ghost use Rattle.st_browse.specs.Cutting.{code_length, codes_of};
-ghost use Rattle.st_browse.specs.Methods.{has_method};
-ghost use Rattle.st_browse.specs.Replies.{code_line, codes_text};
-ghost use Rattle.st_browse.specs.Senders.{is_special};
-ghost use Rattle.st_browse.specs.Entries.{IsBody};
+ghost use Rattle.st_browse.specs.{Cutting.{code_length, codes_of}, Methods.has_method};
+ghost use Rattle.st_browse.specs.{Replies.{code_line, codes_text}, Senders.is_special, Entries.IsBody};
 
 use st_call::{Output, push_number};
 use st_host::{Host, SayFault};

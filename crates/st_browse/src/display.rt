@@ -2,11 +2,8 @@
 
 ghost use Rattle.std.specs.Prelude.{◌≡◌, ◌<◌, ◌≤◌, ◌+◌, ◌*◌, IfSome, drop, length, option_and_then, option_map, take};
 ghost use Rattle.std.specs.List.{flat_map};
-ghost use Rattle.st_model.specs.Values.{value};
-ghost use Rattle.st_model.specs.BitBlt.{fetch_positive, fetch_words};
-ghost use Rattle.st_model.specs.Pixels.{row_words};
-ghost use Rattle.st_model.specs.Table.{table};
-ghost use Rattle.st_model.specs.Text.{hexadecimal};
+ghost use Rattle.st_model.specs.{Values.value, BitBlt.{fetch_positive, fetch_words}, Pixels.row_words};
+ghost use Rattle.st_model.specs.{Table.table, Text.hexadecimal};
 ghost use Rattle.st_call.specs.Saying.{Pushes};
 ghost use Rattle.st_browse.specs.Display.{answer_in, form_at, form_text, if_held, row_line, row_of, rows_text, word_text};
 ghost use Rattle.st_browse.specs.Shown.{HasWords, IsForm, form_in, words_in};

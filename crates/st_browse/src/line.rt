@@ -3,8 +3,7 @@
 ghost use Rattle.std.specs.Prelude.{◌≡◌};
 ghost use Rattle.st_model.specs.Values.{value};
 ghost use Rattle.st_call.specs.Saying.{Pushes};
-ghost use Rattle.st_browse.specs.Listing.{line_text};
-ghost use Rattle.st_browse.specs.Replies.{name_line, sender_line, side_text};
+ghost use Rattle.st_browse.specs.{Listing.line_text, Replies.{name_line, sender_line, side_text}};
 ghost use Rattle.st_browse.specs.Entries.{IsLine, IsName, name_of};
 
 use st_call::{Output, push_bytes};

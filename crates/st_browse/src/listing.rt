@@ -1,7 +1,6 @@
 //! Names one after the other, in the order of their bytes: how many there are, and a line for each.
 
-ghost use Rattle.std.specs.Prelude.{◌≡◌, ◌≤◌, ◌∷◌, [], length};
-ghost use Rattle.std.specs.List.{filter};
+ghost use Rattle.std.specs.{Prelude.{◌≡◌, ◌≤◌, ◌∷◌, [], length}, List.filter};
 ghost use Rattle.st_model.specs.Values.{value};
 ghost use Rattle.st_call.specs.Saying.{Pushes};
 ghost use Rattle.st_browse.specs.Listing.{is_chosen, lines_text, listed};

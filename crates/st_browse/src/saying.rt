@@ -2,23 +2,16 @@
 
 ghost use Rattle.std.specs.Prelude.{◌≡◌, ◌≤◌, ◌++◌, ℕ, List, Option, option_map, length, OnOk, IfErr, IsErrOf};
 ghost use Rattle.std.specs.List.{filter};
-ghost use Rattle.st_model.specs.Values.{value};
-ghost use Rattle.st_model.specs.View.{object_of};
-ghost use Rattle.st_host.specs.Counts.{HasCause};
-ghost use Rattle.st_host.specs.Runs.{SaysAll};
-ghost use Rattle.st_host.specs.Telling.{Says};
+ghost use Rattle.st_model.specs.{Values.value, View.object_of};
+ghost use Rattle.st_host.specs.{Counts.HasCause, Runs.SaysAll, Telling.Says};
 ghost use Rattle.st_call.specs.Saying.{Pushes};
 ghost use Rattle.st_chunk.specs.Asks.{Source, ask_of, side_of};
-ghost use Rattle.st_browse.specs.Naming.{in_order};
-ghost use Rattle.st_browse.specs.Classes.{is_class};
-ghost use Rattle.st_browse.specs.Listing.{lines_text, listed};
+ghost use Rattle.st_browse.specs.{Naming.in_order, Classes.is_class, Listing.{lines_text, listed}};
 ghost use Rattle.st_browse.specs.Replies.{bytecodes_text, count_text, senders_text};
-ghost use Rattle.st_browse.specs.Asked.{Answers, IsTextFor, reply};
-ghost use Rattle.st_browse.specs.Questions.{question, side_meant};
+ghost use Rattle.st_browse.specs.{Asked.{Answers, IsTextFor, reply}, Questions.{question, side_meant}};
 ghost use Rattle.st_browse.specs.declared.saying.BrowseFault.TheVariants.{Say};
 ghost use Rattle.st_browse.specs.declared.saying.SourceFault.TheVariants.{OutOfMemory as NoMemory};
-ghost use Rattle.st_browse.specs.Decompiling.{IsMade, IsShown};
-ghost use Rattle.st_browse.specs.SourceFaults.{HasSourceCause};
+ghost use Rattle.st_browse.specs.{Decompiling.{IsMade, IsShown}, SourceFaults.HasSourceCause};
 ghost use Rattle.st_browse.specs.Entries.{IsBody, IsLine, count_of, names_in};
 ghost use Rattle.st_browse.specs.Founds.{IsSought, sought_text};
 

@@ -1,13 +1,9 @@
 //! The senders of a selector in all classes.
 
-ghost use Rattle.std.specs.Prelude.{◌≡◌, ◌≤◌, ◌+◌, ◌∷◌, [], true, length, sum_by};
-ghost use Rattle.std.specs.List.{filter, flat_map};
-ghost use Rattle.st_model.specs.Values.{value};
-ghost use Rattle.st_model.specs.View.{is_live};
+ghost use Rattle.std.specs.{Prelude.{◌≡◌, ◌≤◌, ◌+◌, ◌∷◌, [], true, length, sum_by}, List.{filter, flat_map}};
+ghost use Rattle.st_model.specs.{Values.value, View.is_live};
 ghost use Rattle.st_call.specs.Saying.{Pushes};
-ghost use Rattle.st_browse.specs.Naming.{in_order};
-ghost use Rattle.st_browse.specs.Classes.{is_class, on_side};
-ghost use Rattle.st_browse.specs.Senders.{senders};
+ghost use Rattle.st_browse.specs.{Naming.in_order, Classes.{is_class, on_side}, Senders.senders};
 ghost use Rattle.st_browse.specs.Replies.{both_lines, senders_count, senders_lines};
 ghost use Rattle.st_browse.specs.Entries.{IsName, count_of, named_of, names_in};
 

@@ -1,7 +1,5 @@
 ghost use Rattle.std.specs.Prelude.{◌≡◌, OnOk};
-ghost use Rattle.st_host.specs.Counts.{HasCause};
-ghost use Rattle.st_host.specs.Runs.{ReadsAlike, ReadsAndSays, SaysAll};
-ghost use Rattle.st_host.specs.Telling.{Says};
+ghost use Rattle.st_host.specs.{Counts.HasCause, Runs.{ReadsAlike, ReadsAndSays, SaysAll}, Telling.Says};
 ghost use Rattle.st_call.specs.Saying.{Pushes};
 ghost use Rattle.st_call.specs.LastLines.{fault_line, place_line, store_line, last_line, SaysLastLine};
 

@@ -1,6 +1,5 @@
 ghost use Rattle.std.specs.Prelude.{◌≡◌, ◌/◌, ◌++◌, codes, length, true};
-ghost use Rattle.st_model.specs.Values.{value};
-ghost use Rattle.st_model.specs.View.{is_live, object_of};
+ghost use Rattle.st_model.specs.{Values.value, View.{is_live, object_of}};
 ghost use Rattle.st_model.specs.Text.{values_text, numbers_text, kind_text, colon_text};
 ghost use Rattle.st_model.specs.Text.{heading_text, object_head, object_body, object_text, objects_text};
 ghost use Rattle.st_call.specs.Saying.{Pushes};

@@ -1,7 +1,5 @@
 ghost use Rattle.std.specs.Prelude.{◌≡◌, ◌<◌, [], true, OnOk};
-ghost use Rattle.st_model.specs.Values.{value};
-ghost use Rattle.st_model.specs.Objects.{is_bytes};
-ghost use Rattle.st_model.specs.View.{is_live, object_of};
+ghost use Rattle.st_model.specs.{Values.value, Objects.is_bytes, View.{is_live, object_of}};
 ghost use Rattle.st_model.specs.Text.{hexadecimal, escaped_byte, escaped};
 ghost use Rattle.st_call.specs.Saying.{Pushes, said_in};
 

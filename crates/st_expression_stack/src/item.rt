@@ -2,8 +2,7 @@
 
 ghost use Rattle.std.specs.Prelude.{◌≡◌, ◌++◌, ◌∷◌, [], IfOk, OnOk};
 ghost use Rattle.st_scan.specs.Views.{no_statements};
-ghost use Rattle.st_expression_stack.specs.Items.{statements_of, is_low, put_low};
-ghost use Rattle.st_expression_stack.specs.Items.{statements_from};
+ghost use Rattle.st_expression_stack.specs.Items.{statements_of, is_low, put_low, statements_from};
 ghost use Rattle.st_expression_stack.specs.Stacks.{stack_view, piece_view, IsPopped, IsArgumentPopped};
 ghost use Rattle.st_expression_stack.specs.Stacks.{taken_view, taken_if, put_statement, chosen_if};
 

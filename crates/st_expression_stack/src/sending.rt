@@ -2,10 +2,8 @@
 
 ghost use Rattle.std.specs.Prelude.{◌≡◌, ◌++◌, ◌∷◌, [], IfOk, OnOk};
 ghost use Rattle.st_scan.specs.Views.{expression_view, messages_view, send};
-ghost use Rattle.st_emit.specs.Nodes.{is_above};
-ghost use Rattle.st_emit.specs.Selectors.{colons, arity};
-ghost use Rattle.st_expression_stack.specs.Items.{again};
-ghost use Rattle.st_expression_stack.specs.Messages.{to_receiver, sends, doubled, popped};
+ghost use Rattle.st_emit.specs.{Nodes.is_above, Selectors.{colons, arity}};
+ghost use Rattle.st_expression_stack.specs.{Items.again, Messages.{to_receiver, sends, doubled, popped}};
 ghost use Rattle.st_expression_stack.specs.Sent.{sent_by, finished_by};
 ghost use Rattle.st_expression_stack.specs.Stacks.{stack_view, piece_view, item_view, acted_if, ArgumentsTaken};
 

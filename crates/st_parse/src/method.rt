@@ -2,14 +2,12 @@
 
 ghost use Rattle.std.specs.Prelude.{◌≡◌, ◌∷◌, []};
 ghost use Rattle.st_scan.specs.Views.{names_view, method_view};
-ghost use Rattle.st_grammar.specs.Faults.{most};
-ghost use Rattle.st_grammar.specs.Trees.{number_of};
+ghost use Rattle.st_grammar.specs.{Faults.most, Trees.number_of};
 ghost use Rattle.st_grammar.specs.Reading.{Gives, pattern_step, keyword_names_at, pattern_at};
 ghost use Rattle.st_grammar.specs.Reading.{unary_pattern_at, binary_pattern_at, keyword_pattern_at};
 ghost use Rattle.st_grammar.specs.Reading.{name_list_at, temporaries_at, primitive_at, options_at};
 ghost use Rattle.st_grammar.specs.Reading.{temporaries_first_at, primitive_first_at, method_at, whole_at};
-ghost use Rattle.st_parse.specs.Parsed.{pattern_view, options_view};
-ghost use Rattle.st_parse.specs.Answers.{ReadsNames, ReadsPattern};
+ghost use Rattle.st_parse.specs.{Parsed.{pattern_view, options_view}, Answers.{ReadsNames, ReadsPattern}};
 
 use crate::expression::statements;
 use crate::kinds::{KEYWORDS, NAMES, OPERATORS};

@@ -7,8 +7,7 @@ ghost use Rattle.st_store.specs.Names.{IsNoFileOf};
 ghost use Rattle.st_changes.specs.Lists.{StandsAt};
 ghost use Rattle.st_protocol.specs.Statuses.{Counts, StatusHasCause};
 ghost use Rattle.st_recover.specs.Commits.{Commit};
-ghost use Rattle.st_session.specs.Condensings.{IsKeptAs, DoesCondense, CondenseEnds};
-ghost use Rattle.st_session.specs.Exports.{IsOfExporting};
+ghost use Rattle.st_session.specs.{Condensings.{IsKeptAs, DoesCondense, CondenseEnds}, Exports.IsOfExporting};
 
 use crate::opening_refusal::opening_status;
 use crate::reading::status_of;

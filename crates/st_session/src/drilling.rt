@@ -1,19 +1,13 @@
 //! The command `drill`.
 
 ghost use Rattle.std.specs.Prelude.{◌≡◌, ℕ, List, IfOk, IfErr, OnOk, None};
-ghost use Rattle.st_host.specs.Counts.{HasCause};
-ghost use Rattle.st_host.specs.Runs.{ReadsAndSays, SaysAll};
-ghost use Rattle.st_host.specs.Telling.{Says};
-ghost use Rattle.st_model.specs.Machine.{State};
-ghost use Rattle.st_model.specs.Births.{Births};
-ghost use Rattle.st_model.specs.Show.{Shows};
+ghost use Rattle.st_host.specs.{Counts.HasCause, Runs.{ReadsAndSays, SaysAll}, Telling.Says};
+ghost use Rattle.st_model.specs.{Machine.State, Births.Births, Show.Shows};
 ghost use Rattle.st_frames.specs.Shown.{IsReady};
 ghost use Rattle.st_call.specs.Saying.{Pushes};
 ghost use Rattle.st_protocol.specs.Statuses.{StatusHasCause};
 ghost use Rattle.st_session.specs.Drills.{BeginsDrill, IsNoDrill, DrillEnds, drill_said, use_text};
-ghost use Rattle.st_session.specs.Makings.{contents_in};
-ghost use Rattle.st_session.specs.Reports.{text_of};
-ghost use Rattle.st_session.specs.Standing.{shown_by};
+ghost use Rattle.st_session.specs.{Makings.contents_in, Reports.text_of, Standing.shown_by};
 
 use crate::building::kernel_status;
 use crate::making::{Origin, push_made};

@@ -1,10 +1,8 @@
 //! What a session says first: how many definitions were replayed, and which were lost.
 
-ghost use Rattle.std.specs.Prelude.{◌<◌, ◌^◌, length};
-ghost use Rattle.std.specs.List.{flat_map};
-ghost use Rattle.st_call.specs.Saying.{Pushes};
+ghost use Rattle.std.specs.{Prelude.{◌<◌, ◌^◌, length}, List.flat_map};
+ghost use Rattle.st_call.specs.{Saying.Pushes, Telling.Tells};
 ghost use Rattle.st_recover.specs.Replays.{loss_of, losses_of};
-ghost use Rattle.st_call.specs.Telling.{Tells};
 ghost use Rattle.st_session.specs.FirstLines.{lost_text, opening_text};
 
 use st_call::{Output, finish, push_line, push_number, push_why};

@@ -1,9 +1,7 @@
 //! The making of a store of an image, whatever the image comes from.
 
 ghost use Rattle.std.specs.Prelude.{◌≡◌, OnOk};
-ghost use Rattle.st_host.specs.Counts.{HasCause};
-ghost use Rattle.st_host.specs.Runs.{SaysAll};
-ghost use Rattle.st_host.specs.Telling.{Says};
+ghost use Rattle.st_host.specs.{Counts.HasCause, Runs.SaysAll, Telling.Says};
 ghost use Rattle.st_image.specs.Back.{CanStart};
 ghost use Rattle.st_call.specs.Saying.{Pushes};
 ghost use Rattle.st_protocol.specs.Statuses.{StatusHasCause};

@@ -1,12 +1,8 @@
 ghost use Rattle.std.specs.Prelude.{◌≡◌, None};
-ghost use Rattle.st_model.specs.Machine.{State};
-ghost use Rattle.st_model.specs.Births.{Births};
-ghost use Rattle.st_model.specs.Show.{Shows};
-ghost use Rattle.st_model.specs.Text.{state_text};
+ghost use Rattle.st_model.specs.{Machine.State, Births.Births, Show.Shows, Text.state_text};
 ghost use Rattle.st_frames.specs.Shown.{IsReady};
 ghost use Rattle.st_call.specs.Saying.{Pushes};
-ghost use Rattle.st_session.specs.Standing.{MayRun, shown_by};
-ghost use Rattle.st_session.specs.Reports.{text_of, run_text};
+ghost use Rattle.st_session.specs.{Standing.{MayRun, shown_by}, Reports.{text_of, run_text}};
 
 use crate::running::push_run;
 use st_call::{Output, push_state};

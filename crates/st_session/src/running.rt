@@ -1,14 +1,9 @@
 ghost use Rattle.std.specs.Prelude.{◌≡◌, ◌-◌, ◌≤◌, ◌<◌, None, IfOk, IfSome};
-ghost use Rattle.st_model.specs.Machine.{State};
-ghost use Rattle.st_model.specs.Births.{Births};
-ghost use Rattle.st_model.specs.Show.{Shows};
+ghost use Rattle.st_model.specs.{Machine.State, Births.Births, Show.Shows};
 ghost use Rattle.st_frames.specs.Shown.{IsReady};
 ghost use Rattle.st_call.specs.Saying.{Pushes};
-ghost use Rattle.st_session.specs.Answers.{run_course};
-ghost use Rattle.st_session.specs.Keeping.{keeps_nothing};
-ghost use Rattle.st_session.specs.Pushing.{PushesCourse};
-ghost use Rattle.st_session.specs.Runs.{end_text};
-ghost use Rattle.st_session.specs.Standing.{MayRun, StandsAt, shown_by};
+ghost use Rattle.st_session.specs.{Answers.run_course, Keeping.keeps_nothing, Pushing.PushesCourse};
+ghost use Rattle.st_session.specs.{Runs.end_text, Standing.{MayRun, StandsAt, shown_by}};
 ghost use Rattle.st_session.specs.Stretches.{PushesStretch, stretch};
 
 use st_call::{Output, push_line, say_at_once};
