@@ -13,8 +13,8 @@ use crate::named::Named;
 use crate::names::Names;
 use crate::places::next_name;
 use crate::sending::sends;
-use st_call::Output;
-use st_host::{Host, SayFault};
+use st_call::{Output, Pushed};
+use st_host::Host;
 use st_memory::Memory;
 
 /// Whether a name is chosen.
@@ -62,7 +62,7 @@ fn push_chosen<H: Host, M: Memory>(
     choice: Choice<'_>,
     line: Line,
     n: Named,
-) -> Result<(), SayFault>
+) -> Pushed
     requires name { IsName (M.view m.now).objects (value n.name) }
     requires class { IsLine (M.view m.now).objects line }
     ensures { let t = (M.view m.now).objects in
@@ -84,7 +84,7 @@ pub fn push_listed<H: Host, M: Memory>(
     names: Names,
     choice: Choice<'_>,
     line: Line,
-) -> Result<(), SayFault>
+) -> Pushed
     requires few { count_of names ≤ 131066 }
     requires class { IsLine (M.view m.now).objects line }
     ensures { let t = (M.view m.now).objects in

@@ -15,8 +15,8 @@ use crate::methods::methods_of;
 use crate::named::Named;
 use crate::names::Names;
 use crate::places::next_name;
-use st_call::Output;
-use st_host::{Host, SayFault};
+use st_call::{Output, Pushed};
+use st_host::Host;
 use st_memory::Memory;
 use st_model::Oop;
 
@@ -72,7 +72,7 @@ fn push_side<H: Host, M: Memory>(
     class: Named,
     meta: bool,
     selector: &[u8],
-) -> Result<(), SayFault>
+) -> Pushed
     requires name { IsName (M.view m.now).objects (value class.name) }
     requires live { is_live (M.view m.now).objects (value class.value) ≡ true }
     ensures { let t = (M.view m.now).objects in
@@ -91,7 +91,7 @@ fn push_both<H: Host, M: Memory>(
     m: &M,
     class: Named,
     selector: &[u8],
-) -> Result<(), SayFault>
+) -> Pushed
     requires name { IsName (M.view m.now).objects (value class.name) }
     requires live { is_live (M.view m.now).objects (value class.value) ≡ true }
     ensures { let t = (M.view m.now).objects in
@@ -109,7 +109,7 @@ fn push_class<H: Host, M: Memory>(
     m: &M,
     n: Named,
     selector: &[u8],
-) -> Result<(), SayFault>
+) -> Pushed
     requires { IsName (M.view m.now).objects (value n.name) }
     ensures { let t = (M.view m.now).objects in
         let classes = filter (is_class t) (named_of t n ∷ []) in
@@ -130,7 +130,7 @@ pub fn push_senders<H: Host, M: Memory>(
     m: &M,
     globals: Names,
     selector: &[u8],
-) -> Result<(), SayFault>
+) -> Pushed
     requires { count_of globals ≤ 131066 }
     ensures { let t = (M.view m.now).objects in
         let classes = filter (is_class t) (in_order (names_in t globals)) in

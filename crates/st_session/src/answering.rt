@@ -15,7 +15,9 @@ use crate::debugging::say_stack;
 use crate::kept::Kept;
 use crate::saving::{run, snapshot};
 use crate::watch::Watch;
-use st_call::{Output, Reply, finish, push_held, push_input, push_registers, push_used, say_reply};
+use st_call::{
+    Output, Pushed, Reply, finish, push_held, push_input, push_registers, push_used, say_reply,
+};
 use st_chunk::Request;
 use st_host::{Host, SayFault};
 use st_machine::Machine;
@@ -29,7 +31,7 @@ fn push_event<H: Host, M: Memory>(
     host: &mut H,
     machine: &mut Machine<M>,
     e: Event,
-) -> Result<(), SayFault>
+) -> Pushed
     requires ready { IsReady (M.view machine.old.memory) machine.old.frame machine.old.world }
     requires alive { machine.old.death ≡ None }
     requires place { HasPlace e }
@@ -45,11 +47,7 @@ fn push_event<H: Host, M: Memory>(
 }
 
 /// Adds the registers, the input state and what is held.
-fn push_machine<H: Host, M: Memory>(
-    out: &mut Output,
-    host: &mut H,
-    machine: &Machine<M>,
-) -> Result<(), SayFault>
+fn push_machine<H: Host, M: Memory>(out: &mut Output, host: &mut H, machine: &Machine<M>) -> Pushed
     requires ready { IsReady (M.view machine.now.memory) machine.now.frame machine.now.world }
     ensures { let text = machine_text (shown_by M.view machine.now) in
         Pushes H.Host.own text host.old host.new out.old out.new result }
@@ -65,7 +63,7 @@ fn push_answer<H: Host, M: Memory>(
     host: &mut H,
     machine: &mut Machine<M>,
     request: Request,
-) -> Result<(), SayFault>
+) -> Pushed
     requires ready { IsReady (M.view machine.old.memory) machine.old.frame machine.old.world }
     requires alive { machine.old.death ≡ None }
     requires range { IsInRange request }

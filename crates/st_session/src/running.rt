@@ -6,7 +6,7 @@ ghost use Rattle.st_session.specs.{Answers.run_course, Keeping.keeps_nothing, Pu
 ghost use Rattle.st_session.specs.{Runs.end_text, Standing.{MayRun, StandsAt, shown_by}};
 ghost use Rattle.st_session.specs.Stretches.{PushesStretch, stretch};
 
-use st_call::{Output, push_line, say_at_once};
+use st_call::{Output, Pushed, push_line, say_at_once};
 use st_host::{Host, SayFault};
 use st_machine::{Machine, RunEnd};
 use st_memory::Memory;
@@ -18,7 +18,7 @@ pub(crate) fn push_end<H: Host>(
     host: &mut H,
     finished: u32,
     end: RunEnd,
-) -> Result<(), SayFault>
+) -> Pushed
     ensures { Pushes H.Host.own (end_text finished end) host.old host.new out.old out.new result }
 {
     match end {
@@ -95,7 +95,7 @@ pub(crate) fn push_run<H: Host, M: Memory>(
     host: &mut H,
     machine: &mut Machine<M>,
     cycles: u32,
-) -> Result<(), SayFault>
+) -> Pushed
     requires ready { IsReady (M.view machine.old.memory) machine.old.frame machine.old.world }
     requires alive { machine.old.death ≡ None }
     ensures may_run { MayRun M.view machine.new }
