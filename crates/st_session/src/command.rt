@@ -6,7 +6,7 @@ ghost use Rattle.st_frames.specs.Shown.{IsReady, shown};
 ghost use Rattle.st_protocol.specs.Statuses.{StatusHasCause};
 ghost use Rattle.st_session.specs.{Commands.OnceEnds, Reports.run_text, StoreSessions.SessionCommandEnds};
 
-use crate::opening_refusal::opening_status;
+use crate::opening_refusal::refuse_opening;
 use crate::reading::serve;
 use crate::report::push_report;
 use crate::starting::start;
@@ -78,10 +78,6 @@ pub fn session<H: Host, L: Loader, S: Source>(
             refuse(host, status);
             status
         }
-        Err(fault) => {
-            let status = opening_status(fault);
-            refuse(host, status);
-            status
-        }
+        Err(fault) => refuse_opening(host, fault),
     }
 }

@@ -11,7 +11,7 @@ ghost use Rattle.st_session.specs.Exports.{IsOfExporting, ExportEnds};
 ghost use Rattle.st_session.specs.{declared.extent.Extent.TheVariants.{Kept, Reachable}, Standing.shown_by};
 
 use crate::extent::Extent;
-use crate::opening_refusal::opening_status;
+use crate::opening_refusal::refuse_opening;
 use crate::reading::status_of;
 use st_call::{Reply, refuse, say_reply};
 use st_clean::clean;
@@ -150,10 +150,6 @@ pub fn export<H: Host, L: Loader>(
             refuse(host, status);
             status
         }
-        Err(fault) => {
-            let status = opening_status(fault);
-            refuse(host, status);
-            status
-        }
+        Err(fault) => refuse_opening(host, fault),
     }
 }

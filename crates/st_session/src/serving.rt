@@ -32,8 +32,7 @@ fn accept<H: Host, M: Memory>(
     requires alive { kept.old.machine.death ≡ None }
     ensures { Serves M.view H.Host.own
         (λ p. definition_course in_a_store installed p.being p.kept (definition_of definition.now))
-        (host.new ≡ host.old)
-        kept.old host.old result kept.new host.new }
+        (host.new ≡ host.old) kept.old host.old result kept.new host.new }
 {
     match kept.archive.accept(alloc, host, definition) {
         Ok(()) => {
@@ -61,8 +60,7 @@ fn define<H: Host, M: Memory>(
     requires alive { kept.old.machine.death ≡ None }
     ensures { Serves M.view H.Host.own
         (λ p. definition_course in_a_store installed p.being p.kept (definition_of definition.now))
-        (host.new ≡ host.old)
-        kept.old host.old result kept.new host.new }
+        (host.new ≡ host.old) kept.old host.old result kept.new host.new }
 {
     let unprepared = match prepare(alloc, kept.machine.memory(), definition) {
         Ok(prepared) => return accept(alloc, host, kept, definition, prepared),
