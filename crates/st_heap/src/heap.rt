@@ -144,6 +144,7 @@ impl Heap {
     }
 
     /// Moves all blocks down, in the order of their places, so that all free words lie beyond them.
+    #[inline(never)]
     pub fn close_up(&mut self, t: &mut Table)
         requires { IsTied t.old (blocks_of self.old) }
         ensures tied { IsTied t.new (blocks_of self.new) }
