@@ -1,5 +1,4 @@
-ghost use Rattle.std.specs.Prelude.{◌≡◌, true, if◌then◌else◌};
-ghost use Rattle.st_at_once.specs.AtOnce.{was_done};
+ghost use Rattle.std.specs.Prelude.{◌≡◌, if◌then◌else◌};
 ghost use Rattle.st_at_once.specs.declared.ending.RowEnd.TheVariants.{ToForesee, Stays, Done};
 
 /// How a bytecode came out that was tried at once. The deed itself stands elsewhere, since few bytecodes leave one.
@@ -13,29 +12,6 @@ pub enum RowEnd {
     Done,
     /// It was done but for a deed, which is left to be done.
     Leaves,
-}
-
-impl RowEnd {
-    /// Whether it was done, perhaps but for a deed.
-    pub(crate) fn was_done(self) -> bool
-        ensures { result ≡ was_done self }
-    {
-        match self {
-            RowEnd::ToForesee => false,
-            RowEnd::Stays | RowEnd::Done | RowEnd::Leaves => true,
-        }
-    }
-
-    /// Whether it was done, and the registers name what they named.
-    pub(crate) fn stays(self) -> bool
-        ensures so { result ≡ true → self ≡ Stays }
-        ensures else_not { self ≡ Stays → result ≡ true }
-    {
-        match self {
-            RowEnd::Stays => true,
-            RowEnd::ToForesee | RowEnd::Done | RowEnd::Leaves => false,
-        }
-    }
 }
 
 /// The end of a row that stays in its context, by whether it was done.
