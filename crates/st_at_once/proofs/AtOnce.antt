@@ -19,7 +19,7 @@ use Rattle.st_model.specs.Methods.{method_header, flag_of}
 use Rattle.st_model.specs.Contexts.{activate}
 use Rattle.st_model.specs.Returns.{calls_nothing, return_into, return_to_context, return_to, return_to_sender, return_to_caller, jump_on}
 use Rattle.st_model.specs.Primitives.{succeed, primitive, taking}
-use Rattle.st_model.specs.Storage.{primitive_new, primitive_new_with, storage}
+use Rattle.st_model.specs.Storage.{primitive_at, primitive_at_put, primitive_new, primitive_new_with, storage}
 use Rattle.st_model.specs.Arithmetic.{arithmetic, arithmetic_number, integer_answer, value_of_answer}
 use Rattle.st_model.specs.Processes.{processes}
 use Rattle.st_model.specs.Executing.{goes_on, or_activate, respond, respond_by_extension, respond_or_perform, execute_by, execute, executed, execute_if_any, executed_if_any}
@@ -28,7 +28,7 @@ use Rattle.st_model.specs.Table.{Table}
 use Rattle.st_model.proofs.Runs.{run-tried_went, run-tried_died}
 use Rattle.st_control.specs.AtOnce.{at_once, enter_context, context_space, activate_at_once, jump_at_once, return_to_context_at_once, return_at_once, return_to_sender_at_once, return_to_caller_at_once}
 use Rattle.st_frames.proofs.Doing.{rows}
-use Rattle.st_at_once.specs.AtOnce.{object_space, where_space, largest_fixed, largest_indexed, respond_with, respond_at_once, execute_at_once_by, execute_at_once, message_space, enter_with_message, with_message_at_once, answer_at_once, call_not_understood_at_once, not_understood_at_once, found_at_once, send_from_at_once, send_at_once, literal_send_at_once, answered_at_once, arithmetic_at_once_by, arithmetic_at_once, primitive_at_once, long_jump_at_once, return_receiver_at_once, return_constant_at_once, return_top_to_sender_at_once, return_top_to_caller_at_once, row_in_context, unsent_at_once, bytecode_at_once, step_at_once}
+use Rattle.st_at_once.specs.AtOnce.{object_space, where_space, largest_number, largest_fixed, largest_indexed, respond_with, respond_at_once, execute_at_once_by, execute_at_once, message_space, enter_with_message, with_message_at_once, answer_at_once, call_not_understood_at_once, not_understood_at_once, found_at_once, send_from_at_once, send_at_once, literal_send_at_once, answered_at_once, arithmetic_at_once_by, arithmetic_at_once, primitive_at_once, long_jump_at_once, return_receiver_at_once, return_constant_at_once, return_top_to_sender_at_once, return_top_to_caller_at_once, row_in_context, unsent_at_once, bytecode_at_once, step_at_once}
 use Rattle.st_at_once.proofs.Messages.{HeaderStays}
 
 -- a primitive on SmallIntegers that is tried
@@ -191,7 +191,7 @@ module _ (m : ObjectMemory Table) where
   unfolding answer
   went-as s = refl
 
-  -- a method responds by its primitive, where that makes an object or is one on processes
+  -- a method responds by its primitive, where that is one that is tried at once
 
   module _ (call : Call) (header : Value) where
     numbered-as : (p k : ℕ) (q : Step Table Bool) → respond_or_perform m call header k ≡ or_activate m call header q → (p == k) ≡ true → IsAs outcome.Went q (respond_or_perform m call header p)
@@ -215,8 +215,10 @@ module _ (m : ObjectMemory Table) where
     tried-as : (p : ℕ) → IsAs outcome.Went (respond_with m p call.arguments) (respond_or_perform m call header p)
     unfolding respond_with respond_or_perform respond storage
     tried-as p =
-        either-as _ (p == 70) _ _ _ (made-as p 70 largest_fixed (taking 0 call.arguments (primitive_new m)) refl)
-        (either-as _ (p == 71) _ _ _ (made-as p 71 largest_indexed (taking 1 call.arguments (primitive_new_with m)) refl) (processes-as p))
+        either-as _ (p == 60) _ _ _ (made-as p 60 largest_number (taking 1 call.arguments (primitive_at m)) refl)
+        (either-as _ (p == 61) _ _ _ (numbered-as p 61 (taking 2 call.arguments (primitive_at_put m)) refl)
+        (either-as _ (p == 70) _ _ _ (made-as p 70 largest_fixed (taking 0 call.arguments (primitive_new m)) refl)
+        (either-as _ (p == 71) _ _ _ (made-as p 71 largest_indexed (taking 1 call.arguments (primitive_new_with m)) refl) (processes-as p))))
 
     respond-as : IsAs outcome.Went (respond_at_once m call.method call.arguments) (respond_by_extension m (respond_or_perform m call header) call)
     unfolding respond_at_once respond_by_extension

@@ -3,6 +3,7 @@ pub mod AtOnce
 pub mod InContext
 pub mod Alike
 pub mod AlikeProcesses
+pub mod AlikeElements
 pub mod Entered
 pub mod Messages
 pub mod Makes

@@ -1,7 +1,8 @@
 -- Bytecodes that are done at once, without being foreseen: most of those that make no object; and sends by 208 to 255 that activate
 -- a method, where there is room for its context, also that for doesNotUnderstand: with a Message, or that do a primitive on
--- processes, or make an object by 70 or 71 where there is room for the largest. Each answers whether it was such a one. Where it
--- wasn't, what it leaves is of no use: the bytecode is to be foreseen.
+-- processes, or 61, which stores an element, or 60, 70 or 71 where there is room for the largest object that these make: an element
+-- that is a number above 16383, or the new object. Each answers whether it was such a one. Where it wasn't, what it leaves is of no
+-- use: the bytecode is to be foreseen.
 use Rattle.std.specs.Prelude.{◌≡◌, ℕ, ◌+◌, ◌*◌, ◌-◌, ◌==◌, Bool, true, false, Option, Some, None, Result, Ok, Err, if◌then◌else◌, ◌&&◌, nat_le, nat_lt, pos, IfOk}
 use Rattle.st_model.specs.declared.dead.Dead.{Dead}
 use Rattle.st_model.specs.declared.deed.Deed.{Deed}
@@ -27,7 +28,7 @@ use Rattle.st_model.specs.Executing.{answer_field}
 use Rattle.st_model.specs.Primitives.{succeed, taking}
 use Rattle.st_model.specs.Arithmetic.{integer_answer, value_of_answer, arithmetic_number, equivalence, receiver_class}
 use Rattle.st_model.specs.Blocks.{primitive_value}
-use Rattle.st_model.specs.Storage.{primitive_new, primitive_new_with}
+use Rattle.st_model.specs.Storage.{primitive_at, primitive_at_put, primitive_new, primitive_new_with}
 use Rattle.st_model.specs.Processes.{processes}
 use Rattle.st_model.specs.Deeds.{with_deed}
 use Rattle.st_model.specs.Bytecodes.{fetch_literal_constant, push_operand, store_and_pop, push_receiver, push_constant, constant_value, extended_push, extended_store, extended_store_and_pop, pop_stack, duplicate_top, push_active_context, short_unconditional_jump, long_unconditional_jump, step}
@@ -107,17 +108,22 @@ where_space m words makes = do
   space ← object_space m words
   if space then makes else answer false
 
--- with at most 2,047 fields, and with at most 65,533 words; two words say size and class
+-- with at most 16 bytes, with at most 2,047 fields, and with at most 65,533 words; two words say size and class
+abbrev pub largest_number : ℕ
+largest_number = 10
+
 abbrev pub largest_fixed : ℕ
 largest_fixed = 2049
 
 abbrev pub largest_indexed : ℕ
 largest_indexed = 65535
 
--- A primitive that makes an object, or one on processes, which makes nothing, is tried. Where it fails, and where there is another
--- or none, the method is to be foreseen.
+-- A primitive that makes an object at most, or that which stores an element or one on processes, which make nothing, is tried. Where
+-- it fails, and where there is another or none, the method is to be foreseen.
 unfoldable pub respond_with : {H : Type 0} → ObjectMemory H → ℕ → ℕ → Step H Bool
 respond_with m primitive n =
+    if primitive == 60 then where_space m largest_number (taking 1 n (primitive_at m)) else
+    if primitive == 61 then taking 2 n (primitive_at_put m) else
     if primitive == 70 then where_space m largest_fixed (taking 0 n (primitive_new m)) else
     if primitive == 71 then where_space m largest_indexed (taking 1 n (primitive_new_with m)) else processes m primitive n
 
