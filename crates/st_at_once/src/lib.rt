@@ -4,6 +4,7 @@
 //! known of the active context, its home and its method while these stay what they are.
 #![tactic(auto)]
 
+mod arithmetic;
 mod at_once;
 mod ending;
 mod holding;
