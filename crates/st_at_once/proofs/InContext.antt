@@ -1,5 +1,5 @@
 -- What a row that stays in its context does leaves the registers that name objects.
-use Rattle.std.proofs.Common.{◌≡◌, ℕ, zero, suc, ◌-◌, Bool, true, false, Option, Some, None, Result, Ok, refl, ◌∙◌, subst}
+use Rattle.std.proofs.Common.{◌≡◌, ℕ, zero, suc, Bool, true, false, Option, Some, None, Result, Ok, refl, ◌∙◌, subst}
 use Rattle.std.specs.Prelude.{◌==◌, ℤ, if◌then◌else◌}
 use Rattle.st_model.specs.declared.dead.Dead.{Dead}
 use Rattle.st_model.specs.declared.page.PageObject.{PageObject}
@@ -15,8 +15,8 @@ use Rattle.st_model.specs.Values.{Value, Small, Ref}
 use Rattle.st_model.specs.Objects.{Object}
 use Rattle.st_model.specs.Machine.{ObjectMemory, Registers, State, Transition, Died, Went, Step, is_there, answer, die, after, or_left, tried, ◌>>=◌, ◌>>◌}
 use Rattle.st_model.specs.Steps.{get_active, get_home, get_method, get_receiver, get_ip, get_sp, set_ip, set_sp, found, object_named, object, stored_at, store_at, set_field, of_page, class_of, same_value, or_die, check, integer_or_die, fetch_field, store_field, count_fields, put, push, top, under, drop_words, pop, literal, byte_at, next_byte, jump}
-use Rattle.st_model.specs.Primitives.{pop_words, answer_with, succeed, truth}
-use Rattle.st_model.specs.Arithmetic.{integer_under, integer_answer, value_of_answer, equivalence, receiver_class}
+use Rattle.st_model.specs.Primitives.{pop_words, answer_with, truth}
+use Rattle.st_model.specs.Arithmetic.{integer_under, equivalence, receiver_class}
 use Rattle.st_model.specs.Bytecodes.{fetch_receiver_variable, fetch_temporary_variable, fetch_literal_constant, fetch_literal_variable, fetch_operand, store_receiver_variable, store_temporary_variable, store_literal_variable, store_operand, push_operand, store_and_pop, push_receiver, constant_value, push_constant, extended_push, extended_store, extended_store_and_pop, pop_stack, duplicate_top, push_active_context, short_unconditional_jump, long_unconditional_jump}
 use Rattle.st_model.specs.declared.deed.Deed.{Deed}
 use Rattle.st_model.specs.Table.{Table}
@@ -25,7 +25,7 @@ use Rattle.st_frames.specs.Rows.{with_left}
 use Rattle.st_control.specs.AtOnce.{at_once, jump_at_once}
 use Rattle.st_at_once.specs.declared.ending.RowEnd.{RowEnd}
 use Rattle.st_at_once.specs.declared.ending.RowEnd.TheVariants as ends
-use Rattle.st_at_once.specs.AtOnce.{NamesSame, answered_at_once, arithmetic_at_once_by, arithmetic_at_once, primitive_at_once, long_jump_at_once, bytecode_at_once, may_leave, was_done, deed_left}
+use Rattle.st_at_once.specs.AtOnce.{NamesSame, argument_answer, replace_pair, answered_at_once, arithmetic_at_once_by, arithmetic_at_once, primitive_at_once, long_jump_at_once, bytecode_at_once, may_leave, was_done, deed_left}
 
 abbrev same : (r : Registers) → NamesSame r r
 same r = record { active = refl; home = refl; method = refl; receiver = refl }
@@ -272,20 +272,24 @@ module _ {H : Type 0} (m : ObjectMemory H) where
   unfolding integer_under
   under_integer_stays k = then_stays _ _ (under_stays k) integer_stays
 
-  answers_stay : (n : ℕ) → Stays (integer_answer m n)
-  unfolding integer_answer
-  answers_stay n = then_stays _ _ (under_integer_stays 1) (λ a. then_stays _ _ (under_integer_stays 0) (λ b. or_die_stays _ _))
+  argument_stays : (n : ℕ) (receiver : ℤ) → Stays (argument_answer m n receiver)
+  unfolding argument_answer
+  argument_stays n receiver = then_stays _ _ (under_integer_stays 0) (λ b. or_die_stays _ _)
+
+  replace_stays : (v : Value) → Stays (at_once (replace_pair m v))
+  unfolding at_once replace_pair ◌>>◌
+  replace_stays v = then_stays _ _ (then_stays _ _ (drop_stays 2) (λ u. push_stays v)) (λ u. answer_stays true)
 
   answered_stays : (a : Option IntAnswer) → Stays (answered_at_once m a)
-  unfolding answered_at_once succeed value_of_answer ◌>>◌
+  unfolding answered_at_once
   answered_stays None = answer_stays false
-  answered_stays (Some (Number n)) = then_stays _ _ (answer_stays _) (λ v. then_stays _ _ (answer_with_stays 1 v) (λ u. answer_stays true))
-  answered_stays (Some (Truth b)) = then_stays _ _ (truth_stays b) (λ v. then_stays _ _ (answer_with_stays 1 v) (λ u. answer_stays true))
+  answered_stays (Some (Number n)) = replace_stays _
+  answered_stays (Some (Truth b)) = then_stays _ _ (truth_stays b) replace_stays
   answered_stays (Some (Point x y)) = answer_stays false
 
   arithmetic_by_stays : (k : ℕ) (v : Value) → Stays (arithmetic_at_once_by m k v)
   unfolding arithmetic_at_once_by
-  arithmetic_by_stays k (Small n) = then_stays _ _ (tried_stays _ (answers_stay _)) answered_stays
+  arithmetic_by_stays k (Small n) = then_stays _ _ (tried_stays _ (argument_stays _ _)) answered_stays
   arithmetic_by_stays k (Ref n) = answer_stays false
 
   equivalence_stays : Stays (equivalence m)

@@ -1,8 +1,10 @@
 pub mod Staying
+pub mod Pairs
 pub mod AtOnce
 pub mod InContext
 pub mod Alike
 pub mod AlikeProcesses
+pub mod AlikeElements
 pub mod Entered
 pub mod Messages
 pub mod Makes

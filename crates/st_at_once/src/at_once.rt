@@ -1,95 +1,31 @@
-ghost use Rattle.std.specs.Prelude.{false, ◌≡◌, ◌≢◌, ◌<◌, ◌≤◌, ◌+◌, ◌*◌, pos, Some, Ok};
+ghost use Rattle.std.specs.Prelude.{false, ◌≡◌, ◌≢◌, ◌<◌, ◌≤◌, ◌+◌, ◌*◌, pos, Ok};
 ghost use Rattle.st_model.specs.Values.{word};
 ghost use Rattle.st_model.specs.Calls.{itself};
 ghost use Rattle.st_model.specs.Decoded.{IsNumbered};
 ghost use Rattle.st_model.specs.declared.bytecode.Bytecode.TheVariants.{PrimitiveSend};
-ghost use Rattle.st_ints.specs.Answers.{IsOfSmall};
 ghost use Rattle.st_model.specs.declared.page.PageObject.TheVariants.{FalseObject, TrueObject};
 ghost use Rattle.st_control.specs.AtOnce.{IsStill, at_once, jump_at_once};
-ghost use Rattle.st_at_once.specs.AtOnce.{was_done, deed_left, StaysInContext, StillToForesee, respond_at_once, execute_at_once_by, execute_at_once, found_at_once, send_from_at_once, send_at_once, literal_send_at_once, answered_at_once, arithmetic_at_once_by, arithmetic_at_once, primitive_at_once, long_jump_at_once, return_receiver_at_once, return_constant_at_once, return_top_to_sender_at_once, return_top_to_caller_at_once, bytecode_at_once, may_leave, step_at_once, changes_at_once, not_understood_at_once};
+ghost use Rattle.st_at_once.specs.AtOnce.{was_done, deed_left, StaysInContext, StillToForesee, respond_at_once, execute_at_once_by, execute_at_once, found_at_once, send_from_at_once, send_at_once, literal_send_at_once, primitive_at_once, long_jump_at_once, return_receiver_at_once, return_constant_at_once, return_top_to_sender_at_once, return_top_to_caller_at_once, bytecode_at_once, may_leave, step_at_once, changes_at_once, not_understood_at_once};
 ghost use Rattle.st_model.specs.Methods.{flag_of};
 ghost use Rattle.st_at_once.specs.declared.ending.RowEnd.TheVariants.{Stays, Leaves};
 ghost use Rattle.st_lookup.specs.Places.{found_word};
 ghost use Rattle.st_frames.specs.Rows.{RowMoves, RowDoes, RowLeaves, Takes, registers_in, activation_changes};
 
+use crate::arithmetic::arithmetic_at_once;
 use crate::ending::{RowEnd, done_if, stays_if};
 use crate::making::try_at_once;
 use crate::unanswered::not_understood_at_once;
 use st_control::{
-    activate_at_once, answer_field, answer_pair, arithmetic_number, constant_value, duplicate_top,
-    equivalence, extended_push, extended_store, extended_store_and_pop, fetch_literal_constant,
-    find_method, integer_answer, jump_at_once, long_unconditional_jump, method_primitive,
-    pop_stack, push_active_context, push_constant, push_operand, push_receiver, receiver_class,
-    return_to_caller_at_once, return_to_sender_at_once, short_unconditional_jump, store_and_pop,
-    value_at_once, word_of,
+    activate_at_once, answer_field, constant_value, duplicate_top, equivalence, extended_push,
+    extended_store, extended_store_and_pop, fetch_literal_constant, find_method, jump_at_once,
+    long_unconditional_jump, method_primitive, pop_stack, push_active_context, push_constant,
+    push_operand, push_receiver, receiver_class, return_to_caller_at_once,
+    return_to_sender_at_once, short_unconditional_jump, store_and_pop, value_at_once,
 };
-use st_frames::{Registers, next_byte, page, pop, under};
-use st_ints::IntAnswer;
+use st_frames::{Registers, next_byte, pop, under};
 use st_memory::Objects;
 use st_method::Header;
 use st_model::{Bytecode, Constant, Dead, Deed, PageObject, Tried, Word, decode};
-
-/// A number or a truth takes the place of receiver and argument. Answers whether it was one: a Point isn't made.
-#[tactic(auto, using(st_control::proofs::Tries::values), unfolding(crate::specs::AtOnce::answered_at_once, st_model::specs::Primitives::succeed, st_model::specs::Arithmetic::value_of_answer, st_model::specs::Primitives::truth))]
-fn answered_at_once<O: Objects>(
-    m: &mut O,
-    r: &mut Registers,
-    answer: IntAnswer,
-) -> Result<bool, Dead>
-    requires room { 1 ≤ O.room m.old }
-    requires small { IsOfSmall answer }
-    ensures does { RowDoes O.Objects.own (answered_at_once O.names (Some answer))
-        itself m.old r.old result m.new r.new }
-    ensures takes { Takes O.Objects.own 1 m.old m.new }
-    ensures still { IsStill O.Objects.own m.old result m.new }
-{
-    let value = match answer {
-        IntAnswer::Number(n) => word_of(n),
-        IntAnswer::Truth(true) => page(m, PageObject::TrueObject),
-        IntAnswer::Truth(false) => page(m, PageObject::FalseObject),
-        IntAnswer::Point(_, _) => return Ok(false),
-    };
-    answer_pair(m, r, value)?;
-    Ok(true)
-}
-
-/// Does a primitive on two SmallIntegers, where the receiver is one. Answers whether it succeeded.
-#[tactic(auto, using(crate::proofs::AtOnce::tries))]
-fn arithmetic_at_once_by<O: Objects>(
-    m: &mut O,
-    r: &mut Registers,
-    k: u32,
-    receiver: Word,
-) -> Result<bool, Dead>
-    requires number { k < 16 }
-    requires room { 1 ≤ O.room m.old }
-    ensures does { RowDoes O.Objects.own (arithmetic_at_once_by O.names k (word receiver))
-        itself m.old r.old result m.new r.new }
-    ensures takes { Takes O.Objects.own 1 m.old m.new }
-    ensures still { IsStill O.Objects.own m.old result m.new }
-{
-    if !receiver.is_small() {
-        return Ok(false);
-    }
-    match integer_answer(m, r, arithmetic_number(k)) {
-        Ok(answer) => answered_at_once(m, r, answer),
-        Err(_) => Ok(false),
-    }
-}
-
-/// Does the primitive that is tried first for a special selector of 0 to 15. Answers whether it succeeded.
-#[tactic(auto, using(st_frames::proofs::Doing::rows), unfolding(crate::specs::AtOnce::arithmetic_at_once))]
-fn arithmetic_at_once<O: Objects>(m: &mut O, r: &mut Registers, k: u32) -> Result<bool, Dead>
-    requires number { k < 16 }
-    requires room { 1 ≤ O.room m.old }
-    ensures does { RowDoes O.Objects.own (arithmetic_at_once O.names k)
-        itself m.old r.old result m.new r.new }
-    ensures takes { Takes O.Objects.own 1 m.old m.new }
-    ensures still { IsStill O.Objects.own m.old result m.new }
-{
-    let receiver = under(m, r, 1)?;
-    arithmetic_at_once_by(m, r, k, receiver)
-}
 
 /// Does the code 176 + k, where that is 198, 199, or one of the two that compute a block's value.
 #[tactic(auto, using(st_frames::proofs::Doing::rows), unfolding(crate::specs::AtOnce::primitive_at_once, st_control::specs::AtOnce::at_once))]
