@@ -31,7 +31,7 @@ use Rattle.st_model.specs.Table.{Table}
 use Rattle.st_model.proofs.Runs.{run-tried_went, run-tried_died}
 use Rattle.st_control.specs.AtOnce.{at_once, enter_context, context_space, activate_at_once, jump_at_once, return_to_context_at_once, return_at_once, return_to_sender_at_once, return_to_caller_at_once}
 use Rattle.st_frames.proofs.Doing.{rows}
-use Rattle.st_at_once.specs.AtOnce.{object_space, where_space, largest_number, largest_fixed, largest_indexed, respond_with, respond_at_once, execute_at_once_by, execute_at_once, message_space, enter_with_message, with_message_at_once, answer_at_once, call_not_understood_at_once, not_understood_at_once, found_at_once, send_from_at_once, send_at_once, literal_send_at_once, answered_at_once, arithmetic_at_once_by, arithmetic_at_once, primitive_at_once, long_jump_at_once, return_receiver_at_once, return_constant_at_once, return_top_to_sender_at_once, return_top_to_caller_at_once, row_in_context, unsent_at_once, bytecode_at_once, step_at_once, argument_answer}
+use Rattle.st_at_once.specs.AtOnce.{object_space, where_space, largest_number, largest_fixed, largest_indexed, respond_with, respond_at_once, execute_at_once_by, execute_at_once, message_space, enter_with_message, with_message_at_once, answer_at_once, call_not_understood_at_once, not_understood_at_once, found_at_once, send_from_at_once, send_at_once, literal_send_at_once, answered_at_once, arithmetic_at_once_by, arithmetic_at_once, primitive_at_once, long_jump_at_once, return_receiver_at_once, return_constant_at_once, return_top_to_sender_at_once, return_top_to_caller_at_once, bytecode_at_once, step_at_once, argument_answer}
 use Rattle.st_control.proofs.Tries.{some_answer, no_answer, passed}
 use Rattle.st_at_once.proofs.Messages.{HeaderStays}
 use Rattle.st_at_once.proofs.Pairs.{reads, word_under, under-reads, number-same, truth-same}
@@ -419,39 +419,31 @@ module _ (m : ObjectMemory Table) where
   unfolding long_jump_at_once
   long_jump-as wanted other i = then-as _ _ _ _ (λ b. jump_on-as wanted other (pos (i * 256 + b)))
 
-  in_context-as : (b : Bytecode) → IsAs outcome.Went (row_in_context m b) (bytecode m b)
-  unfolding row_in_context bytecode short_jump_on_false long_jump_on_true long_jump_on_false
-  in_context-as (code.Push operand) = goes_on-as _
-  in_context-as (code.StoreAndPop operand) = goes_on-as _
-  in_context-as code.PushReceiver = goes_on-as _
-  in_context-as (code.PushConstant c) = goes_on-as _
-  in_context-as code.ExtendedPush = goes_on-as _
-  in_context-as code.ExtendedStore = goes_on-as _
-  in_context-as code.ExtendedStoreAndPop = goes_on-as _
-  in_context-as code.PopStack = goes_on-as _
-  in_context-as code.DuplicateTop = goes_on-as _
-  in_context-as code.PushActiveContext = goes_on-as _
-  in_context-as (code.ShortUnconditionalJump i) = goes_on-as _
-  in_context-as (code.ShortJumpOnFalse i) = executed-as m _ _ (jump_on-as FalseObject TrueObject (pos (i + 1)))
-  in_context-as (code.LongUnconditionalJump i) = goes_on-as _
-  in_context-as (code.LongJumpOnTrue i) = executed-as m _ _ (long_jump-as TrueObject FalseObject i)
-  in_context-as (code.LongJumpOnFalse i) = executed-as m _ _ (long_jump-as FalseObject TrueObject i)
-  in_context-as (code.ArithmeticSend k) = arithmetic-as k
-  in_context-as b = not-as _ _
-
-  unsent-as : (b : Bytecode) → IsAs outcome.Went (unsent_at_once m b) (bytecode m b)
-  unfolding unsent_at_once bytecode return_receiver_at_once return_constant_at_once return_top_to_sender_at_once return_top_to_caller_at_once return_receiver return_constant return_top_to_sender return_top_to_caller
-  unsent-as code.ReturnReceiver = executed-as m _ _ (then-as _ _ _ _ return_to_sender-as)
-  unsent-as (code.ReturnConstant c) = executed-as m _ _ (then-as _ _ _ _ return_to_sender-as)
-  unsent-as code.ReturnTopToSender = executed-as m _ _ (then-as _ _ _ _ return_to_sender-as)
-  unsent-as code.ReturnTopToCaller = executed-as m _ _ (then-as _ _ _ _ return_to_caller-as)
-  unsent-as (code.PrimitiveSend k) = primitive-as k
-  unsent-as b = in_context-as b
-
   bytecode-as : HeaderStays m → (b : Bytecode) → IsAs outcome.Went (bytecode_at_once m b) (bytecode m b)
-  unfolding bytecode_at_once bytecode
+  unfolding bytecode_at_once bytecode short_jump_on_false long_jump_on_true long_jump_on_false return_receiver_at_once return_constant_at_once return_top_to_sender_at_once return_top_to_caller_at_once return_receiver return_constant return_top_to_sender return_top_to_caller
+  bytecode-as stays (code.Push operand) = goes_on-as _
+  bytecode-as stays (code.StoreAndPop operand) = goes_on-as _
+  bytecode-as stays code.PushReceiver = goes_on-as _
+  bytecode-as stays (code.PushConstant c) = goes_on-as _
+  bytecode-as stays code.ReturnReceiver = executed-as m _ _ (then-as _ _ _ _ return_to_sender-as)
+  bytecode-as stays (code.ReturnConstant c) = executed-as m _ _ (then-as _ _ _ _ return_to_sender-as)
+  bytecode-as stays code.ReturnTopToSender = executed-as m _ _ (then-as _ _ _ _ return_to_sender-as)
+  bytecode-as stays code.ReturnTopToCaller = executed-as m _ _ (then-as _ _ _ _ return_to_caller-as)
+  bytecode-as stays code.ExtendedPush = goes_on-as _
+  bytecode-as stays code.ExtendedStore = goes_on-as _
+  bytecode-as stays code.ExtendedStoreAndPop = goes_on-as _
+  bytecode-as stays code.PopStack = goes_on-as _
+  bytecode-as stays code.DuplicateTop = goes_on-as _
+  bytecode-as stays code.PushActiveContext = goes_on-as _
+  bytecode-as stays (code.ShortUnconditionalJump i) = goes_on-as _
+  bytecode-as stays (code.ShortJumpOnFalse i) = executed-as m _ _ (jump_on-as FalseObject TrueObject (pos (i + 1)))
+  bytecode-as stays (code.LongUnconditionalJump i) = goes_on-as _
+  bytecode-as stays (code.LongJumpOnTrue i) = executed-as m _ _ (long_jump-as TrueObject FalseObject i)
+  bytecode-as stays (code.LongJumpOnFalse i) = executed-as m _ _ (long_jump-as FalseObject TrueObject i)
+  bytecode-as stays (code.ArithmeticSend k) = arithmetic-as k
+  bytecode-as stays (code.PrimitiveSend k) = primitive-as k
   bytecode-as stays (code.LiteralSend i n) = literal_send-as stays i n
-  bytecode-as stays b = unsent-as b
+  bytecode-as stays b = not-as _ _
 
   pub step-as : HeaderStays m → IsAs outcome.Went (step_at_once m) (step m)
   unfolding step_at_once step
