@@ -1,4 +1,5 @@
 pub mod Staying
+pub mod Pairs
 pub mod AtOnce
 pub mod InContext
 pub mod Alike

@@ -1,5 +1,5 @@
 -- Where what is known stands.
-use Rattle.std.proofs.Common.{ℕ, ◌<◌, arith}
+use Rattle.std.proofs.Common.{ℕ, arith}
 use Rattle.std.proofs.Math.Logic.{∥∥₁_map}
 use Rattle.st_model.specs.Values.{Value, word}
 use Rattle.st_model.specs.View.{View}

@@ -5,6 +5,7 @@
 //! what they are.
 #![tactic(auto)]
 
+mod arithmetic;
 mod at_once;
 mod ending;
 mod holding;

@@ -1,6 +1,6 @@
 -- A primitive that is called by its number, whatever method has it (chapter 29). It answers how it ended, or none where it
 -- failed.
-use Rattle.std.specs.Prelude.{◌≡◌, ℕ, zero, suc, ◌+◌, ◌==◌, Result, IfOk, Option, Some, None, Bool, true, false, ◌&&◌, if◌then◌else◌}
+use Rattle.std.specs.Prelude.{◌≡◌, ℕ, zero, suc, ◌+◌, ◌==◌, Result, Ok, Err, IfOk, Option, Some, None, Bool, true, false, ◌&&◌, if◌then◌else◌}
 use Rattle.std.specs.Option.{option_map}
 use Rattle.st_model.specs.declared.deed.Deed.{Deed}
 use Rattle.st_model.specs.declared.deed.Deed.TheVariants.{Nothing}
@@ -25,6 +25,7 @@ use Rattle.st_model.specs.Executing.{goes_on, asks, is_from, takes, execute_foun
 use Rattle.st_model.specs.Table.{Table}
 use Rattle.st_model.specs.View.{View}
 use Rattle.st_frames.specs.declared.frame.Frame.{Frame}
+use Rattle.st_frames.specs.Rows.{storage_changes}
 use Rattle.st_step.specs.declared.tried.Tried.{Tried}
 use Rattle.st_step.specs.declared.tried.Tried.TheVariants as trials
 
@@ -171,6 +172,13 @@ end_if_any x = option_map end_of x
 abbrev pub deed_if_any : Option StepEnd → Deed
 deed_if_any None = Nothing
 deed_if_any (Some end) = deed_of_end end
+
+-- How many changes a primitive makes that is tried by its number: where it failed, no more than one on objects, so that its
+-- method can be activated.
+abbrev pub number_changes : ℕ → Result (Option StepEnd) Dead → ℕ
+number_changes most (Ok None) = storage_changes
+number_changes most (Ok (Some end)) = most
+number_changes most (Err cause) = most
 
 -- what a primitive of the code was that was tried
 abbrev pub outcome_of_trial : Tried → Option Outcome
