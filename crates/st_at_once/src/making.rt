@@ -2,8 +2,7 @@
 //! may be, and that which stores an element and those on processes, which make nothing.
 
 ghost use Rattle.std.specs.Prelude.{◌≡◌, ◌≤◌, Ok, IfOk, false};
-ghost use Rattle.st_model.specs.Calls.{itself};
-ghost use Rattle.st_model.specs.Primitives.{taking};
+ghost use Rattle.st_model.specs.{Calls.itself, Primitives.taking};
 ghost use Rattle.st_model.specs.Storage.{primitive_at, primitive_at_put, primitive_new, primitive_new_with};
 ghost use Rattle.st_model.specs.Deeds.{is_done, deed_of_trial};
 ghost use Rattle.st_frames.specs.Rows.{RowReads, RowLeaves, Takes, activation_changes};

@@ -1,9 +1,6 @@
 ghost use Rattle.std.specs.Prelude.{◌≡◌, ◌<◌, ◌≤◌, IfSome};
-ghost use Rattle.st_model.specs.Values.{value, word};
-ghost use Rattle.st_model.specs.View.{Has, SettlesTo};
-ghost use Rattle.st_model.specs.Table.{bounded_table};
-ghost use Rattle.st_model.specs.Steps.{store_field};
-ghost use Rattle.st_model.specs.Calls.{Changes, itself};
+ghost use Rattle.st_model.specs.{Values.{value, word}, View.{Has, SettlesTo}, Table.bounded_table};
+ghost use Rattle.st_model.specs.{Steps.store_field, Calls.{Changes, itself}};
 ghost use Rattle.st_frames.specs.Shown.{IsFrame};
 ghost use Rattle.st_at_once.specs.Known.{IsNear, ArePlaced, IsCodeAt, HasLiteral, HasNumber};
 
