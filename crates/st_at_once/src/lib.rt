@@ -14,6 +14,7 @@ mod looking;
 mod making;
 mod near;
 mod objects;
+mod passing;
 mod quick;
 mod unanswered;
 
