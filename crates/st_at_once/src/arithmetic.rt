@@ -111,6 +111,7 @@ fn arithmetic_at_once_by<O: Objects>(
 }
 
 /// Does the primitive that is tried first for a special selector of 0 to 15. Answers whether it succeeded.
+#[inline(always)]
 #[tactic(auto, using(st_frames::proofs::Doing::rows), unfolding(crate::specs::AtOnce::arithmetic_at_once))]
 pub fn arithmetic_at_once<O: Objects>(m: &mut O, r: &mut Registers, k: u32) -> Result<bool, Dead>
     requires number { k < 16 }

@@ -187,7 +187,7 @@ impl<'a, M: Memory> Near<'a, M> {
         done
     }
     /// Stores x in field i of an object that is neither the active nor the home context: at its place where it was made last.
-    #[inline(never)]
+    #[inline(always)]
     pub(crate) fn store_outside(&mut self, o: Word, i: u32, x: Word) -> Result<(), Dead>
         ensures stores { Changes (store_field bounded_table (word o) i (word x)) itself
             (M.view self.old.memory.now).objects (M.view self.old.memory.now).head
