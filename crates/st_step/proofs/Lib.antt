@@ -6,4 +6,4 @@ pub mod Performed
 mod Failing
 mod Called
 pub mod Executes
-mod NumberChanges
+pub mod NumberChanges

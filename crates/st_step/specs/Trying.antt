@@ -7,6 +7,9 @@ use Rattle.st_model.specs.declared.deed.Deed.TheVariants.{Nothing}
 use Rattle.st_model.specs.declared.dead.Dead.{Dead}
 use Rattle.st_model.specs.declared.dead.Dead.TheVariants as dead
 use Rattle.st_model.specs.declared.outcome.StepEnd.{StepEnd}
+use Rattle.st_model.specs.declared.outcome.StepEnd.TheVariants as ends
+use Rattle.st_model.specs.declared.tried.Tried.{Tried as FamilyTried}
+use Rattle.st_model.specs.declared.tried.Tried.TheVariants as family
 use Rattle.st_model.specs.Values.{Value}
 use Rattle.st_model.specs.Outcomes.{Outcome, outcome_of, end_of}
 use Rattle.st_model.specs.Outcomes as outcome
@@ -172,6 +175,11 @@ end_if_any x = option_map end_of x
 abbrev pub deed_if_any : Option StepEnd → Deed
 deed_if_any None = Nothing
 deed_if_any (Some end) = deed_of_end end
+
+-- the end of a primitive that its family tried; none where it failed
+abbrev pub end_of_trial : FamilyTried → Option StepEnd
+end_of_trial family.Failed = None
+end_of_trial (family.Done deed) = Some (ends.Went deed)
 
 -- How many changes a primitive makes that is tried by its number: where it failed, no more than one on objects, so that its
 -- method can be activated.

@@ -8,7 +8,7 @@ ghost use Rattle.st_model.specs.Storage.{is_storage};
 ghost use Rattle.st_model.specs.Blocks.{is_block};
 ghost use Rattle.st_model.specs.Processes.{is_process};
 ghost use Rattle.st_model.specs.Input.{is_input};
-ghost use Rattle.st_step.specs.Trying.{if_done, succeeds, says, last_number, number_on_objects, number_behind, number_that_responds, by_number, tried_number, end_if_any, deed_if_any, number_changes};
+ghost use Rattle.st_step.specs.Trying.{if_done, succeeds, says, last_number, number_on_objects, number_behind, number_that_responds, by_number, tried_number, end_of_trial, end_if_any, deed_if_any, number_changes};
 ghost use Rattle.st_frames.specs.Rows.{RowLeaves, Takes, response_changes, execution_changes};
 
 use crate::perform::{performs_selector, performs_with};
@@ -69,6 +69,16 @@ fn is_with(primitive: u32, number: u32, arguments: u32, count: u32) -> bool
     ensures { result ≡ (primitive == number && arguments == count) }
 {
     primitive == number && arguments == count
+}
+
+/// The end of a primitive that its family tried; none where it failed.
+fn end_of_trial(tried: Tried) -> Option<StepEnd>
+    ensures { result ≡ end_of_trial tried }
+{
+    match tried {
+        Tried::Done(deed) => Some(StepEnd::Went(deed)),
+        Tried::Failed => None,
+    }
 }
 
 /// Tries a primitive on two SmallIntegers.
@@ -154,7 +164,7 @@ fn last_number<O: Objects>(
 
 /// Tries a primitive on objects, blocks, processes, devices or clocks, or one that asks for something.
 #[inline(always)]
-#[tactic(auto, using(st_frames::proofs::Doing::rows), unfolding(crate::specs::Trying::number_on_objects, crate::specs::Trying::if_done))]
+#[tactic(auto, using(crate::proofs::NumberChanges::trials), unfolding(crate::specs::Trying::number_on_objects, crate::specs::Trying::if_done))]
 fn number_on_objects<O: Objects>(
     m: &mut O,
     r: &mut Registers,
@@ -168,28 +178,16 @@ fn number_on_objects<O: Objects>(
     ensures takes { Takes O.Objects.own (number_changes response_changes result) m.old m.new }
 {
     if is_storage(primitive) {
-        return match try_storage(m, r, primitive, arguments)? {
-            Tried::Done(deed) => Ok(Some(StepEnd::Went(deed))),
-            Tried::Failed => Ok(None),
-        };
+        return Ok(end_of_trial(try_storage(m, r, primitive, arguments)?));
     }
     if is_block(primitive) {
-        return match try_blocks(m, r, primitive, arguments)? {
-            Tried::Done(deed) => Ok(Some(StepEnd::Went(deed))),
-            Tried::Failed => Ok(None),
-        };
+        return Ok(end_of_trial(try_blocks(m, r, primitive, arguments)?));
     }
     if is_process(primitive) {
-        return match try_process(m, r, primitive, arguments)? {
-            Tried::Done(deed) => Ok(Some(StepEnd::Went(deed))),
-            Tried::Failed => Ok(None),
-        };
+        return Ok(end_of_trial(try_process(m, r, primitive, arguments)?));
     }
     if is_input(primitive) {
-        return match try_input(m, r, primitive, arguments)? {
-            Tried::Done(deed) => Ok(Some(StepEnd::Went(deed))),
-            Tried::Failed => Ok(None),
-        };
+        return Ok(end_of_trial(try_input(m, r, primitive, arguments)?));
     }
     last_number(m, r, primitive, arguments)
 }
@@ -226,7 +224,7 @@ fn number_behind<O: Objects>(
 
 /// Tries a primitive that performs nothing.
 #[inline(always)]
-#[tactic(auto, using(st_frames::proofs::Doing::rows), unfolding(crate::specs::Trying::number_that_responds, crate::specs::Trying::if_done))]
+#[tactic(auto, using(crate::proofs::NumberChanges::trials), unfolding(crate::specs::Trying::number_that_responds, crate::specs::Trying::if_done))]
 pub fn number_that_responds<O: Objects>(
     m: &mut O,
     r: &mut Registers,
@@ -243,16 +241,10 @@ pub fn number_that_responds<O: Objects>(
         return try_arithmetic(m, r, primitive);
     }
     if is_large(primitive, arguments) {
-        return match large_arithmetic(m, r, primitive)? {
-            Tried::Done(deed) => Ok(Some(StepEnd::Went(deed))),
-            Tried::Failed => Ok(None),
-        };
+        return Ok(end_of_trial(large_arithmetic(m, r, primitive)?));
     }
     if is_with(primitive, 37, arguments, 1) {
-        return match shift_large(m, r)? {
-            Tried::Done(deed) => Ok(Some(StepEnd::Went(deed))),
-            Tried::Failed => Ok(None),
-        };
+        return Ok(end_of_trial(shift_large(m, r)?));
     }
     number_behind(m, r, primitive, arguments)
 }
