@@ -1,7 +1,5 @@
 ghost use Rattle.std.specs.Prelude.{◌≤◌, ◌+◌};
-ghost use Rattle.st_model.specs.Outcomes.{end_of};
-ghost use Rattle.st_model.specs.Deeds.{deed_of_end};
-ghost use Rattle.st_model.specs.Sends.{call_of, call_if_any};
+ghost use Rattle.st_model.specs.{Outcomes.end_of, Deeds.deed_of_end, Sends.{call_of, call_if_any}};
 ghost use Rattle.st_model.specs.Executing.{execute, execute_if_any};
 ghost use Rattle.st_frames.specs.Rows.{RowLeaves, Takes, execution_changes};
 

@@ -1,13 +1,7 @@
 ghost use Rattle.std.specs.Prelude.{◌≡◌, ◌<◌, ◌≤◌, ◌+◌, ◌==◌, ◌&&◌};
-ghost use Rattle.st_model.specs.declared.deed.Deed.TheVariants.{Nothing};
-ghost use Rattle.st_model.specs.Outcomes.{end_of};
-ghost use Rattle.st_model.specs.Deeds.{deed_of_end};
-ghost use Rattle.st_model.specs.Arithmetic.{arithmetic};
-ghost use Rattle.st_model.specs.Executing.{asks, is_from};
-ghost use Rattle.st_model.specs.Storage.{is_storage};
-ghost use Rattle.st_model.specs.Blocks.{is_block};
-ghost use Rattle.st_model.specs.Processes.{is_process};
-ghost use Rattle.st_model.specs.Input.{is_input};
+ghost use Rattle.st_model.specs.{declared.deed.Deed.TheVariants.Nothing, Outcomes.end_of, Deeds.deed_of_end};
+ghost use Rattle.st_model.specs.{Arithmetic.arithmetic, Executing.{asks, is_from}, Storage.is_storage};
+ghost use Rattle.st_model.specs.{Blocks.is_block, Processes.is_process, Input.is_input};
 ghost use Rattle.st_step.specs.Trying.{if_done, succeeds, says, last_number, number_on_objects, number_behind, number_that_responds, by_number, tried_number, end_of_trial, end_if_any, deed_if_any, number_changes};
 ghost use Rattle.st_frames.specs.Rows.{RowLeaves, Takes, response_changes, execution_changes};
 

@@ -1,7 +1,5 @@
 ghost use Rattle.std.specs.Prelude.{◌≡◌, ◌<◌, ◌≤◌, ◌+◌, IfOk};
-ghost use Rattle.st_model.specs.Values.{word};
-ghost use Rattle.st_model.specs.Outcomes.{end_of};
-ghost use Rattle.st_model.specs.Deeds.{deed_of_end};
+ghost use Rattle.st_model.specs.{Values.word, Outcomes.end_of, Deeds.deed_of_end};
 ghost use Rattle.st_model.specs.Executing.{takes, execute_found, drop_selector, spread_array, spreading};
 ghost use Rattle.st_model.specs.Calls.{itself};
 ghost use Rattle.st_step.specs.Trying.{performs, performs_selector, performs_with, end_if_any, deed_if_any, number_changes};

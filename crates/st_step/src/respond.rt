@@ -1,10 +1,6 @@
 ghost use Rattle.std.specs.Prelude.{◌≡◌, ◌≤◌, ◌+◌};
-ghost use Rattle.st_model.specs.Values.{word};
-ghost use Rattle.st_model.specs.Outcomes.{end_of};
-ghost use Rattle.st_model.specs.Deeds.{deed_of_end};
-ghost use Rattle.st_model.specs.Sends.{call_of};
-ghost use Rattle.st_model.specs.Executing.{goes_on, respond, respond_or_perform};
-ghost use Rattle.st_model.specs.Contexts.{activate};
+ghost use Rattle.st_model.specs.{Values.word, Outcomes.end_of, Deeds.deed_of_end, Sends.call_of};
+ghost use Rattle.st_model.specs.{Executing.{goes_on, respond, respond_or_perform}, Contexts.activate};
 ghost use Rattle.st_frames.specs.Rows.{RowLeaves, Takes, activation_changes, response_changes, execution_changes};
 
 use crate::numbers::{by_number, number_that_responds};

@@ -1,8 +1,5 @@
 ghost use Rattle.std.specs.Prelude.{◌≡◌, ◌<◌, ◌≤◌, ◌+◌};
-ghost use Rattle.st_model.specs.Values.{word};
-ghost use Rattle.st_model.specs.Outcomes.{end_of};
-ghost use Rattle.st_model.specs.Deeds.{deed_of_end};
-ghost use Rattle.st_model.specs.Decoded.{IsNumbered};
+ghost use Rattle.st_model.specs.{Values.word, Outcomes.end_of, Deeds.deed_of_end, Decoded.IsNumbered};
 ghost use Rattle.st_model.specs.Bytecodes.{bytecode, step};
 ghost use Rattle.st_frames.specs.Rows.{RowLeaves, Takes, bytecode_changes};
 
