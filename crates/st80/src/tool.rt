@@ -1,6 +1,4 @@
-ghost use Rattle.std.specs.Prelude.{◌≡◌, map, IsTrue};
-ghost use Rattle.std.specs.String.{string_bytes};
-ghost use Rattle.std.specs.Process.{exit_status};
+ghost use Rattle.std.specs.{Prelude.{◌≡◌, map, IsTrue}, String.string_bytes, Process.exit_status};
 ghost use Rattle.st_host.specs.Counts.{Rose};
 ghost use Rattle.st_protocol.specs.Statuses.{number_of};
 ghost use Rattle.st_session.specs.Calls.{CallEnds};

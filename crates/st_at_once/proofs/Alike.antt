@@ -14,14 +14,14 @@ use Rattle.st_model.specs.Machine.{ObjectMemory, Registers, is_there}
 use Rattle.st_model.specs.Steps.{registers_set, set_registers, of_page, class_of, fetch_field, store_field, fetch_integer, count_fields, transfer, put, push, under, top, pop, literal, byte_at, next_byte}
 use Rattle.st_model.specs.Contexts.{home_by, home_of, stack_place, fetch_stack_pointer, context_registers, fetch_context_registers, store_context_registers, switch}
 use Rattle.st_model.specs.Returns.{return_into}
-use Rattle.st_model.specs.Primitives.{pop_words, answer_with, succeed, truth, check_class}
-use Rattle.st_model.specs.Arithmetic.{integer_under, integer_answer, value_of_answer, equivalence, receiver_class}
+use Rattle.st_model.specs.Primitives.{pop_words, answer_with, truth, check_class}
+use Rattle.st_model.specs.Arithmetic.{integer_under, equivalence, receiver_class}
 use Rattle.st_model.specs.Blocks.{start_of, enter_block, value_with_words, value_if_any, primitive_value}
 use Rattle.st_model.specs.Bytecodes.{fetch_receiver_variable, fetch_temporary_variable, fetch_literal_constant, fetch_literal_variable, fetch_operand, store_receiver_variable, store_temporary_variable, store_literal_variable, store_operand, constant_value, push_operand, store_and_pop}
 use Rattle.st_model.specs.Table.{Table, table, IsTabular}
 use Rattle.st_model.proofs.Tabular.{of_page-as, class_of-as, fetch_field-as, store_field-as, count_fields-as, transfer-as, literal-as, byte_at-as}
 use Rattle.st_control.specs.AtOnce.{jump_at_once, return_to_context_at_once, return_at_once, return_to_sender_at_once, return_to_caller_at_once}
-use Rattle.st_at_once.specs.AtOnce.{answered_at_once, arithmetic_at_once_by, primitive_at_once}
+use Rattle.st_at_once.specs.AtOnce.{argument_answer, replace_pair, answered_at_once, arithmetic_at_once_by, primitive_at_once}
 
 module _ {m : ObjectMemory Table} (h : IsTabular m) where
   pub page-is : of_page m ≡ of_page table
@@ -141,26 +141,33 @@ module _ {m : ObjectMemory Table} (h : IsTabular m) where
   truth-is : truth m ≡ truth table
   truth-is = fun_ext truth-as
 
+  replace-as : (v : Value) → replace_pair m v ≡ replace_pair table v
+  unfolding replace_pair
+  replace-as v = rw push-is refl
+
+  replace-is : replace_pair m ≡ replace_pair table
+  replace-is = fun_ext replace-as
+
   answered-as : (a : Option IntAnswer) → answered_at_once m a ≡ answered_at_once table a
-  unfolding answered_at_once succeed value_of_answer
+  unfolding answered_at_once
   answered-as None = refl
-  answered-as (Some (Number n)) = rw answer_with-is refl
-  answered-as (Some (Truth b)) = rw (truth-is, answer_with-is) refl
+  answered-as (Some (Number n)) = rw replace-is refl
+  answered-as (Some (Truth b)) = rw (truth-is, replace-is) refl
   answered-as (Some (Point x y)) = refl
 
   answered-is : answered_at_once m ≡ answered_at_once table
   answered-is = fun_ext answered-as
 
-  integer_answer-as : (n : ℕ) → integer_answer m n ≡ integer_answer table n
-  unfolding integer_answer integer_under
-  integer_answer-as n = rw under-is refl
+  argument-as : (n : ℕ) (receiver : ℤ) → argument_answer m n receiver ≡ argument_answer table n receiver
+  unfolding argument_answer integer_under
+  argument-as n receiver = rw under-is refl
 
-  integer_answer-is : integer_answer m ≡ integer_answer table
-  integer_answer-is = fun_ext integer_answer-as
+  argument-is : argument_answer m ≡ argument_answer table
+  argument-is = fun_ext (λ n. fun_ext (λ receiver. argument-as n receiver))
 
   arithmetic_by-as : (k : ℕ) (v : Value) → arithmetic_at_once_by m k v ≡ arithmetic_at_once_by table k v
   unfolding arithmetic_at_once_by
-  arithmetic_by-as k (Small n) = rw (integer_answer-is, answered-is) refl
+  arithmetic_by-as k (Small n) = rw (argument-is, answered-is) refl
   arithmetic_by-as k (Ref n) = refl
 
   pub arithmetic_by-is : arithmetic_at_once_by m ≡ arithmetic_at_once_by table

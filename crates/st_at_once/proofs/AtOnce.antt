@@ -1,26 +1,29 @@
 -- What is done at once is the bytecode: it dies of the same cause, or goes on to the same state.
-use Rattle.std.proofs.Common.{◌≡◌, ◌≤◌, ℕ, Bool, true, false, Option, Some, None, refl, sym, ap, ◌∙◌, subst, arith}
+use Rattle.std.proofs.Common.{◌≡◌, ◌≤◌, ℕ, Bool, true, false, Option, Some, None, Result, Ok, Err, refl, sym, ap, ◌∙◌, subst, arith}
 use Rattle.std.proofs.lemmas.Bool.Decides.{nat_tests}
+use Rattle.std.proofs.lemmas.Int.{to_z-of_z}
 use Rattle.std.specs.Prelude.{◌==◌, nat_lt, if◌then◌else◌, ℤ, pos, ◌+◌, ◌*◌}
 use Rattle.st_model.specs.declared.dead.Dead.{Dead}
+use Rattle.st_model.specs.declared.dead.Dead.TheVariants as dead
 use Rattle.st_model.specs.declared.bytecode.Bytecode.{Bytecode}
 use Rattle.st_model.specs.declared.bytecode.Bytecode.TheVariants as code
 use Rattle.st_model.specs.declared.integers.IntAnswer.{IntAnswer}
 use Rattle.st_model.specs.declared.integers.IntAnswer.TheVariants.{Number, Truth, Point}
-use Rattle.st_model.specs.Values.{Value, Small, Ref, is_small}
+use Rattle.st_model.specs.Values.{Value, Small, Ref, is_small, integer, integer_of}
+use Rattle.st_model.specs.Integers.{binary}
 use Rattle.st_model.specs.declared.page.PageObject.{PageObject}
 use Rattle.st_model.specs.declared.page.PageObject.TheVariants.{FalseObject, TrueObject}
 use Rattle.st_model.specs.Outcomes.{Outcome}
 use Rattle.st_model.specs.Outcomes as outcome
-use Rattle.st_model.specs.Machine.{ObjectMemory, State, Transition, Died, Went, Step, answer, tried, or_left, after, ◌>>=◌, ◌>>◌}
-use Rattle.st_model.specs.Steps.{same_value, jump, next_byte, get_free}
+use Rattle.st_model.specs.Machine.{ObjectMemory, State, Transition, Died, Went, Step, answer, die, tried, or_left, after, ◌>>=◌, ◌>>◌}
+use Rattle.st_model.specs.Steps.{same_value, or_die, integer_or_die, under, jump, next_byte, get_free}
 use Rattle.st_model.specs.Sends.{Call, replace_by_message, call_not_understood, not_understood, call_found, send_from, send}
 use Rattle.st_model.specs.Methods.{method_header, flag_of}
 use Rattle.st_model.specs.Contexts.{activate}
 use Rattle.st_model.specs.Returns.{calls_nothing, return_into, return_to_context, return_to, return_to_sender, return_to_caller, jump_on}
 use Rattle.st_model.specs.Primitives.{succeed, primitive, taking}
-use Rattle.st_model.specs.Storage.{primitive_new, primitive_new_with, storage}
-use Rattle.st_model.specs.Arithmetic.{arithmetic, arithmetic_number, integer_answer, value_of_answer}
+use Rattle.st_model.specs.Storage.{primitive_at, primitive_at_put, primitive_new, primitive_new_with, storage}
+use Rattle.st_model.specs.Arithmetic.{arithmetic, arithmetic_number, integer_answer, value_of_answer, integer_under}
 use Rattle.st_model.specs.Processes.{processes}
 use Rattle.st_model.specs.Executing.{goes_on, or_activate, respond, respond_by_extension, respond_or_perform, execute_by, execute, executed, execute_if_any, executed_if_any}
 use Rattle.st_model.specs.Bytecodes.{send_literal, or_send, arithmetic_by, arithmetic_send, primitive_send, return_receiver, return_constant, return_top_to_sender, return_top_to_caller, short_jump_on_false, long_jump_on_true, long_jump_on_false, bytecode, step}
@@ -28,21 +31,25 @@ use Rattle.st_model.specs.Table.{Table}
 use Rattle.st_model.proofs.Runs.{run-tried_went, run-tried_died}
 use Rattle.st_control.specs.AtOnce.{at_once, enter_context, context_space, activate_at_once, jump_at_once, return_to_context_at_once, return_at_once, return_to_sender_at_once, return_to_caller_at_once}
 use Rattle.st_frames.proofs.Doing.{rows}
-use Rattle.st_at_once.specs.AtOnce.{object_space, where_space, largest_fixed, largest_indexed, respond_with, respond_at_once, execute_at_once_by, execute_at_once, message_space, enter_with_message, with_message_at_once, answer_at_once, call_not_understood_at_once, not_understood_at_once, found_at_once, send_from_at_once, send_at_once, literal_send_at_once, answered_at_once, arithmetic_at_once_by, arithmetic_at_once, primitive_at_once, long_jump_at_once, return_receiver_at_once, return_constant_at_once, return_top_to_sender_at_once, return_top_to_caller_at_once, row_in_context, unsent_at_once, bytecode_at_once, step_at_once}
+use Rattle.st_at_once.specs.AtOnce.{object_space, where_space, largest_number, largest_fixed, largest_indexed, respond_with, respond_at_once, execute_at_once_by, execute_at_once, message_space, enter_with_message, with_message_at_once, answer_at_once, call_not_understood_at_once, not_understood_at_once, found_at_once, send_from_at_once, send_at_once, literal_send_at_once, answered_at_once, arithmetic_at_once_by, arithmetic_at_once, primitive_at_once, long_jump_at_once, return_receiver_at_once, return_constant_at_once, return_top_to_sender_at_once, return_top_to_caller_at_once, bytecode_at_once, step_at_once, argument_answer}
+use Rattle.st_control.proofs.Tries.{some_answer, no_answer, passed}
 use Rattle.st_at_once.proofs.Messages.{HeaderStays}
+use Rattle.st_at_once.proofs.Pairs.{reads, word_under, under-reads, number-same, truth-same}
 
 -- a primitive on SmallIntegers that is tried
 
-pub by-answers : (m : ObjectMemory Table) (k : ℕ) (v : Value) (a : IntAnswer) (s : State Table) → is_small v ≡ true → (integer_answer m (arithmetic_number k)).run s ≡ Went a s
-    → (arithmetic_at_once_by m k v).run s ≡ (answered_at_once m (Some a)).run s
+pub ruleset pairs = (rows, some_answer, no_answer, passed, to_z-of_z)
+
+pub by-answers : (m : ObjectMemory Table) (k : ℕ) (v : Value) (a : IntAnswer) (s : State Table) → is_small v ≡ true
+    → (argument_answer m (arithmetic_number k) (integer_of v)).run s ≡ Went a s → (arithmetic_at_once_by m k v).run s ≡ (answered_at_once m (Some a)).run s
 unfolding arithmetic_at_once_by ◌>>=◌ after
-by-answers m k (Small n) a s l e = rw (run-tried_went (integer_answer m (arithmetic_number k)) s s a e) refl
+by-answers m k (Small n) a s l e = rw (run-tried_went (argument_answer m (arithmetic_number k) (integer n)) s s a e) refl
 by-answers m k (Ref n) a s l e = cc
 
-pub by-fails : (m : ObjectMemory Table) (k : ℕ) (v : Value) (cause : Dead) (s : State Table) → is_small v ≡ true → (integer_answer m (arithmetic_number k)).run s ≡ Died cause
-    → (arithmetic_at_once_by m k v).run s ≡ Went false s
+pub by-fails : (m : ObjectMemory Table) (k : ℕ) (v : Value) (cause : Dead) (s : State Table) → is_small v ≡ true
+    → (argument_answer m (arithmetic_number k) (integer_of v)).run s ≡ Died cause → (arithmetic_at_once_by m k v).run s ≡ Went false s
 unfolding arithmetic_at_once_by answered_at_once ◌>>=◌ after answer
-by-fails m k (Small n) cause s l e = rw (run-tried_died (integer_answer m (arithmetic_number k)) s cause e) refl
+by-fails m k (Small n) cause s l e = rw (run-tried_died (argument_answer m (arithmetic_number k) (integer n)) s cause e) refl
 by-fails m k (Ref n) cause s l e = cc
 
 pub by-object : (m : ObjectMemory Table) (k : ℕ) (v : Value) (s : State Table) → is_small v ≡ false → (arithmetic_at_once_by m k v).run s ≡ Went false s
@@ -50,7 +57,7 @@ unfolding arithmetic_at_once_by answer
 by-object m k (Small n) s e = cc
 by-object m k (Ref n) s e = refl
 
-pub ruleset tries = (rows, by-answers, by-fails, by-object)
+pub ruleset tries = (rows, by-answers, by-fails, by-object, passed, to_z-of_z)
 
 -- The second dies of the cause of which the first does, and where the first was done, it answers x and leaves the same state.
 
@@ -127,9 +134,13 @@ tried-on e (Went true t) r h = rw h refl
 tried-on e (Went false t) r h = tt
 
 -- a primitive that succeeded
-or_send-as : (m : ObjectMemory Table) (k : ℕ) (p q : Step Table Bool) → IsAs true p q → IsAs outcome.Went p (or_send m k q)
+or_send-on : (m : ObjectMemory Table) (k : ℕ) (o : Transition (State Table) Bool) (q : Step Table Bool) (s : State Table) → As true o (q.run s)
+    → As outcome.Went o ((or_send m k q).run s)
 unfolding or_send ◌>>=◌
-or_send-as m k p q h s = tried-on _ (p.run s) (q.run s) (h s)
+or_send-on m k o q s h = tried-on _ o (q.run s) h
+
+or_send-as : (m : ObjectMemory Table) (k : ℕ) (p q : Step Table Bool) → IsAs true p q → IsAs outcome.Went p (or_send m k q)
+or_send-as m k p q h s = or_send-on m k (p.run s) q s (h s)
 
 or_activate-as : (m : ObjectMemory Table) (call : Call) (header : Value) (p : Step Table Bool) → IsAs outcome.Went p (or_activate m call header p)
 unfolding or_activate ◌>>=◌
@@ -191,7 +202,7 @@ module _ (m : ObjectMemory Table) where
   unfolding answer
   went-as s = refl
 
-  -- a method responds by its primitive, where that makes an object or is one on processes
+  -- a method responds by its primitive, where that is one that is tried at once
 
   module _ (call : Call) (header : Value) where
     numbered-as : (p k : ℕ) (q : Step Table Bool) → respond_or_perform m call header k ≡ or_activate m call header q → (p == k) ≡ true → IsAs outcome.Went q (respond_or_perform m call header p)
@@ -215,8 +226,10 @@ module _ (m : ObjectMemory Table) where
     tried-as : (p : ℕ) → IsAs outcome.Went (respond_with m p call.arguments) (respond_or_perform m call header p)
     unfolding respond_with respond_or_perform respond storage
     tried-as p =
-        either-as _ (p == 70) _ _ _ (made-as p 70 largest_fixed (taking 0 call.arguments (primitive_new m)) refl)
-        (either-as _ (p == 71) _ _ _ (made-as p 71 largest_indexed (taking 1 call.arguments (primitive_new_with m)) refl) (processes-as p))
+        either-as _ (p == 60) _ _ _ (made-as p 60 largest_number (taking 1 call.arguments (primitive_at m)) refl)
+        (either-as _ (p == 61) _ _ _ (numbered-as p 61 (taking 2 call.arguments (primitive_at_put m)) refl)
+        (either-as _ (p == 70) _ _ _ (made-as p 70 largest_fixed (taking 0 call.arguments (primitive_new m)) refl)
+        (either-as _ (p == 71) _ _ _ (made-as p 71 largest_indexed (taking 1 call.arguments (primitive_new_with m)) refl) (processes-as p))))
 
     respond-as : IsAs outcome.Went (respond_at_once m call.method call.arguments) (respond_by_extension m (respond_or_perform m call header) call)
     unfolding respond_at_once respond_by_extension
@@ -303,21 +316,78 @@ module _ (m : ObjectMemory Table) where
     unfolding literal_send_at_once send_literal
     literal_send-as i n = calls-as _ _ _ (λ selector. send-as selector n)
 
-  answered-as : (a : Option IntAnswer) → IsAs true (answered_at_once m a) (succeed m 1 (value_of_answer m) a)
-  unfolding answered_at_once
-  answered-as None = not-as true _
-  answered-as (Some (Number n)) = λ s. self-as _
-  answered-as (Some (Truth b)) = λ s. self-as _
-  answered-as (Some (Point x y)) = not-as true _
+  -- a primitive on SmallIntegers, where the receiver was read
 
-  arithmetic_by-as : (k : ℕ) (v : Value) → IsAs outcome.Went (arithmetic_at_once_by m k v) (arithmetic_by m k v)
-  unfolding arithmetic_at_once_by arithmetic_by arithmetic primitive
-  arithmetic_by-as k (Small n) = or_send-as m k _ _ (then-as true _ _ _ answered-as)
-  arithmetic_by-as k (Ref n) = not-as _ _
+  same-as : (o r : Transition (State Table) Bool) → o ≡ r → As true o r
+  same-as o r e = subst (As true o) e (self-as o)
+
+  failed-as : (s : State Table) (r : Transition (State Table) Bool) → As true ((answered_at_once m None).run s) r
+  unfolding answered_at_once answer
+  failed-as s r = tt
+
+  point-as : (a b : ℤ) (s : State Table) (r : Transition (State Table) Bool) → As true ((answered_at_once m (Some (Point a b))).run s) r
+  unfolding answered_at_once answer
+  point-as a b s r = tt
+
+  abbrev answers : Option IntAnswer → State Table → Transition (State Table) Bool
+  answers a t = (answered_at_once m a).run t
+
+  abbrev succeeds : Option IntAnswer → State Table → Transition (State Table) Bool
+  succeeds a t = (succeed m 1 (value_of_answer m) a).run t
+
+  -- where the conditions are tried, from the state s
+  abbrev TriedAs : State Table → Transition (State Table) IntAnswer → Type 0
+  TriedAs s o = As true (after (or_left s o) answers) (after (or_left s o) succeeds)
+
+  answered-as : (a : IntAnswer) (s : State Table) (x y : Value) → word_under m 1 s ≡ Ok x → word_under m 0 s ≡ Ok y → As true (answers (Some a) s) (succeeds (Some a) s)
+  answered-as (Number n) s x y receiver argument = same-as _ _ (number-same m s x y receiver argument n)
+  answered-as (Truth b) s x y receiver argument = same-as _ _ (truth-same m s x y receiver argument b)
+  answered-as (Point a b) s x y receiver argument = point-as a b s _
+
+  binary-as : (o : Option IntAnswer) (s : State Table) (x y : Value) → word_under m 1 s ≡ Ok x → word_under m 0 s ≡ Ok y → TriedAs s ((or_die dead.NotSmall o).run s)
+  unfolding or_die die answer after
+  binary-as None s x y receiver argument = failed-as s _
+  binary-as (Some a) s x y receiver argument = answered-as a s x y receiver argument
+
+  argument-as : (n : ℕ) (i : ℤ) (s : State Table) (x : Value) (w : Result Value Dead) → word_under m 1 s ≡ Ok x → word_under m 0 s ≡ w
+      → TriedAs s (after (after (reads w s) (λ v t. (integer_or_die v).run t)) (λ j t. (or_die dead.NotSmall (binary n i j)).run t))
+  unfolding integer_or_die die answer after
+  argument-as n i s x (Err cause) receiver argument = failed-as s _
+  argument-as n i s x (Ok (Ref k)) receiver argument = failed-as s _
+  argument-as n i s x (Ok (Small k)) receiver argument = binary-as (binary n i (integer k)) s x (Small k) receiver argument
+
+  conditions-as : (n : ℕ) (i : ℤ) (s : State Table) (x : Value) → word_under m 1 s ≡ Ok x → TriedAs s ((argument_answer m n i).run s)
+  unfolding argument_answer integer_under ◌>>=◌
+  conditions-as n i s x receiver =
+      subst (λ o. TriedAs s (after (after o (λ v t. (integer_or_die v).run t)) (λ j t. (or_die dead.NotSmall (binary n i j)).run t))) (sym (under-reads m 0 s))
+      (argument-as n i s x (word_under m 0 s) receiver refl)
+
+  -- the receiver is the one that was read
+  receiver-same : (n k : ℕ) (s : State Table) → (under m 1).run s ≡ Went (Small k) s → (integer_answer m n).run s ≡ (argument_answer m n (integer k)).run s
+  unfolding integer_answer argument_answer integer_under integer_or_die answer after ◌>>=◌
+  receiver-same n k s e = ap (λ o. after (after o (λ v t. (integer_or_die v).run t)) (λ j t. (argument_answer m n j).run t)) e
+
+  arithmetic_by-as : (k : ℕ) (v : Value) (s : State Table) → word_under m 1 s ≡ Ok v → As outcome.Went ((arithmetic_at_once_by m k v).run s) ((arithmetic_by m k v).run s)
+  unfolding arithmetic_at_once_by arithmetic_by arithmetic primitive tried ◌>>=◌ answer
+  arithmetic_by-as k (Ref n) s e = tt
+  arithmetic_by-as k (Small n) s e =
+      let read : (under m 1).run s ≡ Went (Small n) s = under-reads m 1 s ∙ ap (λ o. reads o s) e in
+      let tries : TriedAs s ((argument_answer m (arithmetic_number k) (integer n)).run s) = conditions-as (arithmetic_number k) (integer n) s (Small n) e in
+      or_send-on m k _ (arithmetic m (arithmetic_number k)) s
+      (subst (λ o. As true (after (or_left s ((argument_answer m (arithmetic_number k) (integer n)).run s)) answers) (after (or_left s o) succeeds))
+      (sym (receiver-same (arithmetic_number k) n s read)) tries)
+
+  receiver-as : (k : ℕ) (s : State Table) (w : Result Value Dead) → word_under m 1 s ≡ w
+      → As outcome.Went (after (reads w s) (λ v t. (arithmetic_at_once_by m k v).run t)) (after (reads w s) (λ v t. (arithmetic_by m k v).run t))
+  unfolding after
+  receiver-as k s (Err cause) e = refl
+  receiver-as k s (Ok v) e = arithmetic_by-as k v s e
 
   arithmetic-as : (k : ℕ) → IsAs outcome.Went (arithmetic_at_once m k) (arithmetic_send m k)
-  unfolding arithmetic_at_once arithmetic_send
-  arithmetic-as k = then-as _ _ _ _ (arithmetic_by-as k)
+  unfolding arithmetic_at_once arithmetic_send ◌>>=◌
+  arithmetic-as k s =
+      subst (λ o. As outcome.Went (after o (λ v t. (arithmetic_at_once_by m k v).run t)) (after o (λ v t. (arithmetic_by m k v).run t))) (sym (under-reads m 1 s))
+      (receiver-as k s (word_under m 1 s) refl)
 
   primitive-as : (k : ℕ) → IsAs outcome.Went (primitive_at_once m k) (primitive_send m k)
   unfolding primitive_at_once primitive_send
@@ -349,39 +419,31 @@ module _ (m : ObjectMemory Table) where
   unfolding long_jump_at_once
   long_jump-as wanted other i = then-as _ _ _ _ (λ b. jump_on-as wanted other (pos (i * 256 + b)))
 
-  in_context-as : (b : Bytecode) → IsAs outcome.Went (row_in_context m b) (bytecode m b)
-  unfolding row_in_context bytecode short_jump_on_false long_jump_on_true long_jump_on_false
-  in_context-as (code.Push operand) = goes_on-as _
-  in_context-as (code.StoreAndPop operand) = goes_on-as _
-  in_context-as code.PushReceiver = goes_on-as _
-  in_context-as (code.PushConstant c) = goes_on-as _
-  in_context-as code.ExtendedPush = goes_on-as _
-  in_context-as code.ExtendedStore = goes_on-as _
-  in_context-as code.ExtendedStoreAndPop = goes_on-as _
-  in_context-as code.PopStack = goes_on-as _
-  in_context-as code.DuplicateTop = goes_on-as _
-  in_context-as code.PushActiveContext = goes_on-as _
-  in_context-as (code.ShortUnconditionalJump i) = goes_on-as _
-  in_context-as (code.ShortJumpOnFalse i) = executed-as m _ _ (jump_on-as FalseObject TrueObject (pos (i + 1)))
-  in_context-as (code.LongUnconditionalJump i) = goes_on-as _
-  in_context-as (code.LongJumpOnTrue i) = executed-as m _ _ (long_jump-as TrueObject FalseObject i)
-  in_context-as (code.LongJumpOnFalse i) = executed-as m _ _ (long_jump-as FalseObject TrueObject i)
-  in_context-as (code.ArithmeticSend k) = arithmetic-as k
-  in_context-as b = not-as _ _
-
-  unsent-as : (b : Bytecode) → IsAs outcome.Went (unsent_at_once m b) (bytecode m b)
-  unfolding unsent_at_once bytecode return_receiver_at_once return_constant_at_once return_top_to_sender_at_once return_top_to_caller_at_once return_receiver return_constant return_top_to_sender return_top_to_caller
-  unsent-as code.ReturnReceiver = executed-as m _ _ (then-as _ _ _ _ return_to_sender-as)
-  unsent-as (code.ReturnConstant c) = executed-as m _ _ (then-as _ _ _ _ return_to_sender-as)
-  unsent-as code.ReturnTopToSender = executed-as m _ _ (then-as _ _ _ _ return_to_sender-as)
-  unsent-as code.ReturnTopToCaller = executed-as m _ _ (then-as _ _ _ _ return_to_caller-as)
-  unsent-as (code.PrimitiveSend k) = primitive-as k
-  unsent-as b = in_context-as b
-
   bytecode-as : HeaderStays m → (b : Bytecode) → IsAs outcome.Went (bytecode_at_once m b) (bytecode m b)
-  unfolding bytecode_at_once bytecode
+  unfolding bytecode_at_once bytecode short_jump_on_false long_jump_on_true long_jump_on_false return_receiver_at_once return_constant_at_once return_top_to_sender_at_once return_top_to_caller_at_once return_receiver return_constant return_top_to_sender return_top_to_caller
+  bytecode-as stays (code.Push operand) = goes_on-as _
+  bytecode-as stays (code.StoreAndPop operand) = goes_on-as _
+  bytecode-as stays code.PushReceiver = goes_on-as _
+  bytecode-as stays (code.PushConstant c) = goes_on-as _
+  bytecode-as stays code.ReturnReceiver = executed-as m _ _ (then-as _ _ _ _ return_to_sender-as)
+  bytecode-as stays (code.ReturnConstant c) = executed-as m _ _ (then-as _ _ _ _ return_to_sender-as)
+  bytecode-as stays code.ReturnTopToSender = executed-as m _ _ (then-as _ _ _ _ return_to_sender-as)
+  bytecode-as stays code.ReturnTopToCaller = executed-as m _ _ (then-as _ _ _ _ return_to_caller-as)
+  bytecode-as stays code.ExtendedPush = goes_on-as _
+  bytecode-as stays code.ExtendedStore = goes_on-as _
+  bytecode-as stays code.ExtendedStoreAndPop = goes_on-as _
+  bytecode-as stays code.PopStack = goes_on-as _
+  bytecode-as stays code.DuplicateTop = goes_on-as _
+  bytecode-as stays code.PushActiveContext = goes_on-as _
+  bytecode-as stays (code.ShortUnconditionalJump i) = goes_on-as _
+  bytecode-as stays (code.ShortJumpOnFalse i) = executed-as m _ _ (jump_on-as FalseObject TrueObject (pos (i + 1)))
+  bytecode-as stays (code.LongUnconditionalJump i) = goes_on-as _
+  bytecode-as stays (code.LongJumpOnTrue i) = executed-as m _ _ (long_jump-as TrueObject FalseObject i)
+  bytecode-as stays (code.LongJumpOnFalse i) = executed-as m _ _ (long_jump-as FalseObject TrueObject i)
+  bytecode-as stays (code.ArithmeticSend k) = arithmetic-as k
+  bytecode-as stays (code.PrimitiveSend k) = primitive-as k
   bytecode-as stays (code.LiteralSend i n) = literal_send-as stays i n
-  bytecode-as stays b = unsent-as b
+  bytecode-as stays b = not-as _ _
 
   pub step-as : HeaderStays m → IsAs outcome.Went (step_at_once m) (step m)
   unfolding step_at_once step

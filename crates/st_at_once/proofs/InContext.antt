@@ -1,6 +1,6 @@
 -- What a row that stays in its context does leaves the registers that name objects.
-use Rattle.std.proofs.Common.{◌≡◌, ℕ, zero, suc, ◌+◌, ◌-◌, Bool, true, false, Option, Some, None, Result, Ok, Err, refl, sym, ap, ◌∙◌, subst}
-use Rattle.std.specs.Prelude.{◌==◌, nat_lt, nat_le, ℤ, if◌then◌else◌, length, slice_get}
+use Rattle.std.proofs.Common.{◌≡◌, ℕ, zero, suc, Bool, true, false, Option, Some, None, Result, Ok, refl, ◌∙◌, subst}
+use Rattle.std.specs.Prelude.{◌==◌, ℤ, if◌then◌else◌}
 use Rattle.st_model.specs.declared.dead.Dead.{Dead}
 use Rattle.st_model.specs.declared.page.PageObject.{PageObject}
 use Rattle.st_model.specs.declared.bytecode.Operand.{Operand}
@@ -12,15 +12,20 @@ use Rattle.st_model.specs.declared.bytecode.Bytecode.TheVariants as code
 use Rattle.st_model.specs.declared.integers.IntAnswer.{IntAnswer}
 use Rattle.st_model.specs.declared.integers.IntAnswer.TheVariants.{Number, Truth, Point}
 use Rattle.st_model.specs.Values.{Value, Small, Ref}
-use Rattle.st_model.specs.Objects.{Object, is_pointers, is_method}
+use Rattle.st_model.specs.Objects.{Object}
 use Rattle.st_model.specs.Machine.{ObjectMemory, Registers, State, Transition, Died, Went, Step, is_there, answer, die, after, or_left, tried, ◌>>=◌, ◌>>◌}
-use Rattle.st_model.specs.Steps.{get_active, get_home, get_method, get_receiver, get_ip, get_sp, set_ip, set_sp, found, object_named, object, stored_at, store_at, set_field, of_page, class_of, same_value, or_die, check, integer_or_die, fetch_field, store_field, count_fields, put, push, top, under, drop_words, pop, literal, code_byte, byte_at, next_byte, jump}
-use Rattle.st_model.specs.Primitives.{pop_words, answer_with, succeed, truth}
-use Rattle.st_model.specs.Arithmetic.{integer_under, integer_answer, value_of_answer, arithmetic_number, equivalence, receiver_class}
-use Rattle.st_model.specs.Integers.{binary}
+use Rattle.st_model.specs.Steps.{get_active, get_home, get_method, get_receiver, get_ip, get_sp, set_ip, set_sp, found, object_named, object, stored_at, store_at, set_field, of_page, class_of, same_value, or_die, check, integer_or_die, fetch_field, store_field, count_fields, put, push, top, under, drop_words, pop, literal, byte_at, next_byte, jump}
+use Rattle.st_model.specs.Primitives.{pop_words, answer_with, truth}
+use Rattle.st_model.specs.Arithmetic.{integer_under, equivalence, receiver_class}
 use Rattle.st_model.specs.Bytecodes.{fetch_receiver_variable, fetch_temporary_variable, fetch_literal_constant, fetch_literal_variable, fetch_operand, store_receiver_variable, store_temporary_variable, store_literal_variable, store_operand, push_operand, store_and_pop, push_receiver, constant_value, push_constant, extended_push, extended_store, extended_store_and_pop, pop_stack, duplicate_top, push_active_context, short_unconditional_jump, long_unconditional_jump}
+use Rattle.st_model.specs.declared.deed.Deed.{Deed}
+use Rattle.st_model.specs.Table.{Table}
+use Rattle.st_model.specs.Calls.{Does}
+use Rattle.st_frames.specs.Rows.{with_left}
 use Rattle.st_control.specs.AtOnce.{at_once, jump_at_once}
-use Rattle.st_at_once.specs.AtOnce.{NamesSame, answered_at_once, arithmetic_at_once_by, arithmetic_at_once, long_jump_at_once, row_in_context}
+use Rattle.st_at_once.specs.declared.ending.RowEnd.{RowEnd}
+use Rattle.st_at_once.specs.declared.ending.RowEnd.TheVariants as ends
+use Rattle.st_at_once.specs.AtOnce.{NamesSame, argument_answer, replace_pair, answered_at_once, arithmetic_at_once_by, arithmetic_at_once, primitive_at_once, long_jump_at_once, bytecode_at_once, may_leave, was_done, deed_left}
 
 abbrev same : (r : Registers) → NamesSame r r
 same r = record { active = refl; home = refl; method = refl; receiver = refl }
@@ -48,10 +53,6 @@ after_stays r (Went a t) f l h = left_then r t.registers ((f a).run t) l ((h a).
 then_stays : {H A B : Type 0} (m : Step H A) (f : A → Step H B) → Stays m → ((a : A) → Stays (f a)) → Stays (m >>= f)
 unfolding ◌>>=◌
 then_stays m f h k = record { stays = λ s. after_stays s.registers (m.run s) f (h.stays s) k }
-
-next_stays : {H A B : Type 0} (m : Step H A) (n : Step H B) → Stays m → Stays n → Stays (m >> n)
-unfolding ◌>>◌
-next_stays m n h k = then_stays m (λ a. n) h (λ a. k)
 
 answer_stays : {H A : Type 0} (x : A) → Stays (answer {H = H} x)
 unfolding answer
@@ -271,33 +272,37 @@ module _ {H : Type 0} (m : ObjectMemory H) where
   unfolding integer_under
   under_integer_stays k = then_stays _ _ (under_stays k) integer_stays
 
-  answers_stay : (n : ℕ) → Stays (integer_answer m n)
-  unfolding integer_answer
-  answers_stay n = then_stays _ _ (under_integer_stays 1) (λ a. then_stays _ _ (under_integer_stays 0) (λ b. or_die_stays _ _))
+  argument_stays : (n : ℕ) (receiver : ℤ) → Stays (argument_answer m n receiver)
+  unfolding argument_answer
+  argument_stays n receiver = then_stays _ _ (under_integer_stays 0) (λ b. or_die_stays _ _)
+
+  replace_stays : (v : Value) → Stays (at_once (replace_pair m v))
+  unfolding at_once replace_pair ◌>>◌
+  replace_stays v = then_stays _ _ (then_stays _ _ (drop_stays 2) (λ u. push_stays v)) (λ u. answer_stays true)
 
   answered_stays : (a : Option IntAnswer) → Stays (answered_at_once m a)
-  unfolding answered_at_once succeed value_of_answer ◌>>◌
+  unfolding answered_at_once
   answered_stays None = answer_stays false
-  answered_stays (Some (Number n)) = then_stays _ _ (answer_stays _) (λ v. then_stays _ _ (answer_with_stays 1 v) (λ u. answer_stays true))
-  answered_stays (Some (Truth b)) = then_stays _ _ (truth_stays b) (λ v. then_stays _ _ (answer_with_stays 1 v) (λ u. answer_stays true))
+  answered_stays (Some (Number n)) = replace_stays _
+  answered_stays (Some (Truth b)) = then_stays _ _ (truth_stays b) replace_stays
   answered_stays (Some (Point x y)) = answer_stays false
 
   arithmetic_by_stays : (k : ℕ) (v : Value) → Stays (arithmetic_at_once_by m k v)
   unfolding arithmetic_at_once_by
-  arithmetic_by_stays k (Small n) = then_stays _ _ (tried_stays _ (answers_stay _)) answered_stays
+  arithmetic_by_stays k (Small n) = then_stays _ _ (tried_stays _ (argument_stays _ _)) answered_stays
   arithmetic_by_stays k (Ref n) = answer_stays false
 
-  pub equivalence_stays : Stays (equivalence m)
+  equivalence_stays : Stays (equivalence m)
   unfolding equivalence
   equivalence_stays = then_stays _ _ (under_stays 1) (λ a. then_stays _ _ top_stays (λ b. then_stays _ _ (truth_stays _) (answer_with_stays 1)))
 
-  pub class_answer_stays : Stays (receiver_class m)
+  class_answer_stays : Stays (receiver_class m)
   unfolding receiver_class
   class_answer_stays = then_stays _ _ top_stays (λ a. then_stays _ _ (class_stays a) (answer_with_stays 0))
 
   -- rows
 
-  pub at_once_stays : (n : Step H Unit) → Stays n → Stays (at_once n)
+  at_once_stays : (n : Step H Unit) → Stays n → Stays (at_once n)
   unfolding at_once ◌>>◌
   at_once_stays n h = then_stays _ _ h (λ u. answer_stays true)
 
@@ -311,26 +316,43 @@ module _ {H : Type 0} (m : ObjectMemory H) where
   unfolding long_jump_at_once
   long_jump_stays wanted other i = then_stays _ _ next_byte_stays (λ b. jump_on_stays wanted other _)
 
-  pub row_stays : (b : Bytecode) → Stays (row_in_context m b)
-  unfolding row_in_context push_receiver push_constant extended_push extended_store extended_store_and_pop pop_stack duplicate_top push_active_context short_unconditional_jump long_unconditional_jump arithmetic_at_once
-  row_stays (code.Push o) = at_once_stays _ (push_operand_stays o)
-  row_stays (code.StoreAndPop o) = at_once_stays _ (store_and_pop_stays o)
-  row_stays code.PushReceiver = at_once_stays _ (then_stays _ _ receiver_stays push_stays)
-  row_stays (code.PushConstant c) = at_once_stays _ (then_stays _ _ (constant_value_stays c) push_stays)
-  row_stays code.ExtendedPush = at_once_stays _ (then_stays _ _ next_byte_stays (λ b. push_operand_stays _))
-  row_stays code.ExtendedStore = at_once_stays _ (then_stays _ _ next_byte_stays (λ b. then_stays _ _ top_stays (store_operand_stays _)))
-  row_stays code.ExtendedStoreAndPop = at_once_stays _ (then_stays _ _ next_byte_stays (λ b. store_and_pop_stays _))
-  row_stays code.PopStack = at_once_stays _ (then_stays _ _ pop_stays (λ x. answer_stays tt))
-  row_stays code.DuplicateTop = at_once_stays _ (then_stays _ _ top_stays push_stays)
-  row_stays code.PushActiveContext = at_once_stays _ (then_stays _ _ active_stays push_stays)
-  row_stays (code.ShortUnconditionalJump i) = at_once_stays _ (jump_stays _)
-  row_stays (code.ShortJumpOnFalse i) = jump_on_stays _ _ _
-  row_stays (code.LongUnconditionalJump i) = at_once_stays _ (then_stays _ _ next_byte_stays (λ b. jump_stays _))
-  row_stays (code.LongJumpOnTrue i) = long_jump_stays _ _ i
-  row_stays (code.LongJumpOnFalse i) = long_jump_stays _ _ i
-  row_stays (code.ArithmeticSend k) = then_stays _ _ (under_stays 1) (arithmetic_by_stays k)
-  row_stays b = answer_stays false
+  primitive_stays : (value : Step H Bool) (a b : Bool) → (if a then false else if b then false else true) ≡ false
+      → Stays (if a then at_once (equivalence m) else if b then at_once (receiver_class m) else value)
+  primitive_stays value true b e = at_once_stays _ equivalence_stays
+  primitive_stays value false true e = at_once_stays _ class_answer_stays
+  primitive_stays value false false e = cc
+
+  pub row_stays : (b : Bytecode) → may_leave b ≡ false → Stays (bytecode_at_once m b)
+  unfolding bytecode_at_once primitive_at_once push_receiver push_constant extended_push extended_store extended_store_and_pop pop_stack duplicate_top push_active_context short_unconditional_jump long_unconditional_jump arithmetic_at_once
+  row_stays (code.Push o) e = at_once_stays _ (push_operand_stays o)
+  row_stays (code.StoreAndPop o) e = at_once_stays _ (store_and_pop_stays o)
+  row_stays code.PushReceiver e = at_once_stays _ (then_stays _ _ receiver_stays push_stays)
+  row_stays (code.PushConstant c) e = at_once_stays _ (then_stays _ _ (constant_value_stays c) push_stays)
+  row_stays code.ReturnReceiver e = cc
+  row_stays (code.ReturnConstant c) e = cc
+  row_stays code.ReturnTopToSender e = cc
+  row_stays code.ReturnTopToCaller e = cc
+  row_stays code.ExtendedPush e = at_once_stays _ (then_stays _ _ next_byte_stays (λ b. push_operand_stays _))
+  row_stays code.ExtendedStore e = at_once_stays _ (then_stays _ _ next_byte_stays (λ b. then_stays _ _ top_stays (store_operand_stays _)))
+  row_stays code.ExtendedStoreAndPop e = at_once_stays _ (then_stays _ _ next_byte_stays (λ b. store_and_pop_stays _))
+  row_stays code.PopStack e = at_once_stays _ (then_stays _ _ pop_stays (λ x. answer_stays tt))
+  row_stays code.DuplicateTop e = at_once_stays _ (then_stays _ _ top_stays push_stays)
+  row_stays code.PushActiveContext e = at_once_stays _ (then_stays _ _ active_stays push_stays)
+  row_stays (code.ShortUnconditionalJump i) e = at_once_stays _ (jump_stays _)
+  row_stays (code.ShortJumpOnFalse i) e = jump_on_stays _ _ _
+  row_stays (code.LongUnconditionalJump i) e = at_once_stays _ (then_stays _ _ next_byte_stays (λ b. jump_stays _))
+  row_stays (code.LongJumpOnTrue i) e = long_jump_stays _ _ i
+  row_stays (code.LongJumpOnFalse i) e = long_jump_stays _ _ i
+  row_stays (code.ArithmeticSend k) e = then_stays _ _ (under_stays 1) (arithmetic_by_stays k)
+  row_stays (code.PrimitiveSend k) e = primitive_stays _ (k == 22) (k == 23) e
+  row_stays (code.LiteralSend i n) e = cc
+  row_stays b e = answer_stays false
 
 -- what a step that went leaves
 pub names_left : {H A : Type 0} (m : Step H A) (s t : State H) (a : A) → Stays m → m.run s ≡ Went a t → NamesSame s.registers t.registers
 names_left m s t a h e = subst (Left s.registers) e (h.stays s)
+
+-- the same of a row whose end says that it stays in its context
+pub names_stay : (m : Step Table Bool) (s t : State Table) (left : Deed) (result : Result RowEnd Dead) → Stays m → result ≡ Ok ends.Stays
+    → Does m was_done s result (with_left (deed_left left) result t) → NamesSame s.registers t.registers
+names_stay m s t left result h e does = names_left m s t true h (subst (λ x. Does m was_done s x (with_left (deed_left left) x t)) e does)

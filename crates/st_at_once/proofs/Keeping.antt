@@ -19,7 +19,7 @@ use Rattle.st_at_once.specs.declared.known.Fields.{Fields}
 use Rattle.st_at_once.specs.declared.known.Code.{Code}
 use Rattle.st_at_once.specs.declared.known.Known.{Known}
 use Rattle.st_at_once.specs.declared.known.TheConstants.Known.{NONE}
-use Rattle.st_at_once.specs.Known.{HasFields, HasCode, KnowsCode, IsNear}
+use Rattle.st_at_once.specs.Known.{HasFields, KnowsFields, HasCode, KnowsCode, IsNear}
 
 -- the second object has the kind and the sizes of the first
 pub record IsSized (o p : Object) : Type 0 where
@@ -106,6 +106,7 @@ near_kept v w k keeps held near = record {
     literals = λ l. subst (λ x. HasCode w.objects x.method k.code) (sym held) (code_kept v.objects w.objects keeps v.held.method k.code (near.code.literals l));
     bytes = λ l. subst (λ x. HasCode w.objects x.method k.code) (sym held) (code_kept v.objects w.objects keeps v.held.method k.code (near.code.bytes l));
   };
+  made = λ l. fields_kept v.objects w.objects keeps (word k.made.object) k.made (near.made l);
 }
 
 -- what changes a table
@@ -264,7 +265,13 @@ near_nothing v = record {
   active = λ l. absurd (omega (arith, l));
   home = λ l. absurd (omega (arith, l));
   code = record { literals = λ l. absurd (omega (arith, l)); bytes = λ l. absurd (omega (arith, l)) };
+  made = λ l. absurd (omega (arith, l));
 }
+
+-- what is known of an object is so of what bears its word
+
+pub fields_named : (t : Table) (held : Value) (f : Fields) → KnowsFields t held f → KnowsFields t (word f.object) f
+fields_named t held f k = λ l. let h = k l in record { short = h.short; same = refl; live = h.live; kind = h.kind; number = h.number; few = h.few }
 
 -- what is known of a method is so of what bears its word
 

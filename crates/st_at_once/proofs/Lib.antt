@@ -1,8 +1,10 @@
 pub mod Staying
+pub mod Pairs
 pub mod AtOnce
 pub mod InContext
 pub mod Alike
 pub mod AlikeProcesses
+pub mod AlikeElements
 pub mod Entered
 pub mod Messages
 pub mod Makes
@@ -12,6 +14,7 @@ pub mod AlikeRows
 pub mod Linked
 pub mod OverMemory
 mod Keeping
+mod TwoFields
 mod Placed
 mod Direct
 mod Settled

@@ -1,9 +1,9 @@
--- Primitives that make an object do the same over a bounded table as over the table, where there is room for the largest.
-use Rattle.std.proofs.Common.{◌≡◌, ◌≤◌, ◌<◌, ◌+◌, ℕ, zero, suc, [], ◌∷◌, Option, Some, None, Bool, true, false, refl, ap, ◌∙◌, subst, arith}
+-- Primitives that make an object at most do the same over a bounded table as over the table, where there is room for the largest.
+use Rattle.std.proofs.Common.{◌≡◌, ◌≤◌, ◌<◌, ◌+◌, ℕ, zero, suc, List, [], ◌∷◌, length, Option, Some, None, Bool, true, false, refl, ap, ◌∙◌, subst, arith}
 use Rattle.std.proofs.Math.ListN.{length-replicate}
 use Rattle.std.proofs.lemmas.Bool.Decides.{nat_tests}
 use mathlib.Core.Path.{fun_ext}
-use Rattle.std.specs.Prelude.{◌-◌, ◌%◌, ◌==◌, ◌&&◌, nat_le, if◌then◌else◌}
+use Rattle.std.specs.Prelude.{◌-◌, ◌/◌, ◌%◌, ◌==◌, ◌&&◌, nat_lt, nat_le, if◌then◌else◌}
 use Rattle.st_model.specs.declared.dead.Dead.TheVariants as dead
 use Rattle.st_model.specs.declared.kind.Kind.{Kind}
 use Rattle.st_model.specs.declared.kind.Kind.TheVariants as kind
@@ -12,23 +12,21 @@ use Rattle.st_model.specs.Values.{Value, Small, Ref}
 use Rattle.st_model.specs.Objects.{nil, one, words_of, is_method, size_of}
 use Rattle.st_model.specs.Formed.{fresh_with}
 use Rattle.st_model.specs.Machine.{Head, State, Transition, Died, Went, Step, has_room, answer, die, after, or_left, tried, ◌>>=◌, ◌>>◌}
-use Rattle.st_model.specs.Steps.{object, make_named, make, get_free, class_of, fetch_kind, fetch_size, fetch_byte, fetch_bytes, top, under, check}
-use Rattle.st_model.specs.Primitives.{succeed, primitive, taking, specification, fixed_count, has_pointers, has_words, bits_or_die, positive_small, positive_value, large_value, check_class, check_bytes, number_of_bytes}
-use Rattle.st_model.specs.Storage.{check_not_method_class, kind_of_fixed, fixed_specification, primitive_new, kind_of_indexed, body_words, Shape, checked_shape, indexed_shape, primitive_new_with}
+use Rattle.st_model.specs.Steps.{object, make_named, make, get_free, class_of, fetch_kind, fetch_size, fetch_word, fetch_byte, fetch_bytes, top, under, check}
+use Rattle.st_model.specs.Methods.{method_header}
+use Rattle.st_model.specs.Primitives.{succeed, primitive, taking, specification, fixed_count, has_pointers, has_words, bits_or_die, positive_small, positive_value, large_value, check_class, check_bytes, number_of_bytes, bytes_within, bytes_of_number, new_large, number, fixed_of_class, fixed_by, fixed_fields}
+use Rattle.st_model.specs.Storage.{count_literals, first_by, first_place, place_of_element, place_at, place_behind_fixed, word_number, element_by, fetch_element, primitive_at, check_not_method_class, kind_of_fixed, fixed_specification, primitive_new, kind_of_indexed, body_words, Shape, checked_shape, indexed_shape, primitive_new_with}
 use Rattle.st_model.specs.Table.{Table, table, bounded_table, total_used}
-use Rattle.st_model.proofs.Tabular.{object-as, fetch_byte-as}
+use Rattle.st_model.proofs.Tabular.{fetch_field-as, fetch_word-as}
 use Rattle.st_memory.specs.Tabular.{bounded_tabular}
-use Rattle.st_at_once.specs.AtOnce.{object_space, where_space, largest_fixed, largest_indexed, respond_with, respond_at_once}
-use Rattle.st_at_once.proofs.Alike.{page-is, class-is, field-is, top-is, under-is, answer_with-is}
+use Rattle.st_at_once.specs.AtOnce.{object_space, where_space, largest_number, largest_fixed, largest_indexed, respond_with, respond_at_once}
+use Rattle.st_at_once.proofs.Alike.{page-is, top-is, under-is, answer_with-is}
 use Rattle.st_at_once.proofs.AlikeProcesses.{processes-is, method_primitive-as}
-use Rattle.st_at_once.proofs.Staying.{Left, Keeps, then-keeps, next-keeps, answer-keeps, die-keeps, check-keeps, or_die-keeps, object-keeps, page-keeps, active-keeps, sp-keeps, fetch_field-keeps, Alike, then-alike, same-alike, Room, Any, any-keeps, any-alike, unasked-alike, made_same}
+use Rattle.st_at_once.proofs.AlikeElements.{specification-as, kind-as, positive-as, store_bytes-as, place-as, byte_number-as, at_put-is}
+use Rattle.st_at_once.proofs.Staying.{Left, Keeps, then-keeps, next-keeps, answer-keeps, die-keeps, check-keeps, or_die-keeps, object-keeps, page-keeps, active-keeps, sp-keeps, fetch_field-keeps, Alike, then-alike, same-alike, Room, Any, any-keeps, any-alike, asked-alike, unasked-alike, made_same}
 use Rattle.std.proofs.lemmas.Bool.{and_from}
 
 -- CONDITIONS READ
-
-specification-as : (v : Value) → specification bounded_table v ≡ specification table v
-unfolding specification
-specification-as v = rw (field-is bounded_tabular) refl
 
 not_method-as : (v : Value) → check_not_method_class bounded_table v ≡ check_not_method_class table v
 unfolding check_not_method_class
@@ -36,25 +34,11 @@ not_method-as v = rw (page-is bounded_tabular) refl
 
 fixed-as : (v : Value) → fixed_specification bounded_table v ≡ fixed_specification table v
 unfolding fixed_specification
-fixed-as v = rw (specification-as v, not_method-as v) refl
-
-fetch_bytes-as : (v : Value) (n from : ℕ) → fetch_bytes bounded_table v from n ≡ fetch_bytes table v from n
-unfolding fetch_bytes
-fetch_bytes-as v zero from = refl
-fetch_bytes-as v (suc n) from = rw (fetch_byte-as bounded_tabular v from, fetch_bytes-as v n (suc from)) refl
-
-large-as : (most : ℕ) (v : Value) → large_value bounded_table most v ≡ large_value table most v
-unfolding large_value check_class check_bytes fetch_kind fetch_size
-large-as most v = rw (class-is bounded_tabular, page-is bounded_tabular, object-as bounded_tabular v, fun_ext (λ n. fetch_bytes-as v n 0)) refl
-
-positive-as : (most : ℕ) (v : Value) → positive_value bounded_table most v ≡ positive_value table most v
-unfolding positive_value
-positive-as most (Small n) = refl
-positive-as most (Ref n) = large-as most (Ref n)
+fixed-as v = rw (specification-as bounded_tabular v, not_method-as v) refl
 
 indexed-as : (v a : Value) → indexed_shape bounded_table v a ≡ indexed_shape table v a
 unfolding indexed_shape
-indexed-as v a = rw (specification-as v, not_method-as v, positive-as 4 a) refl
+indexed-as v a = rw (specification-as bounded_tabular v, not_method-as v, positive-as bounded_tabular 4 a) refl
 
 module _ (P : Table → Head → Type 0) where
   bits-keeps : (v : Value) → Keeps P (bits_or_die v)
@@ -88,12 +72,19 @@ module _ (P : Table → Head → Type 0) where
   bytes-keeps v zero from = answer-keeps P []
   bytes-keeps v (suc n) from = then-keeps P _ _ (byte-keeps v from) (λ b. then-keeps P _ _ (bytes-keeps v n (suc from)) (λ bs. answer-keeps P (b ∷ bs)))
 
+  kind-keeps : (v : Value) → Keeps P (fetch_kind table v)
+  unfolding fetch_kind
+  kind-keeps v = then-keeps P _ _ (object-keeps P v) (λ o. answer-keeps P o.kind)
+
+  size-keeps : (v : Value) → Keeps P (fetch_size table v)
+  unfolding fetch_size
+  size-keeps v = then-keeps P _ _ (object-keeps P v) (λ o. answer-keeps P (size_of o))
+
   large-keeps : (most : ℕ) (v : Value) → Keeps P (large_value table most v)
-  unfolding large_value check_class check_bytes fetch_kind fetch_size
+  unfolding large_value check_class check_bytes
   large-keeps most v =
       next-keeps P _ _ (then-keeps P _ _ (class-keeps v) (λ class. then-keeps P _ _ (page-keeps P LargeClass) (λ wanted. check-keeps P _ _)))
-      (next-keeps P _ _ (then-keeps P _ _ (then-keeps P _ _ (object-keeps P v) (λ o. answer-keeps P o.kind)) (λ k. check-keeps P _ _))
-      (then-keeps P _ _ (then-keeps P _ _ (object-keeps P v) (λ o. answer-keeps P (size_of o))) (λ n.
+      (next-keeps P _ _ (then-keeps P _ _ (kind-keeps v) (λ k. check-keeps P _ _)) (then-keeps P _ _ (size-keeps v) (λ n.
       next-keeps P _ _ (check-keeps P _ _) (next-keeps P _ _ (check-keeps P _ _) (then-keeps P _ _ (bytes-keeps v n 0) (λ bs. answer-keeps P (number_of_bytes bs)))))))
 
   positive-keeps : (most : ℕ) (v : Value) → Keeps P (positive_value table most v)
@@ -106,6 +97,42 @@ module _ (P : Table → Head → Type 0) where
   indexed-keeps v a =
       then-keeps P _ _ (specification-keeps v) (λ s. next-keeps P _ _ (not_method-keeps v) (next-keeps P _ _ (check-keeps P _ _)
       (then-keeps P _ _ (positive-keeps 4 a) (λ n. next-keeps P _ _ (check-keeps P _ _) (answer-keeps P _)))))
+
+  -- places of elements
+
+  header-keeps : (v : Value) → Keeps P (method_header table v)
+  unfolding method_header
+  header-keeps v = then-keeps P _ _ (object-keeps P v) (λ o. next-keeps P _ _ (check-keeps P _ _) (or_die-keeps P _ _))
+
+  literals-keeps : (v : Value) → Keeps P (count_literals table v)
+  unfolding count_literals
+  literals-keeps v = then-keeps P _ _ (header-keeps v) (λ header. then-keeps P _ _ (bits-keeps header) (λ bits. answer-keeps P _))
+
+  first_by-keeps : (v : Value) (b : Bool) → Keeps P (first_by table v b)
+  unfolding first_by
+  first_by-keeps v false = answer-keeps P 0
+  first_by-keeps v true = then-keeps P _ _ (literals-keeps v) (λ n. answer-keeps P _)
+
+  element_place-keeps : (v : Value) (fixed i : ℕ) → Keeps P (place_of_element table v fixed i)
+  unfolding place_of_element first_place
+  element_place-keeps v fixed i =
+      then-keeps P _ _ (size-keeps v) (λ n. next-keeps P _ _ (check-keeps P _ _) (next-keeps P _ _ (check-keeps P _ _)
+      (then-keeps P _ _ (then-keeps P _ _ (kind-keeps v) (λ k. first_by-keeps v _)) (λ first. next-keeps P _ _ (check-keeps P _ _) (answer-keeps P _)))))
+
+  fixed_by-keeps : (v : Value) (b : Bool) → Keeps P (fixed_by table v b)
+  unfolding fixed_by fixed_of_class
+  fixed_by-keeps v true = then-keeps P _ _ (class-keeps v) (λ class. then-keeps P _ _ (specification-keeps class) (λ s. answer-keeps P _))
+  fixed_by-keeps v false = answer-keeps P 0
+
+  place-keeps : (v index : Value) → Keeps P (place_behind_fixed table v index)
+  unfolding place_behind_fixed fixed_fields place_at positive_small
+  place-keeps v index =
+      then-keeps P _ _ (then-keeps P _ _ (kind-keeps v) (λ k. fixed_by-keeps v _)) (λ fixed. then-keeps P _ _ (then-keeps P _ _ (bits-keeps index) (λ n.
+      next-keeps P _ _ (check-keeps P _ _) (answer-keeps P n))) (λ i. element_place-keeps v fixed i))
+
+  word-keeps : (v : Value) (i : ℕ) → Keeps P (fetch_word table v i)
+  unfolding fetch_word
+  word-keeps v i = then-keeps P _ _ (object-keeps P v) (λ o. next-keeps P _ _ (check-keeps P _ _) (or_die-keeps P _ _))
 
   tried-left : {A : Type 0} (s : State Table) (o : Transition (State Table) A) → P s.memory s.head → Left P o → Left P (or_left s o)
   tried-left s (Died cause) p l = p
@@ -171,6 +198,56 @@ primitive-alike : (P : Table → Head → Type 0) {A : Type 0} (n : ℕ) (u v : 
     → Alike P Any (primitive bounded_table n u f) (primitive table n v g)
 unfolding primitive
 primitive-alike P n u v f g e k h = then-alike P P Any (tried u) (tried v) _ _ (same-alike P (tried u) (tried v) (ap tried e) (tried-keeps P v k)) (effect-alike P n f g h)
+
+-- 60
+
+least_length : (left k : ℕ) (rest : List ℕ) (b : Bool) → length rest ≤ left → length (if b then k ∷ [] else k % 256 ∷ rest) ≤ suc left
+least_length left k rest true l = omega arith
+least_length left k rest false l = omega (arith, l)
+
+within_length : (left k : ℕ) → length (bytes_within left k) ≤ left
+within_length zero k = omega arith
+within_length (suc left) k = least_length left k (bytes_within left (k / 256)) (nat_lt k 256) (within_length left (k / 256))
+
+abbrev ForNumber : Table → Head → Type 0
+ForNumber = Room 1 largest_number
+
+-- what reads and stores alone asks for no room
+unmade-alike : {A : Type 0} (m n : Step Table A) → m ≡ n → Alike ForNumber Any m n
+unmade-alike m n e = asked-alike ForNumber Any Any m n (λ t a p. tt) (any-alike m n e)
+
+large-alike : (bs : List ℕ) → length bs ≤ 16 → Alike ForNumber Any (new_large bounded_table bs) (new_large table bs)
+unfolding new_large
+large-alike bs l =
+    then-alike ForNumber ForNumber Any _ _ _ _ (same-alike ForNumber _ _ (ap (λ f. f LargeClass) (page-is bounded_tabular)) (page-keeps ForNumber LargeClass)) (λ class.
+    then-alike ForNumber Any Any _ _ _ _ (make-alike largest_number (length bs) kind.Bytes class refl (omega (arith, l))) (λ o.
+    any-alike _ _ (rw (store_bytes-as bounded_tabular o 0 bs) refl)))
+
+number-alike : (k : ℕ) → Alike ForNumber Any (number bounded_table k) (number table k)
+unfolding number
+number-alike k = by (nat_lt k 16384)
+  where
+    by : (b : Bool) → Alike ForNumber Any (if b then answer (Small k) else new_large bounded_table (bytes_of_number k)) (if b then answer (Small k) else new_large table (bytes_of_number k))
+    by true = unmade-alike _ _ refl
+    by false = large-alike (bytes_of_number k) (within_length 16 k)
+
+element_by-alike : (v : Value) (i : ℕ) (k : Kind) → Alike ForNumber Any (element_by bounded_table v i k) (element_by table v i k)
+unfolding element_by word_number
+element_by-alike v i kind.Pointers = unmade-alike _ _ (fetch_field-as bounded_tabular v i)
+element_by-alike v i kind.Words = then-alike ForNumber ForNumber Any _ _ _ _ (same-alike ForNumber _ _ (fetch_word-as bounded_tabular v i) (word-keeps ForNumber v i)) number-alike
+element_by-alike v i kind.Bytes = unmade-alike _ _ (byte_number-as bounded_tabular v i)
+element_by-alike v i kind.Method = unmade-alike _ _ (byte_number-as bounded_tabular v i)
+
+element-alike : (v : Value) (i : ℕ) → Alike ForNumber Any (fetch_element bounded_table v i) (fetch_element table v i)
+unfolding fetch_element
+element-alike v i = then-alike ForNumber ForNumber Any _ _ _ _ (same-alike ForNumber _ _ (kind-as bounded_tabular v) (kind-keeps ForNumber v)) (element_by-alike v i)
+
+at-alike : Alike ForNumber Any (primitive_at bounded_table) (primitive_at table)
+unfolding primitive_at
+at-alike =
+    then-alike ForNumber ForNumber Any _ _ _ _ (same-alike ForNumber _ _ (ap (λ f. f 1) (under-is bounded_tabular)) (under-keeps ForNumber 1)) (λ r.
+    then-alike ForNumber ForNumber Any _ _ _ _ (same-alike ForNumber _ _ (top-is bounded_tabular) (top-keeps ForNumber)) (λ a.
+    primitive-alike ForNumber 1 _ _ _ _ (place-as bounded_tabular r a) (place-keeps ForNumber r a) (element-alike r)))
 
 -- 70
 
@@ -324,6 +401,8 @@ respond_with-as : (primitive n : ℕ) → respond_with bounded_table primitive n
 unfolding respond_with
 respond_with-as primitive n =
     rw (
+      where-as largest_number (taking 1 n (primitive_at bounded_table)) (taking 1 n (primitive_at table)) (omega arith) (taking-alike ForNumber 1 n _ _ at-alike),
+      at_put-is bounded_tabular,
       where-as largest_fixed (taking 0 n (primitive_new bounded_table)) (taking 0 n (primitive_new table)) (omega arith) (taking-alike (Room 1 largest_fixed) 0 n _ _ new-alike),
       where-as largest_indexed (taking 1 n (primitive_new_with bounded_table)) (taking 1 n (primitive_new_with table)) (omega arith) (taking-alike (Room 1 largest_indexed) 1 n _ _ new_with-alike),
       processes-is bounded_tabular,

@@ -1,6 +1,6 @@
 -- A step that was done at once, over a memory and its registers.
-use Rattle.std.proofs.Common.{◌≡◌, ◌<◌, ◌≤◌, ℕ, arith, Bool, true, false, Ok, Err, refl, sym, ap, ◌∙◌, subst}
-use Rattle.std.specs.Prelude.{Result, nat_lt, ◌/◌, ◌%◌, ◌==◌, ◌&&◌, if◌then◌else◌}
+use Rattle.std.proofs.Common.{◌≡◌, ◌≤◌, ℕ, arith, Bool, true, false, Ok, Err, refl, sym, ap, ◌∙◌, subst, ◌⊎◌, inl, inr}
+use Rattle.std.specs.Prelude.{Result, nat_lt, if◌then◌else◌}
 use Rattle.std.proofs.lemmas.Bool.Decides.{nat_tests}
 use Rattle.st_model.specs.declared.dead.Dead.{Dead}
 use Rattle.st_model.specs.declared.deed.Deed.{Deed}
@@ -86,7 +86,7 @@ module _ (v : View) (f : Frame) (w : World) (whole : IsWhole v) (ready : IsReady
       }
 
 -- a deed changes nothing of what is used
-pub left_uses : (u : View) (r : Words) (deed : Deed) → used table (with_deed deed (row_state u.objects u.head r)).memory ≡ used table u.objects
+left_uses : (u : View) (r : Words) (deed : Deed) → used table (with_deed deed (row_state u.objects u.head r)).memory ≡ used table u.objects
 unfolding row_state
 left_uses u r deed = deed_uses deed u.objects
 
@@ -102,7 +102,7 @@ quick_there v f world t a r deed w ready e =
     (before r.method closed.roots.1.1.0 r.method_narrow) (before r.receiver closed.roots.1.1.1.0 r.receiver_narrow)
 
 -- the state that a row leaves, once its registers are held
-pub quick_held : (v u : View) (f : Frame) (w : World) (r : Words) → registers_of f ≡ registers_in r → r.world.now ≡ w → u.objects ≡ v.objects → u.head ≡ v.head → row_state v.objects v.head r ≡ shown u f w
+quick_held : (v u : View) (f : Frame) (w : World) (r : Words) → registers_of f ≡ registers_in r → r.world.now ≡ w → u.objects ≡ v.objects → u.head ≡ v.head → row_state v.objects v.head r ≡ shown u f w
 unfolding row_state
 quick_held v u f w r e q o h = λ i. record { memory = sym o i; registers = sym e i; world = q i; head = sym h i }
 
@@ -111,15 +111,25 @@ pub quick_ready : (u v : View) (f g : Frame) (w : World) → IsReady u f w → S
 quick_ready u v f g w ready stays = record { frame = stays.frame; devices = stays.devices ∙ ready.devices }
 
 -- a bytecode that was done, but for what it leaves
-pub done_but : (c d : State Table) (left : Deed) (end : RowEnd) → was_done end ≡ true → GoesOn c (with_deed (deed_left left end) d) → IsDoneBut c left (Ok end) d
+done_but : (c d : State Table) (left : Deed) (end : RowEnd) → was_done end ≡ true → GoesOn c (with_deed (deed_left left end) d) → IsDoneBut c left (Ok end) d
 done_but c d left ToForesee b h = cc
 done_but c d left Stays b h = h
 done_but c d left Done b h = h
 done_but c d left Leaves b h = h
 
--- a bytecode that wasn't
-pub undone : (c d : State Table) (left : Deed) (end : RowEnd) → was_done end ≡ false → d ≡ c → IsDoneBut c left (Ok end) d
-undone c d left ToForesee b h = h
-undone c d left Stays b h = cc
-undone c d left Done b h = cc
-undone c d left Leaves b h = cc
+-- a row that was done, whose registers are held, goes on as the bytecode does, but for what it leaves
+pub row_goes_on : (v u h : View) (f g : Frame) (w : World) (r : Words) (left : Deed) (end : RowEnd) → IsWhole v → IsReady v f w
+    → (step_at_once bounded_table).run (shown v f w) ≡ transition_of was_done (Ok end) (with_deed (deed_left left end) (row_state u.objects u.head r)) → was_done end ≡ true
+    → IsWhole u → u.head ≡ v.head → r.world.now ≡ w → registers_of g ≡ registers_in r → h.objects ≡ u.objects → h.head ≡ u.head → IsDoneBut (shown v f w) left (Ok end) (shown h g w)
+row_goes_on v u h f g w r left end whole ready does b whole_then fixed world same objects head =
+    let deed = deed_left left end in
+    let d = with_deed deed (row_state u.objects u.head r) in
+    done_but (shown v f w) (shown h g w) left end b (
+      quick_foreseen v f w whole ready (Ok end) d does u end refl b whole_then (left_uses u r deed) fixed,
+      quick_done (shown v f w) (Ok end) d does end refl b ∙ ap (λ s. Went outcome.Went (with_deed deed s)) (quick_held u h g w r same world objects head),
+    )
+
+-- a row that may have left its context was done
+pub was_moved : (end : RowEnd) → (end ≡ Done) ⊎ (end ≡ Leaves) → was_done end ≡ true
+was_moved end (inl e) = ap was_done e
+was_moved end (inr e) = ap was_done e

@@ -73,7 +73,11 @@ module _ (v w : View) (s : SettlesTo v w) where
         size = subst (λ x. c.end ≤ℤ pos (size_of x)) o h.size;
       }
 
-pub near_settled : (v w : View) (k : Known) → SettlesTo v w → IsNear v k → IsNear w k
+-- without the object that was made, which may be dropped
+abbrev pub without_made : Known → Known
+without_made k = record k { made = record k.made { number = 0 } }
+
+pub near_settled : (v w : View) (k : Known) → SettlesTo v w → IsNear v k → IsNear w (without_made k)
 near_settled v w k s near = record {
   active = λ l. subst (λ x. HasFields w.objects x.active k.active) (sym s.held) (fields_stay v w s v.held.active k.active (λ n r. inl r) (near.active l));
   home = λ l. subst (λ x. HasFields w.objects x.home k.home) (sym s.held) (fields_stay v w s v.held.home k.home (λ n r. inr (inl r)) (near.home l));
@@ -81,4 +85,5 @@ near_settled v w k s near = record {
     literals = λ l. subst (λ x. HasCode w.objects x.method k.code) (sym s.held) (code_stays v w s v.held.method k.code (λ n r. inr (inr (inl r))) (near.code.literals l));
     bytes = λ l. subst (λ x. HasCode w.objects x.method k.code) (sym s.held) (code_stays v w s v.held.method k.code (λ n r. inr (inr (inl r))) (near.code.bytes l));
   };
+  made = λ l. absurd (omega (arith, l));
 }

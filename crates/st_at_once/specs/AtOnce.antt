@@ -1,9 +1,11 @@
 -- Bytecodes that are done at once, without being foreseen: most of those that make no object; and sends by 208 to 255 that activate
 -- a method, where there is room for its context, also that for doesNotUnderstand: with a Message, or that do a primitive on
--- processes, or make an object by 70 or 71 where there is room for the largest. Each answers whether it was such a one. Where it
--- wasn't, what it leaves is of no use: the bytecode is to be foreseen.
-use Rattle.std.specs.Prelude.{◌≡◌, ℕ, ◌+◌, ◌*◌, ◌-◌, ◌==◌, Bool, true, false, Option, Some, None, Result, Ok, Err, if◌then◌else◌, ◌&&◌, nat_le, nat_lt, pos, IfOk}
+-- processes, or 61, which stores an element, or 60, 70 or 71 where there is room for the largest object that these make: an element
+-- that is a number above 16383, or the new object. Each answers whether it was such a one. Where it wasn't, what it leaves is of no
+-- use: the bytecode is to be foreseen.
+use Rattle.std.specs.Prelude.{◌≡◌, ℕ, ◌+◌, ◌*◌, ◌-◌, ◌==◌, Bool, true, false, Option, Some, None, Result, Ok, Err, if◌then◌else◌, ◌&&◌, nat_le, nat_lt, pos, IfOk, ℤ}
 use Rattle.st_model.specs.declared.dead.Dead.{Dead}
+use Rattle.st_model.specs.declared.dead.Dead.TheVariants as dead
 use Rattle.st_model.specs.declared.deed.Deed.{Deed}
 use Rattle.st_model.specs.declared.deed.Deed.TheVariants.{Nothing}
 use Rattle.st_model.specs.declared.bytecode.Constant.{Constant}
@@ -11,23 +13,23 @@ use Rattle.st_model.specs.declared.bytecode.Bytecode.{Bytecode}
 use Rattle.st_model.specs.declared.bytecode.Bytecode.TheVariants as code
 use Rattle.st_model.specs.declared.integers.IntAnswer.{IntAnswer}
 use Rattle.st_model.specs.declared.integers.IntAnswer.TheVariants.{Number, Truth, Point}
-use Rattle.st_model.specs.Values.{Value, Small, Ref}
+use Rattle.st_model.specs.Values.{Value, Small, Ref, integer, small_integer}
 use Rattle.st_model.specs.declared.page.PageObject.{PageObject}
 use Rattle.st_model.specs.declared.page.PageObject.TheVariants.{FalseObject, TrueObject, NotUnderstood}
 use Rattle.st_model.specs.Decoded.{decoded}
-use Rattle.st_model.specs.Outcomes.{Outcome}
 use Rattle.st_model.specs.Outcomes as outcome
 use Rattle.st_model.specs.Machine.{ObjectMemory, Registers, State, Died, Went, Step, answer, tried, ◌>>=◌, ◌>>◌}
-use Rattle.st_model.specs.Steps.{get_receiver, get_free, of_page, class_of, under, pop, next_byte}
+use Rattle.st_model.specs.Steps.{get_receiver, get_free, of_page, class_of, or_die, under, drop_words, push, pop, next_byte}
 use Rattle.st_model.specs.Methods.{method_header, method_primitive, temporary_count, flag_of}
+use Rattle.st_model.specs.Integers.{binary}
 use Rattle.st_model.specs.Lookup.{find}
 use Rattle.st_model.specs.Contexts.{activate}
 use Rattle.st_model.specs.Sends.{replace_by_message}
 use Rattle.st_model.specs.Executing.{answer_field}
-use Rattle.st_model.specs.Primitives.{succeed, taking}
-use Rattle.st_model.specs.Arithmetic.{integer_answer, value_of_answer, arithmetic_number, equivalence, receiver_class}
+use Rattle.st_model.specs.Primitives.{truth, taking}
+use Rattle.st_model.specs.Arithmetic.{integer_under, arithmetic_number, equivalence, receiver_class}
 use Rattle.st_model.specs.Blocks.{primitive_value}
-use Rattle.st_model.specs.Storage.{primitive_new, primitive_new_with}
+use Rattle.st_model.specs.Storage.{primitive_at, primitive_at_put, primitive_new, primitive_new_with}
 use Rattle.st_model.specs.Processes.{processes}
 use Rattle.st_model.specs.Deeds.{with_deed}
 use Rattle.st_model.specs.Bytecodes.{fetch_literal_constant, push_operand, store_and_pop, push_receiver, push_constant, constant_value, extended_push, extended_store, extended_store_and_pop, pop_stack, duplicate_top, push_active_context, short_unconditional_jump, long_unconditional_jump, step}
@@ -39,16 +41,31 @@ use Rattle.st_at_once.specs.declared.ending.RowEnd.TheVariants.{ToForesee, Stays
 use Rattle.st_memory.specs.declared.objects.Objects.{Ghosts}
 use Rattle.st_control.specs.AtOnce.{AreStill, at_once, activate_at_once, jump_at_once, return_to_sender_at_once, return_to_caller_at_once}
 
+-- of a receiver, and of the argument at the top where that is a SmallInteger, the primitive has an answer
+unfoldable pub argument_answer : {H : Type 0} → ObjectMemory H → ℕ → ℤ → Step H IntAnswer
+argument_answer m n receiver = do
+  argument ← integer_under m 0
+  or_die dead.NotSmall (binary n receiver argument)
+
+-- a value takes the place of receiver and argument, which were read
+unfoldable pub replace_pair : {H : Type 0} → ObjectMemory H → Value → Step H Unit
+replace_pair m v = do
+  drop_words 2
+  push m v
+
 -- what a primitive on SmallIntegers answered, unless it failed, or answers a Point, which would have to be made
 unfoldable pub answered_at_once : {H : Type 0} → ObjectMemory H → Option IntAnswer → Step H Bool
 answered_at_once m None = answer false
-answered_at_once m (Some (Number n)) = succeed m 1 (value_of_answer m) (Some (Number n))
-answered_at_once m (Some (Truth b)) = succeed m 1 (value_of_answer m) (Some (Truth b))
+answered_at_once m (Some (Number n)) = at_once (replace_pair m (small_integer n))
+answered_at_once m (Some (Truth b)) = do
+  v ← truth m b
+  at_once (replace_pair m v)
 answered_at_once m (Some (Point x y)) = answer false
 
+-- the same of the receiver that was read
 unfoldable pub arithmetic_at_once_by : {H : Type 0} → ObjectMemory H → ℕ → Value → Step H Bool
 arithmetic_at_once_by m k (Small n) = do
-  a ← tried (integer_answer m (arithmetic_number k))
+  a ← tried (argument_answer m (arithmetic_number k) (integer n))
   answered_at_once m a
 arithmetic_at_once_by m k (Ref n) = answer false
 
@@ -107,17 +124,22 @@ where_space m words makes = do
   space ← object_space m words
   if space then makes else answer false
 
--- with at most 2,047 fields, and with at most 65,533 words; two words say size and class
+-- with at most 16 bytes, with at most 2,047 fields, and with at most 65,533 words; two words say size and class
+abbrev pub largest_number : ℕ
+largest_number = 10
+
 abbrev pub largest_fixed : ℕ
 largest_fixed = 2049
 
 abbrev pub largest_indexed : ℕ
 largest_indexed = 65535
 
--- A primitive that makes an object, or one on processes, which makes nothing, is tried. Where it fails, and where there is another
--- or none, the method is to be foreseen.
+-- A primitive that makes an object at most, or that which stores an element or one on processes, which make nothing, is tried. Where
+-- it fails, and where there is another or none, the method is to be foreseen.
 unfoldable pub respond_with : {H : Type 0} → ObjectMemory H → ℕ → ℕ → Step H Bool
 respond_with m primitive n =
+    if primitive == 60 then where_space m largest_number (taking 1 n (primitive_at m)) else
+    if primitive == 61 then taking 2 n (primitive_at_put m) else
     if primitive == 70 then where_space m largest_fixed (taking 0 n (primitive_new m)) else
     if primitive == 71 then where_space m largest_indexed (taking 1 n (primitive_new_with m)) else processes m primitive n
 
@@ -204,40 +226,41 @@ pub record NamesSame (old new : Registers) : Type 0 where
   pub method : new.method ≡ old.method
   pub receiver : new.receiver ≡ old.receiver
 
--- the row of a bytecode that stays in its context, since it sends nothing, returns nothing and tries none of 198 to 202, where that
--- is done at once
-unfoldable pub row_in_context : {H : Type 0} → ObjectMemory H → Bytecode → Step H Bool
-row_in_context m (code.Push operand) = at_once (push_operand m operand)
-row_in_context m (code.StoreAndPop operand) = at_once (store_and_pop m operand)
-row_in_context m code.PushReceiver = at_once (push_receiver m)
-row_in_context m (code.PushConstant c) = at_once (push_constant m c)
-row_in_context m code.ExtendedPush = at_once (extended_push m)
-row_in_context m code.ExtendedStore = at_once (extended_store m)
-row_in_context m code.ExtendedStoreAndPop = at_once (extended_store_and_pop m)
-row_in_context m code.PopStack = at_once (pop_stack m)
-row_in_context m code.DuplicateTop = at_once (duplicate_top m)
-row_in_context m code.PushActiveContext = at_once (push_active_context m)
-row_in_context m (code.ShortUnconditionalJump i) = at_once (short_unconditional_jump i)
-row_in_context m (code.ShortJumpOnFalse i) = jump_at_once m FalseObject TrueObject (pos (i + 1))
-row_in_context m (code.LongUnconditionalJump i) = at_once (long_unconditional_jump m i)
-row_in_context m (code.LongJumpOnTrue i) = long_jump_at_once m TrueObject FalseObject i
-row_in_context m (code.LongJumpOnFalse i) = long_jump_at_once m FalseObject TrueObject i
-row_in_context m (code.ArithmeticSend k) = arithmetic_at_once m k
-row_in_context m b = answer false
-
--- the row of a bytecode that is no send by 208 to 255, where that is done at once
-unfoldable pub unsent_at_once : {H : Type 0} → ObjectMemory H → Bytecode → Step H Bool
-unsent_at_once m code.ReturnReceiver = return_receiver_at_once m
-unsent_at_once m (code.ReturnConstant c) = return_constant_at_once m c
-unsent_at_once m code.ReturnTopToSender = return_top_to_sender_at_once m
-unsent_at_once m code.ReturnTopToCaller = return_top_to_caller_at_once m
-unsent_at_once m (code.PrimitiveSend k) = primitive_at_once m k
-unsent_at_once m b = row_in_context m b
-
 -- the row of a bytecode, where that is done at once
 unfoldable pub bytecode_at_once : {H : Type 0} → ObjectMemory H → Bytecode → Step H Bool
+bytecode_at_once m (code.Push operand) = at_once (push_operand m operand)
+bytecode_at_once m (code.StoreAndPop operand) = at_once (store_and_pop m operand)
+bytecode_at_once m code.PushReceiver = at_once (push_receiver m)
+bytecode_at_once m (code.PushConstant c) = at_once (push_constant m c)
+bytecode_at_once m code.ReturnReceiver = return_receiver_at_once m
+bytecode_at_once m (code.ReturnConstant c) = return_constant_at_once m c
+bytecode_at_once m code.ReturnTopToSender = return_top_to_sender_at_once m
+bytecode_at_once m code.ReturnTopToCaller = return_top_to_caller_at_once m
+bytecode_at_once m code.ExtendedPush = at_once (extended_push m)
+bytecode_at_once m code.ExtendedStore = at_once (extended_store m)
+bytecode_at_once m code.ExtendedStoreAndPop = at_once (extended_store_and_pop m)
+bytecode_at_once m code.PopStack = at_once (pop_stack m)
+bytecode_at_once m code.DuplicateTop = at_once (duplicate_top m)
+bytecode_at_once m code.PushActiveContext = at_once (push_active_context m)
+bytecode_at_once m (code.ShortUnconditionalJump i) = at_once (short_unconditional_jump i)
+bytecode_at_once m (code.ShortJumpOnFalse i) = jump_at_once m FalseObject TrueObject (pos (i + 1))
+bytecode_at_once m (code.LongUnconditionalJump i) = at_once (long_unconditional_jump m i)
+bytecode_at_once m (code.LongJumpOnTrue i) = long_jump_at_once m TrueObject FalseObject i
+bytecode_at_once m (code.LongJumpOnFalse i) = long_jump_at_once m FalseObject TrueObject i
+bytecode_at_once m (code.ArithmeticSend k) = arithmetic_at_once m k
+bytecode_at_once m (code.PrimitiveSend k) = primitive_at_once m k
 bytecode_at_once m (code.LiteralSend i n) = literal_send_at_once m i n
-bytecode_at_once m b = unsent_at_once m b
+bytecode_at_once m b = answer false
+
+-- whether a row that is done at once may leave its context: it returns, computes the value of a block (not 198 and 199) or sends
+abbrev pub may_leave : Bytecode → Bool
+may_leave code.ReturnReceiver = true
+may_leave (code.ReturnConstant c) = true
+may_leave code.ReturnTopToSender = true
+may_leave code.ReturnTopToCaller = true
+may_leave (code.PrimitiveSend k) = if k == 22 then false else if k == 23 then false else true
+may_leave (code.LiteralSend i n) = true
+may_leave b = false
 
 -- the next bytecode, where it is done at once
 unfoldable pub step_at_once : {H : Type 0} → ObjectMemory H → Step H Bool

@@ -1,4 +1,4 @@
--- What is known of the active context, its home and its method.
+-- What is known of the active context, its home and its method, and of the last object that was made.
 use Rattle.std.specs.Prelude.{◌≡◌, ℕ, ◌+◌, ◌*◌, ◌<◌, ◌≤◌, length, replicate, None, true, ℤ, pos, ◌≤ℤ◌, ◌<ℤ◌}
 use Rattle.st_model.specs.declared.word.Word.{Word}
 use Rattle.st_model.specs.Values.{Value, word}
@@ -69,6 +69,7 @@ pub record IsNear (v : View) (k : Known) : Type 0 where
   pub active : KnowsFields v.objects v.held.active k.active
   pub home : KnowsFields v.objects v.held.home k.home
   pub code : KnowsCode v.objects v.held.method k.code
+  pub made : KnowsFields v.objects (word k.made.object) k.made
 
 -- What stays of a memory that is borrowed under this name: what is held, the head, and the name, as the length of a table.
 abbrev pub fixed_of : View → ℕ → View
@@ -80,3 +81,4 @@ pub record ArePlaced (stands : Value → ℕ → Type 0) (k : Known) : Type 0 wh
   pub home : 0 < k.home.number → stands (word k.home.object) k.home.place
   pub literals : 0 < k.code.literals → stands (word k.code.method) k.code.place
   pub bytes : k.code.first <ℤ k.code.end → stands (word k.code.method) k.code.place
+  pub made : 0 < k.made.number → stands (word k.made.object) k.made.place

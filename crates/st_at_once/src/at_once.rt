@@ -1,113 +1,29 @@
-ghost use Rattle.std.specs.Prelude.{◌≡◌, ◌≢◌, ◌<◌, ◌≤◌, ◌+◌, ◌*◌, pos, Some, Ok};
-ghost use Rattle.st_model.specs.Values.{word};
-ghost use Rattle.st_model.specs.Calls.{itself};
-ghost use Rattle.st_model.specs.Decoded.{IsNumbered};
-ghost use Rattle.st_ints.specs.Answers.{IsOfSmall};
+ghost use Rattle.std.specs.Prelude.{false, ◌≡◌, ◌≢◌, ◌<◌, ◌≤◌, ◌+◌, ◌*◌, pos, Ok};
+ghost use Rattle.st_model.specs.{Values.word, Calls.itself, Decoded.IsNumbered};
+ghost use Rattle.st_model.specs.declared.bytecode.Bytecode.TheVariants.{PrimitiveSend};
 ghost use Rattle.st_model.specs.declared.page.PageObject.TheVariants.{FalseObject, TrueObject};
-ghost use Rattle.st_control.specs.AtOnce.{IsStill, at_once, activate_at_once, jump_at_once, return_to_sender_at_once};
-ghost use Rattle.st_at_once.specs.AtOnce.{was_done, deed_left, StaysInContext, StillToForesee, respond_at_once, execute_at_once_by, execute_at_once, found_at_once, send_from_at_once, send_at_once, literal_send_at_once, answered_at_once, arithmetic_at_once_by, arithmetic_at_once, primitive_at_once, long_jump_at_once, return_receiver_at_once, return_constant_at_once, return_top_to_sender_at_once, return_top_to_caller_at_once, row_in_context, unsent_at_once, bytecode_at_once, step_at_once, changes_at_once, not_understood_at_once};
 ghost use Rattle.st_model.specs.Methods.{flag_of};
-ghost use Rattle.st_model.specs.Blocks.{primitive_value};
-ghost use Rattle.st_at_once.specs.declared.ending.RowEnd.TheVariants.{Stays};
+ghost use Rattle.st_control.specs.AtOnce.{IsStill, at_once, jump_at_once};
+ghost use Rattle.st_at_once.specs.AtOnce.{was_done, deed_left, StaysInContext, StillToForesee, respond_at_once, execute_at_once_by, execute_at_once, found_at_once, send_from_at_once, send_at_once, literal_send_at_once, primitive_at_once, long_jump_at_once, return_receiver_at_once, return_constant_at_once, return_top_to_sender_at_once, return_top_to_caller_at_once, bytecode_at_once, may_leave, step_at_once, changes_at_once, not_understood_at_once};
+ghost use Rattle.st_at_once.specs.declared.ending.RowEnd.TheVariants.{Stays, Leaves};
 ghost use Rattle.st_lookup.specs.Places.{found_word};
 ghost use Rattle.st_frames.specs.Rows.{RowMoves, RowDoes, RowLeaves, Takes, registers_in, activation_changes};
 
-use crate::ending::RowEnd;
+use crate::arithmetic::arithmetic_at_once;
+use crate::ending::{RowEnd, done_if, stays_if};
 use crate::making::try_at_once;
 use crate::unanswered::not_understood_at_once;
 use st_control::{
-    activate_at_once, answer_field, answer_pair, arithmetic_number, constant_value, duplicate_top,
-    equivalence, extended_push, extended_store, extended_store_and_pop, fetch_literal_constant,
-    find_method, integer_answer, jump_at_once, long_unconditional_jump, method_primitive,
-    pop_stack, push_active_context, push_constant, push_operand, push_receiver, receiver_class,
-    return_to_caller_at_once, return_to_sender_at_once, short_unconditional_jump, store_and_pop,
-    value_at_once, word_of,
+    activate_at_once, answer_field, constant_value, duplicate_top, equivalence, extended_push,
+    extended_store, extended_store_and_pop, fetch_literal_constant, find_method, jump_at_once,
+    long_unconditional_jump, method_primitive, pop_stack, push_active_context, push_constant,
+    push_operand, push_receiver, receiver_class, return_to_caller_at_once,
+    return_to_sender_at_once, short_unconditional_jump, store_and_pop, value_at_once,
 };
-use st_frames::{Registers, next_byte, page, pop, under};
-use st_ints::IntAnswer;
+use st_frames::{Registers, next_byte, pop, under};
 use st_memory::Objects;
 use st_method::Header;
 use st_model::{Bytecode, Constant, Dead, Deed, PageObject, Tried, Word, decode};
-
-/// A number or a truth takes the place of receiver and argument. Answers whether it was one: a Point isn't made.
-#[tactic(auto, using(st_control::proofs::Tries::values), unfolding(crate::specs::AtOnce::answered_at_once, st_model::specs::Primitives::succeed, st_model::specs::Arithmetic::value_of_answer, st_model::specs::Primitives::truth))]
-fn answered_at_once<O: Objects>(
-    m: &mut O,
-    r: &mut Registers,
-    answer: IntAnswer,
-) -> Result<bool, Dead>
-    requires room { 1 ≤ O.room m.old }
-    requires small { IsOfSmall answer }
-    ensures does { RowDoes O.Objects.own (answered_at_once O.names (Some answer))
-        itself m.old r.old result m.new r.new }
-    ensures takes { Takes O.Objects.own 1 m.old m.new }
-    ensures still { IsStill O.Objects.own m.old result m.new }
-{
-    let value = match answer {
-        IntAnswer::Number(n) => word_of(n),
-        IntAnswer::Truth(true) => page(m, PageObject::TrueObject),
-        IntAnswer::Truth(false) => page(m, PageObject::FalseObject),
-        IntAnswer::Point(_, _) => return Ok(false),
-    };
-    answer_pair(m, r, value)?;
-    Ok(true)
-}
-
-/// Does a primitive on two SmallIntegers, where the receiver is one. Answers whether it succeeded.
-#[tactic(auto, using(crate::proofs::AtOnce::tries))]
-fn arithmetic_at_once_by<O: Objects>(
-    m: &mut O,
-    r: &mut Registers,
-    k: u32,
-    receiver: Word,
-) -> Result<bool, Dead>
-    requires number { k < 16 }
-    requires room { 1 ≤ O.room m.old }
-    ensures does { RowDoes O.Objects.own (arithmetic_at_once_by O.names k (word receiver))
-        itself m.old r.old result m.new r.new }
-    ensures takes { Takes O.Objects.own 1 m.old m.new }
-    ensures still { IsStill O.Objects.own m.old result m.new }
-{
-    if !receiver.is_small() {
-        return Ok(false);
-    }
-    match integer_answer(m, r, arithmetic_number(k)) {
-        Ok(answer) => answered_at_once(m, r, answer),
-        Err(_) => Ok(false),
-    }
-}
-
-/// Does the primitive that is tried first for a special selector of 0 to 15. Answers whether it succeeded.
-#[tactic(auto, using(st_frames::proofs::Doing::rows), unfolding(crate::specs::AtOnce::arithmetic_at_once))]
-fn arithmetic_at_once<O: Objects>(m: &mut O, r: &mut Registers, k: u32) -> Result<bool, Dead>
-    requires number { k < 16 }
-    requires room { 1 ≤ O.room m.old }
-    ensures does { RowDoes O.Objects.own (arithmetic_at_once O.names k)
-        itself m.old r.old result m.new r.new }
-    ensures takes { Takes O.Objects.own 1 m.old m.new }
-    ensures still { IsStill O.Objects.own m.old result m.new }
-{
-    let receiver = under(m, r, 1)?;
-    arithmetic_at_once_by(m, r, k, receiver)
-}
-
-/// Computes the value of a block with n arguments, where that is done at once.
-#[tactic(auto, using(st_frames::proofs::Doing::rows))]
-fn compute_value_at_once<O: Objects>(m: &mut O, r: &mut Registers, n: u32) -> Result<RowEnd, Dead>
-    requires few { n < 16384 }
-    requires room { 6 ≤ O.room m.old }
-    ensures does { RowDoes O.Objects.own (primitive_value O.names n)
-        was_done m.old r.old result m.new r.new }
-    ensures moves { result ≢ Ok Stays }
-    ensures takes { Takes O.Objects.own 6 m.old m.new }
-    ensures still { StillToForesee O.Objects.own m.old result m.new }
-{
-    if value_at_once(m, r, n)? {
-        Ok(RowEnd::Done)
-    } else {
-        Ok(RowEnd::ToForesee)
-    }
-}
 
 /// Does the code 176 + k, where that is 198, 199, or one of the two that compute a block's value.
 #[tactic(auto, using(st_frames::proofs::Doing::rows), unfolding(crate::specs::AtOnce::primitive_at_once, st_control::specs::AtOnce::at_once))]
@@ -116,7 +32,8 @@ fn primitive_at_once<O: Objects>(m: &mut O, r: &mut Registers, k: u32) -> Result
     requires room { 6 ≤ O.room m.old }
     ensures does { RowDoes O.Objects.own (primitive_at_once O.names k)
         was_done m.old r.old result m.new r.new }
-    ensures stays { StaysInContext result (registers_in r.old) (registers_in r.new) }
+    ensures stays { result ≡ Ok Stays → may_leave (PrimitiveSend k) ≡ false }
+    ensures leaves { result ≢ Ok Leaves }
     ensures takes { Takes O.Objects.own 6 m.old m.new }
     ensures still { StillToForesee O.Objects.own m.old result m.new }
 {
@@ -124,7 +41,7 @@ fn primitive_at_once<O: Objects>(m: &mut O, r: &mut Registers, k: u32) -> Result
         22 => equivalence(m, r)?,
         23 => receiver_class(m, r)?,
         24 => return Ok(RowEnd::ToForesee),
-        _ => return compute_value_at_once(m, r, k.saturating_sub(25)),
+        _ => return Ok(done_if(value_at_once(m, r, k.saturating_sub(25))?)),
     }
     Ok(RowEnd::Stays)
 }
@@ -182,88 +99,59 @@ fn jump_on_true_at_once<O: Objects>(m: &O, r: &mut Registers, i: u8) -> Result<b
     )
 }
 
-/// Returns the answer to the sender, where that is done at once.
-#[tactic(auto, using(st_frames::proofs::Doing::rows))]
-fn return_answer_at_once<O: Objects>(
-    m: &mut O,
-    r: &mut Registers,
-    answer: Word,
-) -> Result<RowEnd, Dead>
-    requires room { 3 ≤ O.room m.old }
-    ensures does { RowDoes O.Objects.own (return_to_sender_at_once O.names (word answer))
-        was_done m.old r.old result m.new r.new }
-    ensures moves { result ≢ Ok Stays }
-    ensures takes { Takes O.Objects.own 3 m.old m.new }
-    ensures still { StillToForesee O.Objects.own m.old result m.new }
-{
-    if return_to_sender_at_once(m, r, answer)? {
-        Ok(RowEnd::Done)
-    } else {
-        Ok(RowEnd::ToForesee)
-    }
-}
-
-/// Returns the receiver to the sender, where that is done at once.
+/// Returns the receiver to the sender. Answers whether that is done at once.
 #[tactic(auto, using(st_frames::proofs::Doing::rows), unfolding(crate::specs::AtOnce::return_receiver_at_once))]
-fn return_receiver_at_once<O: Objects>(m: &mut O, r: &mut Registers) -> Result<RowEnd, Dead>
+fn return_receiver_at_once<O: Objects>(m: &mut O, r: &mut Registers) -> Result<bool, Dead>
     requires room { 3 ≤ O.room m.old }
     ensures does { RowDoes O.Objects.own (return_receiver_at_once O.names)
-        was_done m.old r.old result m.new r.new }
-    ensures moves { result ≢ Ok Stays }
+        itself m.old r.old result m.new r.new }
     ensures takes { Takes O.Objects.own 3 m.old m.new }
-    ensures still { StillToForesee O.Objects.own m.old result m.new }
+    ensures still { IsStill O.Objects.own m.old result m.new }
 {
-    return_answer_at_once(m, r, r.receiver)
+    return_to_sender_at_once(m, r, r.receiver)
 }
 
-/// Returns a constant to the sender, where that is done at once.
+/// Returns a constant to the sender. Answers whether that is done at once.
 #[tactic(auto, using(st_frames::proofs::Doing::rows), unfolding(crate::specs::AtOnce::return_constant_at_once))]
 fn return_constant_at_once<O: Objects>(
     m: &mut O,
     r: &mut Registers,
     constant: Constant,
-) -> Result<RowEnd, Dead>
+) -> Result<bool, Dead>
     requires room { 3 ≤ O.room m.old }
     ensures does { RowDoes O.Objects.own (return_constant_at_once O.names constant)
-        was_done m.old r.old result m.new r.new }
-    ensures moves { result ≢ Ok Stays }
+        itself m.old r.old result m.new r.new }
     ensures takes { Takes O.Objects.own 3 m.old m.new }
-    ensures still { StillToForesee O.Objects.own m.old result m.new }
+    ensures still { IsStill O.Objects.own m.old result m.new }
 {
     let x = constant_value(m, r, constant);
-    return_answer_at_once(m, r, x)
+    return_to_sender_at_once(m, r, x)
 }
 
-/// Pops, and returns the word to the sender, where that is done at once.
+/// Pops, and returns the word to the sender. Answers whether that is done at once.
 #[tactic(auto, using(st_frames::proofs::Doing::rows), unfolding(crate::specs::AtOnce::return_top_to_sender_at_once))]
-fn return_top_to_sender_at_once<O: Objects>(m: &mut O, r: &mut Registers) -> Result<RowEnd, Dead>
+fn return_top_to_sender_at_once<O: Objects>(m: &mut O, r: &mut Registers) -> Result<bool, Dead>
     requires room { 3 ≤ O.room m.old }
     ensures does { RowDoes O.Objects.own (return_top_to_sender_at_once O.names)
-        was_done m.old r.old result m.new r.new }
-    ensures moves { result ≢ Ok Stays }
+        itself m.old r.old result m.new r.new }
     ensures takes { Takes O.Objects.own 3 m.old m.new }
-    ensures still { StillToForesee O.Objects.own m.old result m.new }
+    ensures still { IsStill O.Objects.own m.old result m.new }
 {
     let x = pop(m, r)?;
-    return_answer_at_once(m, r, x)
+    return_to_sender_at_once(m, r, x)
 }
 
-/// Pops, and returns the word to the caller, where that is done at once.
+/// Pops, and returns the word to the caller. Answers whether that is done at once.
 #[tactic(auto, using(st_frames::proofs::Doing::rows), unfolding(crate::specs::AtOnce::return_top_to_caller_at_once))]
-fn return_top_to_caller_at_once<O: Objects>(m: &mut O, r: &mut Registers) -> Result<RowEnd, Dead>
+fn return_top_to_caller_at_once<O: Objects>(m: &mut O, r: &mut Registers) -> Result<bool, Dead>
     requires room { 3 ≤ O.room m.old }
     ensures does { RowDoes O.Objects.own (return_top_to_caller_at_once O.names)
-        was_done m.old r.old result m.new r.new }
-    ensures moves { result ≢ Ok Stays }
+        itself m.old r.old result m.new r.new }
     ensures takes { Takes O.Objects.own 3 m.old m.new }
-    ensures still { StillToForesee O.Objects.own m.old result m.new }
+    ensures still { IsStill O.Objects.own m.old result m.new }
 {
     let x = pop(m, r)?;
-    if return_to_caller_at_once(m, r, x)? {
-        Ok(RowEnd::Done)
-    } else {
-        Ok(RowEnd::ToForesee)
-    }
+    return_to_caller_at_once(m, r, x)
 }
 
 /// Does a method's primitive, where that is one that is tried at once, and doesn't fail.
@@ -319,13 +207,7 @@ fn execute_at_once_by<O: Objects>(
             Ok(RowEnd::Done)
         }
         7 => respond_at_once(m, r, method, n, left),
-        _ => {
-            if activate_at_once(m, r, method, header, n)? {
-                Ok(RowEnd::Done)
-            } else {
-                Ok(RowEnd::ToForesee)
-            }
-        }
+        _ => Ok(done_if(activate_at_once(m, r, method, header, n)?)),
     }
 }
 
@@ -371,13 +253,7 @@ fn found_at_once<O: Objects>(
 {
     match method {
         Some(method) => execute_at_once(m, r, method, n, left),
-        None => {
-            if not_understood_at_once(m, r, class, selector, n)? {
-                Ok(RowEnd::Done)
-            } else {
-                Ok(RowEnd::ToForesee)
-            }
-        }
+        None => Ok(done_if(not_understood_at_once(m, r, class, selector, n)?)),
     }
 }
 
@@ -446,17 +322,22 @@ fn literal_send_at_once<O: Objects>(
     send_at_once(m, r, selector, n, left)
 }
 
-/// Does the row of a bytecode that sends nothing, returns nothing and is none of 198 to 202, where that is done at once. Answers
-/// whether that is so.
+/// Does the row of a bytecode, where that is done at once.
 #[inline(always)]
-#[tactic(auto, using(st_frames::proofs::Doing::rows), unfolding(crate::specs::AtOnce::row_in_context, st_control::specs::AtOnce::at_once))]
-fn row_in_context<O: Objects>(m: &mut O, r: &mut Registers, code: Bytecode) -> Result<bool, Dead>
+#[tactic(auto, using(st_frames::proofs::Doing::rows), unfolding(crate::specs::AtOnce::bytecode_at_once, st_control::specs::AtOnce::at_once))]
+fn bytecode_at_once<O: Objects>(
+    m: &mut O,
+    r: &mut Registers,
+    code: Bytecode,
+    left: &mut Deed,
+) -> Result<RowEnd, Dead>
     requires numbered { IsNumbered code }
-    requires room { 3 ≤ O.room m.old }
-    ensures does { RowDoes O.Objects.own (row_in_context O.names code)
-        itself m.old r.old result m.new r.new }
-    ensures takes { Takes O.Objects.own 3 m.old m.new }
-    ensures still { IsStill O.Objects.own m.old result m.new }
+    requires room { changes_at_once ≤ O.room m.old }
+    ensures does { RowLeaves O.Objects.own (bytecode_at_once O.names code)
+        was_done (deed_left left.new) m.old r.old result m.new r.new }
+    ensures stays { result ≡ Ok Stays → may_leave code ≡ false }
+    ensures takes { Takes O.Objects.own changes_at_once m.old m.new }
+    ensures still { StillToForesee O.Objects.own m.old result m.new }
 {
     match code {
         Bytecode::Push(operand) => push_operand(m, r, operand)?,
@@ -471,113 +352,26 @@ fn row_in_context<O: Objects>(m: &mut O, r: &mut Registers, code: Bytecode) -> R
         Bytecode::PushActiveContext => push_active_context(m, r)?,
         Bytecode::ShortUnconditionalJump(i) => short_unconditional_jump(m, r, i)?,
         Bytecode::LongUnconditionalJump(i) => long_unconditional_jump(m, r, i)?,
-        Bytecode::ShortJumpOnFalse(i) => return short_jump_at_once(m, r, i),
-        Bytecode::LongJumpOnFalse(i) => return jump_on_false_at_once(m, r, i),
-        Bytecode::LongJumpOnTrue(i) => return jump_on_true_at_once(m, r, i),
-        Bytecode::ArithmeticSend(k) => return arithmetic_at_once(m, r, u32::from(k)),
+        Bytecode::ShortJumpOnFalse(i) => return Ok(stays_if(short_jump_at_once(m, r, i)?)),
+        Bytecode::LongJumpOnFalse(i) => return Ok(stays_if(jump_on_false_at_once(m, r, i)?)),
+        Bytecode::LongJumpOnTrue(i) => return Ok(stays_if(jump_on_true_at_once(m, r, i)?)),
+        Bytecode::ArithmeticSend(k) => return Ok(stays_if(arithmetic_at_once(m, r, u32::from(k))?)),
+        Bytecode::ReturnReceiver => return Ok(done_if(return_receiver_at_once(m, r)?)),
+        Bytecode::ReturnConstant(c) => return Ok(done_if(return_constant_at_once(m, r, c)?)),
+        Bytecode::ReturnTopToSender => return Ok(done_if(return_top_to_sender_at_once(m, r)?)),
+        Bytecode::ReturnTopToCaller => return Ok(done_if(return_top_to_caller_at_once(m, r)?)),
+        Bytecode::PrimitiveSend(k) => return primitive_at_once(m, r, u32::from(k)),
+        Bytecode::LiteralSend { literal, arguments } => {
+            return literal_send_at_once(m, r, u32::from(literal), u32::from(arguments), left);
+        }
         Bytecode::Unused
-        | Bytecode::ReturnReceiver
-        | Bytecode::ReturnConstant(_)
-        | Bytecode::ReturnTopToSender
-        | Bytecode::ReturnTopToCaller
         | Bytecode::ExtendedSend
         | Bytecode::DoubleExtendedSend
         | Bytecode::ExtendedSuperSend
         | Bytecode::DoubleExtendedSuperSend
-        | Bytecode::PrimitiveSend(_)
-        | Bytecode::SpecialSend(_)
-        | Bytecode::LiteralSend { .. } => return Ok(false),
+        | Bytecode::SpecialSend(_) => return Ok(RowEnd::ToForesee),
     }
-    Ok(true)
-}
-
-/// The same, where the end says that it stays in its context.
-#[inline(always)]
-fn stay_in_context<O: Objects>(m: &mut O, r: &mut Registers, code: Bytecode) -> Result<RowEnd, Dead>
-    requires numbered { IsNumbered code }
-    requires room { 3 ≤ O.room m.old }
-    ensures does { RowDoes O.Objects.own (row_in_context O.names code)
-        was_done m.old r.old result m.new r.new }
-    ensures stays { StaysInContext result (registers_in r.old) (registers_in r.new) }
-    ensures takes { Takes O.Objects.own 3 m.old m.new }
-    ensures still { StillToForesee O.Objects.own m.old result m.new }
-{
-    if row_in_context(m, r, code)? {
-        Ok(RowEnd::Stays)
-    } else {
-        Ok(RowEnd::ToForesee)
-    }
-}
-
-/// Does the row of a bytecode that is no send by 208 to 255, where that is done at once.
-#[inline(always)]
-#[tactic(auto, using(st_frames::proofs::Doing::rows), unfolding(crate::specs::AtOnce::unsent_at_once))]
-fn unsent_at_once<O: Objects>(m: &mut O, r: &mut Registers, code: Bytecode) -> Result<RowEnd, Dead>
-    requires numbered { IsNumbered code }
-    requires room { activation_changes ≤ O.room m.old }
-    ensures does { RowDoes O.Objects.own (unsent_at_once O.names code)
-        was_done m.old r.old result m.new r.new }
-    ensures stays { StaysInContext result (registers_in r.old) (registers_in r.new) }
-    ensures takes { Takes O.Objects.own activation_changes m.old m.new }
-    ensures still { StillToForesee O.Objects.own m.old result m.new }
-{
-    match code {
-        Bytecode::ReturnReceiver => return_receiver_at_once(m, r),
-        Bytecode::ReturnConstant(constant) => return_constant_at_once(m, r, constant),
-        Bytecode::ReturnTopToSender => return_top_to_sender_at_once(m, r),
-        Bytecode::ReturnTopToCaller => return_top_to_caller_at_once(m, r),
-        Bytecode::PrimitiveSend(k) => primitive_at_once(m, r, u32::from(k)),
-        Bytecode::Push(_)
-        | Bytecode::StoreAndPop(_)
-        | Bytecode::PushReceiver
-        | Bytecode::PushConstant(_)
-        | Bytecode::Unused
-        | Bytecode::ExtendedPush
-        | Bytecode::ExtendedStore
-        | Bytecode::ExtendedStoreAndPop
-        | Bytecode::ExtendedSend
-        | Bytecode::DoubleExtendedSend
-        | Bytecode::ExtendedSuperSend
-        | Bytecode::DoubleExtendedSuperSend
-        | Bytecode::PopStack
-        | Bytecode::DuplicateTop
-        | Bytecode::PushActiveContext
-        | Bytecode::ShortUnconditionalJump(_)
-        | Bytecode::ShortJumpOnFalse(_)
-        | Bytecode::LongUnconditionalJump(_)
-        | Bytecode::LongJumpOnTrue(_)
-        | Bytecode::LongJumpOnFalse(_)
-        | Bytecode::ArithmeticSend(_)
-        | Bytecode::SpecialSend(_)
-        | Bytecode::LiteralSend { .. } => stay_in_context(m, r, code),
-    }
-}
-
-/// Does the row of a bytecode, where that is done at once.
-#[inline(always)]
-#[tactic(auto, using(st_frames::proofs::Doing::rows), unfolding(crate::specs::AtOnce::bytecode_at_once))]
-fn bytecode_at_once<O: Objects>(
-    m: &mut O,
-    r: &mut Registers,
-    code: Bytecode,
-    left: &mut Deed,
-) -> Result<RowEnd, Dead>
-    requires numbered { IsNumbered code }
-    requires room { changes_at_once ≤ O.room m.old }
-    ensures does { RowLeaves O.Objects.own (bytecode_at_once O.names code)
-        was_done (deed_left left.new) m.old r.old result m.new r.new }
-    ensures stays { StaysInContext result (registers_in r.old) (registers_in r.new) }
-    ensures takes { Takes O.Objects.own changes_at_once m.old m.new }
-    ensures still { StillToForesee O.Objects.own m.old result m.new }
-{
-    if let Bytecode::LiteralSend { literal, arguments } = code {
-        return literal_send_at_once(m, r, u32::from(literal), u32::from(arguments), left);
-    }
-    match unsent_at_once(m, r, code)? {
-        RowEnd::ToForesee => Ok(RowEnd::ToForesee),
-        RowEnd::Stays => Ok(RowEnd::Stays),
-        RowEnd::Done | RowEnd::Leaves => Ok(RowEnd::Done),
-    }
+    Ok(RowEnd::Stays)
 }
 
 /// Does the next bytecode, where that is done at once.

@@ -1,6 +1,5 @@
-ghost use Rattle.std.specs.Prelude.{◌≡◌, true};
-ghost use Rattle.st_at_once.specs.AtOnce.{was_done};
-ghost use Rattle.st_at_once.specs.declared.ending.RowEnd.TheVariants.{Stays};
+ghost use Rattle.std.specs.Prelude.{◌≡◌, if◌then◌else◌};
+ghost use Rattle.st_at_once.specs.declared.ending.RowEnd.TheVariants.{ToForesee, Stays, Done};
 
 /// How a bytecode came out that was tried at once. The deed itself stands elsewhere, since few bytecodes leave one.
 #[derive(Clone, Copy)]
@@ -15,24 +14,26 @@ pub enum RowEnd {
     Leaves,
 }
 
-impl RowEnd {
-    /// Whether it was done, perhaps but for a deed.
-    pub(crate) fn was_done(self) -> bool
-        ensures { result ≡ was_done self }
-    {
-        match self {
-            RowEnd::ToForesee => false,
-            RowEnd::Stays | RowEnd::Done | RowEnd::Leaves => true,
-        }
+/// The end of a row that stays in its context, by whether it was done.
+#[inline(always)]
+pub(crate) fn stays_if(done: bool) -> RowEnd
+    ensures { result ≡ (if done then Stays else ToForesee) }
+{
+    if done {
+        RowEnd::Stays
+    } else {
+        RowEnd::ToForesee
     }
+}
 
-    /// Whether it was done, and the registers name what they named.
-    pub(crate) fn stays(self) -> bool
-        ensures { result ≡ true → self ≡ Stays }
-    {
-        match self {
-            RowEnd::Stays => true,
-            RowEnd::ToForesee | RowEnd::Done | RowEnd::Leaves => false,
-        }
+/// The end of a row that may leave its context, by whether it was done.
+#[inline(always)]
+pub(crate) fn done_if(done: bool) -> RowEnd
+    ensures { result ≡ (if done then Done else ToForesee) }
+{
+    if done {
+        RowEnd::Done
+    } else {
+        RowEnd::ToForesee
     }
 }

@@ -1,13 +1,8 @@
 ghost use Rattle.std.specs.Prelude.{◌≡◌, true};
-ghost use Rattle.st_model.specs.Values.{value, word};
-ghost use Rattle.st_model.specs.Table.{table};
-ghost use Rattle.st_model.specs.Steps.{are_there};
-ghost use Rattle.st_frames.specs.Rows.{registers_in};
-ghost use Rattle.st_at_once.specs.declared.ending.RowEnd.TheVariants.{Stays};
+ghost use Rattle.st_model.specs.{Values.{value, word}, Table.table, Steps.are_there};
+ghost use Rattle.st_frames.specs.{Rows.registers_in, Shown.{IsFrame, StaysFrame, registers_of}};
 ghost use Rattle.st_at_once.specs.AtOnce.{NamesSame};
-ghost use Rattle.st_frames.specs.Shown.{IsFrame, StaysFrame, registers_of};
 
-use crate::ending::RowEnd;
 use crate::looking::look;
 use crate::near::Near;
 use st_frames::{Frame, Registers, hold};
@@ -37,11 +32,22 @@ fn names_same(r: &Registers, f: &Frame) -> bool
 }
 
 impl<'a, M: Memory> Near<'a, M> {
-    /// Keeps the registers that a row leaves with this end, all of which are there. Where they name what they named, that is held
-    /// already; else they are held at their places, and what is known is looked at anew.
+    /// Keeps the registers of a row that stays in its context. What they name is held already.
     #[inline(always)]
-    pub fn hold_again(&mut self, f: &mut Frame, r: &Registers, end: RowEnd)
-        requires stays { end ≡ Stays → NamesSame (registers_of f.old) (registers_in r.now) }
+    pub(crate) fn stay(&self, f: &mut Frame, r: &Registers)
+        requires stays { NamesSame (registers_of f.old) (registers_in r.now) }
+        requires frame { IsFrame (M.view self.now.memory.now) f.old }
+        ensures same { registers_of f.new ≡ registers_in r.now }
+        ensures frame { StaysFrame (M.view self.now.memory.now) (M.view self.now.memory.now) f.new }
+    {
+        f.ip = r.ip;
+        f.sp = r.sp;
+    }
+
+    /// Keeps the registers that a row leaves, all of which are there. Where they name what they named, that is held already; else
+    /// they are held at their places, and what is known is looked at anew.
+    #[inline(never)]
+    pub(crate) fn hold_moved(&mut self, f: &mut Frame, r: &Registers)
         requires there { are_there table (M.view self.old.memory.now).objects (registers_in r.now) ≡ true }
         requires frame { IsFrame (M.view self.old.memory.now) f.old }
         ensures same { registers_of f.new ≡ registers_in r.now }
@@ -50,9 +56,8 @@ impl<'a, M: Memory> Near<'a, M> {
         ensures frame { StaysFrame (M.view self.old.memory.now) (M.view self.new.memory.now) f.new }
         ensures same_memory { self.new.memory.ghost_name ≡ self.old.memory.ghost_name }
     {
-        if end.stays() || names_same(r, f) {
-            f.ip = r.ip;
-            f.sp = r.sp;
+        if names_same(r, f) {
+            self.stay(f, r);
         } else {
             *f = hold(self.memory, r);
             self.known = look(self.memory, f, self.known.code);

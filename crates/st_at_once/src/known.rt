@@ -9,10 +9,10 @@ pub(crate) struct Body {
     pub place: u32,
 }
 
-/// What is known of a context. Nothing is where it has 0 fields.
+/// What is known of an object of kind Pointers. Nothing is where it has 0 fields.
 #[derive(Clone, Copy)]
 pub struct Fields {
-    /// The context's word.
+    /// The object's word.
     pub object: Word,
     /// How many fields it has.
     pub number: u32,
@@ -55,12 +55,13 @@ impl Code {
     };
 }
 
-/// What is known of the active context, its home and its method.
+/// What is known of the active context, its home and its method, and of the last object that was made, until it may be dropped.
 #[derive(Clone, Copy)]
 pub struct Known {
     pub active: Fields,
     pub home: Fields,
     pub code: Code,
+    pub made: Fields,
 }
 
 impl Known {
@@ -69,5 +70,6 @@ impl Known {
         active: Fields::NONE,
         home: Fields::NONE,
         code: Code::NONE,
+        made: Fields::NONE,
     };
 }

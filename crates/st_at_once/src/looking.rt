@@ -8,22 +8,22 @@ use st_frames::Frame;
 use st_memory::Memory;
 use st_model::{Oop, Word, literals};
 
-/// What is known of a context.
+/// What is known of an object.
 #[tactic(auto, using(st_memory::proofs::Bodies::most_fields))]
-fn look_at_fields<M: Memory>(m: &M, context: Oop) -> Fields
-    ensures fields { KnowsFields (M.view m.now).objects (value context) result }
+fn look_at_fields<M: Memory>(m: &M, object: Oop) -> Fields
+    ensures fields { KnowsFields (M.view m.now).objects (value object) result }
     ensures place { 0 < result.number → M.stands m.now (word result.object) result.place }
 {
-    if !m.live(context) {
+    if !m.live(object) {
         return Fields::NONE;
     }
-    if !m.kind(context).is_pointers() {
+    if !m.kind(object).is_pointers() {
         return Fields::NONE;
     }
     Fields {
-        object: Word(u32::from(context.0)),
-        number: m.size(context),
-        place: m.place(context),
+        object: Word(u32::from(object.0)),
+        number: m.size(object),
+        place: m.place(object),
     }
 }
 
@@ -63,7 +63,7 @@ fn look_at_home<M: Memory>(m: &M, f: &Frame, active: Fields) -> Fields
     }
 }
 
-/// The place at which a context stands of which this is known, or 0.
+/// The place at which an object stands of which this is known, or 0.
 fn place_of_fields<M: Memory>(m: &M, f: Fields) -> u32
     requires { 0 < f.number → IsThere (M.view m.now).objects f.object }
     ensures { 0 < f.number → M.stands m.now (word f.object) result }
@@ -90,6 +90,7 @@ fn place_of_code<M: Memory>(m: &M, c: Code) -> u32
 }
 
 /// What is known, with the places at which it stands now.
+#[inline(always)]
 pub(crate) fn look_at_places<M: Memory>(m: &M, known: Known) -> Known
     requires { IsNear (M.view m.now) known }
     ensures near { IsNear (M.view m.now) result }
@@ -108,6 +109,36 @@ pub(crate) fn look_at_places<M: Memory>(m: &M, known: Known) -> Known
             place: place_of_code(m, known.code),
             ..known.code
         },
+        made: Fields {
+            place: place_of_fields(m, known.made),
+            ..known.made
+        },
+    }
+}
+
+/// What is known of the object that was made under this word.
+#[inline(always)]
+#[tactic(auto, using(crate::proofs::Keeping::fields_named))]
+fn look_at_made<M: Memory>(m: &M, made: Word) -> Fields
+    ensures fields { KnowsFields (M.view m.now).objects (word result.object) result }
+    ensures place { 0 < result.number → M.stands m.now (word result.object) result.place }
+{
+    if made.0 > 65535 {
+        return Fields::NONE;
+    }
+    look_at_fields(m, Oop(made.0 as u16))
+}
+
+/// What is known once an object was made under this word, with the places at which all stands now.
+#[inline(always)]
+pub(crate) fn look_after_make<M: Memory>(m: &M, known: Known, made: Word) -> Known
+    requires { IsNear (M.view m.now) known }
+    ensures near { IsNear (M.view m.now) result }
+    ensures places { ArePlaced (M.stands m.now) result }
+{
+    Known {
+        made: look_at_made(m, made),
+        ..look_at_places(m, known)
     }
 }
 
@@ -130,6 +161,7 @@ fn look_at_code_again<M: Memory>(m: &M, method: Oop, before: Code) -> Code
 }
 
 /// What is known of the contexts and the method of a frame that is held, where this was known of a method.
+#[inline(always)]
 pub fn look<M: Memory>(m: &M, f: &Frame, before: Code) -> Known
     requires frame { IsFrame (M.view m.now) f.now }
     requires before { KnowsCode (M.view m.now).objects (word before.method) before }
@@ -141,5 +173,6 @@ pub fn look<M: Memory>(m: &M, f: &Frame, before: Code) -> Known
         active,
         home: look_at_home(m, f, active),
         code: look_at_code_again(m, f.method, before),
+        made: Fields::NONE,
     }
 }

@@ -1,21 +1,19 @@
 ghost use Rattle.std.specs.Prelude.{◌≡◌, ◌<◌, ◌≤◌, IfSome};
-ghost use Rattle.st_model.specs.Values.{value, word};
-ghost use Rattle.st_model.specs.View.{Has, SettlesTo};
-ghost use Rattle.st_model.specs.Table.{bounded_table};
-ghost use Rattle.st_model.specs.Steps.{store_field};
-ghost use Rattle.st_model.specs.Calls.{Changes, itself};
+ghost use Rattle.st_model.specs.{Values.{value, word}, View.{Has, SettlesTo}, Table.bounded_table};
+ghost use Rattle.st_model.specs.{Steps.{store_field, transfer}, Calls.{Changes, itself}};
 ghost use Rattle.st_frames.specs.Shown.{IsFrame};
 ghost use Rattle.st_at_once.specs.Known.{IsNear, ArePlaced, IsCodeAt, HasLiteral, HasNumber};
 
 use crate::known::{Body, Code, Known};
 use crate::looking::look;
 use st_frames::Frame;
-use st_memory::{Memory, store_live_field};
+use st_memory::{Memory, live_value, store_live_field, transfer_live_fields};
 use st_model::{Dead, Oop, Word};
 
 /// The objects of a memory, with what is known of the active context, its home and its method, which it holds. As long as they
-/// are held, a field or a byte of them is read and stored at its place, without a look at the object. Where an object was made
-/// or what a search found was remembered, places are asked for anew.
+/// are held, a field or a byte of them is read and stored at its place, without a look at the object; and a field of the last
+/// object that was made is stored at its place until the memory settles. Where an object was made or what a search found was
+/// remembered, places are asked for anew.
 #[derive(Drop)]
 pub struct Near<'a, M: Memory> {
     /// The memory behind.
@@ -41,6 +39,7 @@ impl<'a, M: Memory> Near<'a, M> {
         ensures settles { SettlesTo (M.view self.old.memory.now) (M.view self.new.memory.now) }
         ensures same_memory { self.new.memory.ghost_name ≡ self.old.memory.ghost_name }
     {
+        self.known.made.number = 0;
         self.memory.settle();
     }
 
@@ -71,6 +70,24 @@ impl<'a, M: Memory> Near<'a, M> {
             });
         }
         None
+    }
+
+    /// The object that was made last, where this is its word and it has field i.
+    #[inline(always)]
+    fn find_made(&self, o: Word, i: u32) -> Option<Body>
+        ensures same { IfSome result (λ b. value b.object ≡ word o) }
+        ensures has { IfSome result (λ b. Has (M.view self.now.memory.now).objects (value b.object) i 1) }
+        ensures place { IfSome result (λ b. M.stands self.now.memory.now (value b.object) b.place) }
+    {
+        self.stand();
+        if o.0 == self.known.made.object.0 && i < self.known.made.number {
+            Some(Body {
+                object: Oop(o.0 as u16),
+                place: self.known.made.place,
+            })
+        } else {
+            None
+        }
     }
 
     /// How many fields the active or home context has, where this is its word.
@@ -129,10 +146,33 @@ impl<'a, M: Memory> Near<'a, M> {
         }
     }
 
+    /// Stores x in field i of an object that is near at hand.
+    #[inline(always)]
+    #[tactic(auto, using(st_model::proofs::Runs::runs, crate::proofs::Direct::bounded), unfolding(st_model::specs::Steps::store_field))]
+    pub(crate) fn store_near(&mut self, object: Body, i: u32, x: Word) -> Result<(), Dead>
+        requires has { Has (M.view self.old.memory.now).objects (value object.object) i 1 }
+        requires place { M.stands self.old.memory.now (value object.object) object.place }
+        ensures stores { Changes (store_field bounded_table (value object.object) i (word x)) itself
+            (M.view self.old.memory.now).objects (M.view self.old.memory.now).head
+            result (M.view self.new.memory.now).objects }
+        ensures held { (M.view self.new.memory.now).held ≡ (M.view self.old.memory.now).held }
+        ensures head { (M.view self.new.memory.now).head ≡ (M.view self.old.memory.now).head }
+        ensures same_memory { self.new.memory.ghost_name ≡ self.old.memory.ghost_name }
+    {
+        match live_value(self.memory, x) {
+            Some(value) => {
+                self.memory
+                    .set_placed_pointer(object.object, object.place, i, value);
+                Ok(())
+            }
+            None => Err(Dead::Kind),
+        }
+    }
+
     /// Stores x in field i of an object that isn't near at hand. Nothing is known any more where it dies.
     #[inline(never)]
     #[tactic(auto, using(crate::proofs::Keeping::near_nothing, crate::proofs::Placed::placed_nothing))]
-    pub(crate) fn store_elsewhere(&mut self, o: Word, i: u32, x: Word) -> Result<(), Dead>
+    fn store_elsewhere(&mut self, o: Word, i: u32, x: Word) -> Result<(), Dead>
         ensures stores { Changes (store_field bounded_table (word o) i (word x)) itself
             (M.view self.old.memory.now).objects (M.view self.old.memory.now).head
             result (M.view self.new.memory.now).objects }
@@ -141,6 +181,46 @@ impl<'a, M: Memory> Near<'a, M> {
         ensures same_memory { self.new.memory.ghost_name ≡ self.old.memory.ghost_name }
     {
         let done = store_live_field(self.memory, o, i, x);
+        if done.is_err() {
+            self.known = Known::NONE;
+        }
+        done
+    }
+    /// Stores x in field i of an object that is neither the active nor the home context: at its place where it was made last.
+    #[inline(always)]
+    pub(crate) fn store_outside(&mut self, o: Word, i: u32, x: Word) -> Result<(), Dead>
+        ensures stores { Changes (store_field bounded_table (word o) i (word x)) itself
+            (M.view self.old.memory.now).objects (M.view self.old.memory.now).head
+            result (M.view self.new.memory.now).objects }
+        ensures held { (M.view self.new.memory.now).held ≡ (M.view self.old.memory.now).held }
+        ensures head { (M.view self.new.memory.now).head ≡ (M.view self.old.memory.now).head }
+        ensures same_memory { self.new.memory.ghost_name ≡ self.old.memory.ghost_name }
+    {
+        match self.find_made(o, i) {
+            Some(made) => self.store_near(made, i, x),
+            None => self.store_elsewhere(o, i, x),
+        }
+    }
+    /// Stores n fields of one object in fields of another, once all of them are fetched, without asking whether they are near at hand.
+    /// Nothing is known any more where it dies.
+    #[inline(never)]
+    #[tactic(auto, using(crate::proofs::Keeping::near_nothing, crate::proofs::Placed::placed_nothing))]
+    pub(crate) fn transfer_elsewhere(
+        &mut self,
+        n: u32,
+        source: Word,
+        from: u32,
+        target: Word,
+        to: u32,
+    ) -> Result<(), Dead>
+        ensures transfers { Changes (transfer bounded_table n (word source) from (word target) to) itself
+            (M.view self.old.memory.now).objects (M.view self.old.memory.now).head
+            result (M.view self.new.memory.now).objects }
+        ensures held { (M.view self.new.memory.now).held ≡ (M.view self.old.memory.now).held }
+        ensures head { (M.view self.new.memory.now).head ≡ (M.view self.old.memory.now).head }
+        ensures same_memory { self.new.memory.ghost_name ≡ self.old.memory.ghost_name }
+    {
+        let done = transfer_live_fields(self.memory, n, source, from, target, to);
         if done.is_err() {
             self.known = Known::NONE;
         }

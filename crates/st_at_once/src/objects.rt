@@ -2,9 +2,9 @@ ghost use Rattle.std.specs.Prelude.{◌≡◌, ◌+◌, ◌≤◌};
 ghost use Rattle.st_model.specs.Table.{bounded_table};
 
 use crate::known::Known;
-use crate::looking::look_at_places;
+use crate::looking::{look_after_make, look_at_places};
 use crate::near::Near;
-use st_memory::{ContextFields, Memory, Objects, live_value, transfer_live_fields};
+use st_memory::{ContextFields, Memory, Objects, live_value};
 use st_model::{Dead, Demand, Kind, Word};
 
 impl<'a, M: Memory> Objects for Near<'a, M> {
@@ -125,23 +125,13 @@ impl<'a, M: Memory> Objects for Near<'a, M> {
     }
 
     #[inline(always)]
-    #[tactic(auto, using(st_model::proofs::Runs::runs, crate::proofs::Direct::bounded), unfolding(st_model::specs::Steps::store_field))]
     fn store_field(&mut self, o: Word, i: u32, x: Word) -> Result<(), Dead> {
-        let context = match self.find_context(o, i) {
-            Some(context) => context,
-            None => return self.store_elsewhere(o, i, x),
-        };
-        match live_value(self.memory, x) {
-            Some(value) => {
-                self.memory
-                    .set_placed_pointer(context.object, context.place, i, value);
-                Ok(())
-            }
-            None => Err(Dead::Kind),
+        match self.find_context(o, i) {
+            Some(context) => self.store_near(context, i, x),
+            None => self.store_outside(o, i, x),
         }
     }
 
-    #[tactic(auto, using(crate::proofs::Keeping::near_nothing, crate::proofs::Placed::placed_nothing))]
     fn transfer(
         &mut self,
         n: u32,
@@ -150,11 +140,13 @@ impl<'a, M: Memory> Objects for Near<'a, M> {
         target: Word,
         to: u32,
     ) -> Result<(), Dead> {
-        let done = transfer_live_fields(self.memory, n, source, from, target, to);
-        if done.is_err() {
-            self.known = Known::NONE;
+        if n == 1 {
+            return self.transfer_field(source, from, target, to);
         }
-        done
+        if n == 2 && from < 65536 && to < 65536 {
+            return self.transfer_pair(source, from, target, to);
+        }
+        self.transfer_elsewhere(n, source, from, target, to)
     }
 
     #[tactic(auto, using(crate::proofs::Keeping::near_nothing, crate::proofs::Placed::placed_nothing))]
@@ -165,13 +157,16 @@ impl<'a, M: Memory> Objects for Near<'a, M> {
 
     #[tactic(auto, using(crate::proofs::Keeping::near_nothing, crate::proofs::Placed::placed_nothing))]
     fn make(&mut self, class: Word, kind: Kind, size: u32, literals: u32) -> Result<Word, Dead> {
-        let made = Objects::make(self.memory, class, kind, size, literals);
-        if made.is_err() {
-            self.known = Known::NONE;
-            return made;
+        match Objects::make(self.memory, class, kind, size, literals) {
+            Ok(made) => {
+                self.known = look_after_make(self.memory, self.known, made);
+                Ok(made)
+            }
+            Err(cause) => {
+                self.known = Known::NONE;
+                Err(cause)
+            }
         }
-        self.known = look_at_places(self.memory, self.known);
-        made
     }
 
     #[tactic(auto, unfolding(st_model::specs::Steps::new_object))]

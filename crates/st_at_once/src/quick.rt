@@ -31,10 +31,17 @@ pub fn step_from<M: Memory>(
     ensures same_memory { near.new.memory.ghost_name ≡ near.old.memory.ghost_name }
 {
     let end = row_at_once(near, r, left)?;
-    if end.was_done() {
-        near.hold_again(f, r, end);
+    match end {
+        RowEnd::ToForesee => Ok(RowEnd::ToForesee),
+        RowEnd::Stays => {
+            near.stay(f, r);
+            Ok(RowEnd::Stays)
+        }
+        RowEnd::Done | RowEnd::Leaves => {
+            near.hold_moved(f, r);
+            Ok(end)
+        }
     }
-    Ok(end)
 }
 
 /// Does the next bytecode at once, and what it leaves to be done, or answers that it is to be foreseen, and then nothing is

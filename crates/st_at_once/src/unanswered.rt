@@ -1,6 +1,5 @@
 ghost use Rattle.std.specs.Prelude.{◌≡◌, ◌<◌, ◌≤◌, Ok, Some};
-ghost use Rattle.st_model.specs.Values.{word};
-ghost use Rattle.st_model.specs.Calls.{itself};
+ghost use Rattle.st_model.specs.{Values.word, Calls.itself};
 ghost use Rattle.st_control.specs.AtOnce.{IsStill};
 ghost use Rattle.st_frames.specs.Rows.{RowReads, RowDoes, Takes};
 ghost use Rattle.st_at_once.specs.AtOnce.{changes_at_once, message_space, enter_with_message, with_message_at_once, call_not_understood_at_once, not_understood_at_once};

@@ -2,18 +2,13 @@
 
 ghost use Rattle.std.specs.Prelude.{◌≡◌, ◌<◌, ◌≤◌, ◌+◌, ◌*◌, Some, true, false, IfSome, IfNone, drop, length, slice_get, take};
 ghost use Rattle.std.specs.List.{list_any};
-ghost use Rattle.st_model.specs.Values.{value};
-ghost use Rattle.st_model.specs.Text.{numbers_text};
-ghost use Rattle.st_model.specs.View.{object_of};
+ghost use Rattle.st_model.specs.{Values.value, Text.numbers_text, View.object_of};
 ghost use Rattle.st_call.specs.Saying.{Pushes};
-ghost use Rattle.st_browse.specs.Cutting.{code_length, codes_of};
-ghost use Rattle.st_browse.specs.Methods.{has_method};
-ghost use Rattle.st_browse.specs.Replies.{code_line, codes_text};
-ghost use Rattle.st_browse.specs.Senders.{is_special};
-ghost use Rattle.st_browse.specs.Entries.{IsBody};
+ghost use Rattle.st_browse.specs.{Cutting.{code_length, codes_of}, Methods.has_method};
+ghost use Rattle.st_browse.specs.{Replies.{code_line, codes_text}, Senders.is_special, Entries.IsBody};
 
-use st_call::{Output, push_number};
-use st_host::{Host, SayFault};
+use st_call::{Output, Pushed, push_number};
+use st_host::Host;
 use st_memory::{Memory, count_fields, count_units, unit_at};
 use st_model::{Kind, Oop};
 
@@ -120,7 +115,7 @@ fn push_units<H: Host, M: Memory>(
     body: Body,
     from: u32,
     count: u32,
-) -> Result<(), SayFault>
+) -> Pushed
     requires body { IsBody (M.view m.now).objects body }
     requires end { from + count ≤ body.units }
     ensures { let units = (object_of (M.view m.now).objects (value body.method)).units in
@@ -141,7 +136,7 @@ fn push_code<H: Host, M: Memory>(
     body: Body,
     at: u32,
     length: u32,
-) -> Result<(), SayFault>
+) -> Pushed
     requires body { IsBody (M.view m.now).objects body }
     requires place { at ≤ body.units }
     ensures { let units = (object_of (M.view m.now).objects (value body.method)).units in
@@ -155,12 +150,7 @@ fn push_code<H: Host, M: Memory>(
 }
 
 /// Adds the lines of a method's bytecodes. Places count its header and literals too.
-pub fn push_codes<H: Host, M: Memory>(
-    out: &mut Output,
-    host: &mut H,
-    m: &M,
-    body: Body,
-) -> Result<(), SayFault>
+pub fn push_codes<H: Host, M: Memory>(out: &mut Output, host: &mut H, m: &M, body: Body) -> Pushed
     requires { IsBody (M.view m.now).objects body }
     ensures { let units = (object_of (M.view m.now).objects (value body.method)).units in
         let text = codes_text (2 * body.fields + 1) (codes_of units) in

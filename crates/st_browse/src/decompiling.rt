@@ -1,15 +1,12 @@
 //! The text of a method of which none is kept.
 
 ghost use Rattle.std.specs.Prelude.{◌≡◌, true, IfOk, option_map};
-ghost use Rattle.st_model.specs.Values.{value};
-ghost use Rattle.st_model.specs.View.{is_live};
+ghost use Rattle.st_model.specs.{Values.value, View.is_live};
 ghost use Rattle.st_emit.specs.NameViews.{names_view};
 ghost use Rattle.st_scope.specs.Findings.{text_of};
-ghost use Rattle.st_parts.specs.Parts.{parts_at};
-ghost use Rattle.st_parts.specs.Places.{place_of};
+ghost use Rattle.st_parts.specs.{Parts.parts_at, Places.place_of};
 ghost use Rattle.st_chunk.specs.Asks.{side_of};
-ghost use Rattle.st_browse.specs.Decompiling.{IsMade, IsTextOfParts};
-ghost use Rattle.st_browse.specs.Placing.{AreNamesIf, IsCompiled};
+ghost use Rattle.st_browse.specs.{Decompiling.{IsMade, IsTextOfParts}, Placing.{AreNamesIf, IsCompiled}};
 
 use crate::sought::find_compiled;
 use st_chunk::Side;

@@ -2,18 +2,15 @@
 
 ghost use Rattle.std.specs.Prelude.{◌≡◌, ◌<◌, ◌≤◌, ◌+◌, ◌*◌, IfSome, drop, length, option_and_then, option_map, take};
 ghost use Rattle.std.specs.List.{flat_map};
-ghost use Rattle.st_model.specs.Values.{value};
-ghost use Rattle.st_model.specs.BitBlt.{fetch_positive, fetch_words};
-ghost use Rattle.st_model.specs.Pixels.{row_words};
-ghost use Rattle.st_model.specs.Table.{table};
-ghost use Rattle.st_model.specs.Text.{hexadecimal};
+ghost use Rattle.st_model.specs.{Values.value, BitBlt.{fetch_positive, fetch_words}, Pixels.row_words};
+ghost use Rattle.st_model.specs.{Table.table, Text.hexadecimal};
 ghost use Rattle.st_call.specs.Saying.{Pushes};
 ghost use Rattle.st_browse.specs.Display.{answer_in, form_at, form_text, if_held, row_line, row_of, rows_text, word_text};
 ghost use Rattle.st_browse.specs.Shown.{HasWords, IsForm, form_in, words_in};
 
 use crate::fields::field_at;
-use st_call::{Output, push_line};
-use st_host::{Host, SayFault};
+use st_call::{Output, Pushed, push_line};
+use st_host::Host;
 use st_memory::Memory;
 use st_model::{Kind, Oop, RootPlace};
 
@@ -119,7 +116,7 @@ fn hexadecimal(digit: u16) -> u8
 }
 
 /// Adds a word as four digits.
-fn push_word<H: Host>(out: &mut Output, host: &mut H, word: u16) -> Result<(), SayFault>
+fn push_word<H: Host>(out: &mut Output, host: &mut H, word: u16) -> Pushed
     ensures { Pushes H.Host.own (word_text word) host.old host.new out.old out.new result }
 {
     let digits = [
@@ -139,7 +136,7 @@ fn push_words<H: Host, M: Memory>(
     o: Oop,
     from: u32,
     count: u32,
-) -> Result<(), SayFault>
+) -> Pushed
     requires words { HasWords (M.view m.now).objects (value o) }
     requires end { from + count ≤ length (words_in (M.view m.now).objects (value o)) }
     ensures { let words = words_in (M.view m.now).objects (value o) in
@@ -153,13 +150,7 @@ fn push_words<H: Host, M: Memory>(
 }
 
 /// Adds the line of row y of a Form, counted from 0 from the top.
-fn push_row<H: Host, M: Memory>(
-    out: &mut Output,
-    host: &mut H,
-    m: &M,
-    form: Form,
-    y: u32,
-) -> Result<(), SayFault>
+fn push_row<H: Host, M: Memory>(out: &mut Output, host: &mut H, m: &M, form: Form, y: u32) -> Pushed
     requires form { IsForm (M.view m.now).objects form }
     requires row { y < form.height }
     ensures { let text = row_line (row_of (form_in (M.view m.now).objects form) y) in
@@ -172,12 +163,7 @@ fn push_row<H: Host, M: Memory>(
 }
 
 /// Adds the lines of a Form's rows, from the top.
-fn push_rows<H: Host, M: Memory>(
-    out: &mut Output,
-    host: &mut H,
-    m: &M,
-    form: Form,
-) -> Result<(), SayFault>
+fn push_rows<H: Host, M: Memory>(out: &mut Output, host: &mut H, m: &M, form: Form) -> Pushed
     requires { IsForm (M.view m.now).objects form }
     ensures { let text = rows_text (form_in (M.view m.now).objects form) in
         Pushes H.Host.own text host.old host.new out.old out.new result }
@@ -189,12 +175,7 @@ fn push_rows<H: Host, M: Memory>(
 }
 
 /// Adds the lines of a Form: its width and height, and its rows from the top.
-pub fn push_form<H: Host, M: Memory>(
-    out: &mut Output,
-    host: &mut H,
-    m: &M,
-    form: Form,
-) -> Result<(), SayFault>
+pub fn push_form<H: Host, M: Memory>(out: &mut Output, host: &mut H, m: &M, form: Form) -> Pushed
     requires { IsForm (M.view m.now).objects form }
     ensures { let text = form_text (form_in (M.view m.now).objects form) in
         Pushes H.Host.own text host.old host.new out.old out.new result }

@@ -3,12 +3,11 @@
 ghost use Rattle.std.specs.Prelude.{◌≡◌};
 ghost use Rattle.st_model.specs.Values.{value};
 ghost use Rattle.st_call.specs.Saying.{Pushes};
-ghost use Rattle.st_browse.specs.Listing.{line_text};
-ghost use Rattle.st_browse.specs.Replies.{name_line, sender_line, side_text};
+ghost use Rattle.st_browse.specs.{Listing.line_text, Replies.{name_line, sender_line, side_text}};
 ghost use Rattle.st_browse.specs.Entries.{IsLine, IsName, name_of};
 
-use st_call::{Output, push_bytes};
-use st_host::{Host, SayFault};
+use st_call::{Output, Pushed, push_bytes};
+use st_host::Host;
 use st_memory::Memory;
 use st_model::Oop;
 
@@ -31,7 +30,7 @@ fn push_name_line<H: Host, M: Memory>(
     m: &M,
     word: &[u8],
     name: Oop,
-) -> Result<(), SayFault>
+) -> Pushed
     requires { IsName (M.view m.now).objects (value name) }
     ensures { let text = name_line word.now (name_of (M.view m.now).objects name) in
         Pushes H.Host.own text host.old host.new out.old out.new result }
@@ -56,7 +55,7 @@ fn push_sender_line<H: Host, M: Memory>(
     class: Oop,
     meta: bool,
     selector: Oop,
-) -> Result<(), SayFault>
+) -> Pushed
     requires class { IsName (M.view m.now).objects (value class) }
     requires selector { IsName (M.view m.now).objects (value selector) }
     ensures { let t = (M.view m.now).objects in
@@ -78,7 +77,7 @@ pub fn push_line_of<H: Host, M: Memory>(
     m: &M,
     line: Line,
     name: Oop,
-) -> Result<(), SayFault>
+) -> Pushed
     requires class { IsLine (M.view m.now).objects line }
     requires name { IsName (M.view m.now).objects (value name) }
     ensures { let t = (M.view m.now).objects in

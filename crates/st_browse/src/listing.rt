@@ -1,7 +1,6 @@
 //! Names one after the other, in the order of their bytes: how many there are, and a line for each.
 
-ghost use Rattle.std.specs.Prelude.{◌≡◌, ◌≤◌, ◌∷◌, [], length};
-ghost use Rattle.std.specs.List.{filter};
+ghost use Rattle.std.specs.{Prelude.{◌≡◌, ◌≤◌, ◌∷◌, [], length}, List.filter};
 ghost use Rattle.st_model.specs.Values.{value};
 ghost use Rattle.st_call.specs.Saying.{Pushes};
 ghost use Rattle.st_browse.specs.Listing.{is_chosen, lines_text, listed};
@@ -14,8 +13,8 @@ use crate::named::Named;
 use crate::names::Names;
 use crate::places::next_name;
 use crate::sending::sends;
-use st_call::Output;
-use st_host::{Host, SayFault};
+use st_call::{Output, Pushed};
+use st_host::Host;
 use st_memory::Memory;
 
 /// Whether a name is chosen.
@@ -63,7 +62,7 @@ fn push_chosen<H: Host, M: Memory>(
     choice: Choice<'_>,
     line: Line,
     n: Named,
-) -> Result<(), SayFault>
+) -> Pushed
     requires name { IsName (M.view m.now).objects (value n.name) }
     requires class { IsLine (M.view m.now).objects line }
     ensures { let t = (M.view m.now).objects in
@@ -85,7 +84,7 @@ pub fn push_listed<H: Host, M: Memory>(
     names: Names,
     choice: Choice<'_>,
     line: Line,
-) -> Result<(), SayFault>
+) -> Pushed
     requires few { count_of names ≤ 131066 }
     requires class { IsLine (M.view m.now).objects line }
     ensures { let t = (M.view m.now).objects in

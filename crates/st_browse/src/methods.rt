@@ -2,8 +2,7 @@
 
 ghost use Rattle.std.specs.Prelude.{◌≡◌, ◌≤◌, IfSome, option_and_then};
 ghost use Rattle.st_model.specs.Values.{value};
-ghost use Rattle.st_scope.specs.Shapes.{is_power_of_two};
-ghost use Rattle.st_scope.specs.Texts.{found};
+ghost use Rattle.st_scope.specs.{Shapes.is_power_of_two, Texts.found};
 ghost use Rattle.st_browse.specs.Fields.{field_at};
 ghost use Rattle.st_browse.specs.Methods.{as_dictionary, dictionary_of, if_method, method_at, methods_in};
 ghost use Rattle.st_browse.specs.Entries.{IsName, count_of, dictionary_if, dictionary_read, named_if, names_in};

@@ -2,23 +2,16 @@
 
 ghost use Rattle.std.specs.Prelude.{◌≡◌, ◌≤◌, ◌++◌, ℕ, List, Option, option_map, length, OnOk, IfErr, IsErrOf};
 ghost use Rattle.std.specs.List.{filter};
-ghost use Rattle.st_model.specs.Values.{value};
-ghost use Rattle.st_model.specs.View.{object_of};
-ghost use Rattle.st_host.specs.Counts.{HasCause};
-ghost use Rattle.st_host.specs.Runs.{SaysAll};
-ghost use Rattle.st_host.specs.Telling.{Says};
+ghost use Rattle.st_model.specs.{Values.value, View.object_of};
+ghost use Rattle.st_host.specs.{Counts.HasCause, Runs.SaysAll, Telling.Says};
 ghost use Rattle.st_call.specs.Saying.{Pushes};
 ghost use Rattle.st_chunk.specs.Asks.{Source, ask_of, side_of};
-ghost use Rattle.st_browse.specs.Naming.{in_order};
-ghost use Rattle.st_browse.specs.Classes.{is_class};
-ghost use Rattle.st_browse.specs.Listing.{lines_text, listed};
+ghost use Rattle.st_browse.specs.{Naming.in_order, Classes.is_class, Listing.{lines_text, listed}};
 ghost use Rattle.st_browse.specs.Replies.{bytecodes_text, count_text, senders_text};
-ghost use Rattle.st_browse.specs.Asked.{Answers, IsTextFor, reply};
-ghost use Rattle.st_browse.specs.Questions.{question, side_meant};
+ghost use Rattle.st_browse.specs.{Asked.{Answers, IsTextFor, reply}, Questions.{question, side_meant}};
 ghost use Rattle.st_browse.specs.declared.saying.BrowseFault.TheVariants.{Say};
 ghost use Rattle.st_browse.specs.declared.saying.SourceFault.TheVariants.{OutOfMemory as NoMemory};
-ghost use Rattle.st_browse.specs.Decompiling.{IsMade, IsShown};
-ghost use Rattle.st_browse.specs.SourceFaults.{HasSourceCause};
+ghost use Rattle.st_browse.specs.{Decompiling.{IsMade, IsShown}, SourceFaults.HasSourceCause};
 ghost use Rattle.st_browse.specs.Entries.{IsBody, IsLine, count_of, names_in};
 ghost use Rattle.st_browse.specs.Founds.{IsSought, sought_text};
 
@@ -33,7 +26,7 @@ use crate::names::Names;
 use crate::senders::{count_senders, push_senders};
 use crate::sought::{Sought, seek};
 use crate::source::push_source;
-use st_call::{Output, push_long_line, push_object};
+use st_call::{Output, Pushed, push_long_line, push_object};
 use st_changes::Changes;
 use st_chunk::{Ask as Asked, Side as Lent};
 use st_host::{Host, SayFault};
@@ -49,7 +42,7 @@ fn push_names<H: Host, M: Memory>(
     choice: Choice<'_>,
     line: Line,
     word: &[u8],
-) -> Result<(), SayFault>
+) -> Pushed
     requires few { count_of names ≤ 131066 }
     requires class { IsLine (M.view m.now).objects line }
     ensures { let t = (M.view m.now).objects in let ns = listed t names choice.entry in
@@ -61,12 +54,7 @@ fn push_names<H: Host, M: Memory>(
 }
 
 /// Adds how many bytecodes a method has, and the line of each.
-fn push_bytecodes<H: Host, M: Memory>(
-    out: &mut Output,
-    host: &mut H,
-    m: &M,
-    body: Body,
-) -> Result<(), SayFault>
+fn push_bytecodes<H: Host, M: Memory>(out: &mut Output, host: &mut H, m: &M, body: Body) -> Pushed
     requires { IsBody (M.view m.now).objects body }
     ensures { let text = bytecodes_text (object_of (M.view m.now).objects (value body.method)) in
         Pushes H.Host.own text host.old host.new out.old out.new result }
@@ -82,7 +70,7 @@ fn push_all_senders<H: Host, M: Memory>(
     m: &M,
     globals: Names,
     selector: &[u8],
-) -> Result<(), SayFault>
+) -> Pushed
     requires { count_of globals ≤ 131066 }
     ensures { let t = (M.view m.now).objects in
         let classes = filter (is_class t) (in_order (names_in t globals)) in
@@ -98,7 +86,7 @@ fn push_sought<H: Host, M: Memory>(
     host: &mut H,
     m: &M,
     sought: Sought<'_>,
-) -> Result<(), SayFault>
+) -> Pushed
     requires { IsSought (M.view m.now).objects sought }
     ensures { let text = sought_text (M.view m.now).objects sought.entry in
         Pushes H.Host.own text host.old host.new out.old out.new result }
@@ -127,7 +115,7 @@ fn push_sought<H: Host, M: Memory>(
 }
 
 /// Says what was found.
-fn say_sought<H: Host, M: Memory>(m: &M, sought: Sought<'_>, host: &mut H) -> Result<(), SayFault>
+fn say_sought<H: Host, M: Memory>(m: &M, sought: Sought<'_>, host: &mut H) -> Pushed
     requires { IsSought (M.view m.now).objects sought }
     ensures all { let text = sought_text (M.view m.now).objects sought.entry in
         OnOk result (SaysAll H.Host.own text host.old host.new) }

@@ -1,13 +1,9 @@
 //! The senders of a selector in all classes.
 
-ghost use Rattle.std.specs.Prelude.{◌≡◌, ◌≤◌, ◌+◌, ◌∷◌, [], true, length, sum_by};
-ghost use Rattle.std.specs.List.{filter, flat_map};
-ghost use Rattle.st_model.specs.Values.{value};
-ghost use Rattle.st_model.specs.View.{is_live};
+ghost use Rattle.std.specs.{Prelude.{◌≡◌, ◌≤◌, ◌+◌, ◌∷◌, [], true, length, sum_by}, List.{filter, flat_map}};
+ghost use Rattle.st_model.specs.{Values.value, View.is_live};
 ghost use Rattle.st_call.specs.Saying.{Pushes};
-ghost use Rattle.st_browse.specs.Naming.{in_order};
-ghost use Rattle.st_browse.specs.Classes.{is_class, on_side};
-ghost use Rattle.st_browse.specs.Senders.{senders};
+ghost use Rattle.st_browse.specs.{Naming.in_order, Classes.{is_class, on_side}, Senders.senders};
 ghost use Rattle.st_browse.specs.Replies.{both_lines, senders_count, senders_lines};
 ghost use Rattle.st_browse.specs.Entries.{IsName, count_of, named_of, names_in};
 
@@ -19,8 +15,8 @@ use crate::methods::methods_of;
 use crate::named::Named;
 use crate::names::Names;
 use crate::places::next_name;
-use st_call::Output;
-use st_host::{Host, SayFault};
+use st_call::{Output, Pushed};
+use st_host::Host;
 use st_memory::Memory;
 use st_model::Oop;
 
@@ -76,7 +72,7 @@ fn push_side<H: Host, M: Memory>(
     class: Named,
     meta: bool,
     selector: &[u8],
-) -> Result<(), SayFault>
+) -> Pushed
     requires name { IsName (M.view m.now).objects (value class.name) }
     requires live { is_live (M.view m.now).objects (value class.value) ≡ true }
     ensures { let t = (M.view m.now).objects in
@@ -95,7 +91,7 @@ fn push_both<H: Host, M: Memory>(
     m: &M,
     class: Named,
     selector: &[u8],
-) -> Result<(), SayFault>
+) -> Pushed
     requires name { IsName (M.view m.now).objects (value class.name) }
     requires live { is_live (M.view m.now).objects (value class.value) ≡ true }
     ensures { let t = (M.view m.now).objects in
@@ -113,7 +109,7 @@ fn push_class<H: Host, M: Memory>(
     m: &M,
     n: Named,
     selector: &[u8],
-) -> Result<(), SayFault>
+) -> Pushed
     requires { IsName (M.view m.now).objects (value n.name) }
     ensures { let t = (M.view m.now).objects in
         let classes = filter (is_class t) (named_of t n ∷ []) in
@@ -134,7 +130,7 @@ pub fn push_senders<H: Host, M: Memory>(
     m: &M,
     globals: Names,
     selector: &[u8],
-) -> Result<(), SayFault>
+) -> Pushed
     requires { count_of globals ≤ 131066 }
     ensures { let t = (M.view m.now).objects in
         let classes = filter (is_class t) (in_order (names_in t globals)) in

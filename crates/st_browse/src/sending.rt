@@ -1,11 +1,8 @@
 //! Whether a method sends a selector.
 
-ghost use Rattle.std.specs.Prelude.{◌≡◌, ◌||◌, drop};
-ghost use Rattle.std.specs.List.{list_any};
-ghost use Rattle.st_model.specs.Values.{value};
-ghost use Rattle.st_model.specs.View.{object_of};
-ghost use Rattle.st_browse.specs.Senders.{is_sent, is_symbol, sends};
-ghost use Rattle.st_browse.specs.Entries.{IsBody};
+ghost use Rattle.std.specs.{Prelude.{◌≡◌, ◌||◌, drop}, List.list_any};
+ghost use Rattle.st_model.specs.{Values.value, View.object_of};
+ghost use Rattle.st_browse.specs.{Senders.{is_sent, is_symbol, sends}, Entries.IsBody};
 
 use crate::codes::{Body, body_of, has_special};
 use st_emit::special_selector;

@@ -4,13 +4,10 @@ ghost use Rattle.std.specs.Prelude.{◌≡◌, IfSome, option_and_then, option_m
 ghost use Rattle.st_model.specs.Values.{value};
 ghost use Rattle.st_scope.specs.Texts.{found};
 ghost use Rattle.st_chunk.specs.Asks.{ask_of, side_of};
-ghost use Rattle.st_browse.specs.Display.{display_reply};
-ghost use Rattle.st_browse.specs.Replies.{methods_text, object_reply};
+ghost use Rattle.st_browse.specs.{Display.display_reply, Replies.{methods_text, object_reply}};
 ghost use Rattle.st_browse.specs.Asked.{bytecodes_in, class_of_side, method_in, method_of_side, reply, source_in};
-ghost use Rattle.st_browse.specs.Entries.{IsBody};
-ghost use Rattle.st_browse.specs.Founds.{IsSought, body_text, sought_text};
-ghost use Rattle.st_browse.specs.Decompiling.{method_place};
-ghost use Rattle.st_browse.specs.Placing.{IsCompiled, place_if};
+ghost use Rattle.st_browse.specs.{Entries.IsBody, Founds.{IsSought, body_text, sought_text}};
+ghost use Rattle.st_browse.specs.{Decompiling.method_place, Placing.{IsCompiled, place_if}};
 
 use crate::classes::{globals, is_class, on_side};
 use crate::codes::{Body, body_of};

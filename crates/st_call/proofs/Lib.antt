@@ -1,4 +1,3 @@
-pub mod Digits
 pub mod Saying
 mod Spoken
 pub mod Started

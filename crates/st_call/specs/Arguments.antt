@@ -1,8 +1,9 @@
 -- The words behind a command: its operands, and its options with their values.
-use Rattle.std.specs.Prelude.{ℕ, ◌+◌, ◌*◌, ◌-◌, ◌==◌, Bool, true, false, ◌&&◌, nat_eq, nat_le, List, [], ◌∷◌, ◌++◌, length, codes, Option, Some, None, option_and_then, if◌then◌else◌}
+use Rattle.std.specs.Prelude.{ℕ, ◌==◌, Bool, true, false, ◌&&◌, nat_eq, nat_le, List, [], ◌∷◌, ◌++◌, length, codes, Option, Some, None, option_and_then, if◌then◌else◌}
 use Rattle.std.specs.List.{position_or_len, before_first, after_first}
 use Rattle.std.specs.Cmp.Lexicographic.{pointwise}
 use Rattle.st_image.specs.declared.head.HeadValues.{HeadValues}
+use Rattle.st_chunk.specs.Lines.{number}
 use Rattle.st_call.specs.declared.arguments.Next.{Next}
 use Rattle.st_call.specs.declared.arguments.Next.TheVariants.{Any, ValueOf, Operand}
 use Rattle.st_call.specs.declared.arguments.Setting.{Setting}
@@ -12,22 +13,6 @@ use Rattle.st_image.specs.HeadValues.{no_values}
 -- the word is this one
 abbrev pub spells : List ℕ → List ℕ → Bool
 spells w v = pointwise nat_eq w v
-
--- NUMBERS
-
--- the number that n goes on to with these decimal digits
-abbrev pub digits_after : ℕ → List ℕ → Option ℕ
-digits_after n [] = Some n
-digits_after n (b ∷ bs) = if nat_le 48 b && nat_le b 57 then digits_after (10 * n + (b - 48)) bs else None
-
-abbrev pub at_most : ℕ → Option ℕ → Option ℕ
-at_most most None = None
-at_most most (Some n) = if nat_le n most then Some n else None
-
--- a number has 1 to 10 decimal digits, and is at most this
-unfoldable pub number_said : ℕ → List ℕ → Option ℕ
-number_said most w =
-    if nat_le 1 (length w) && nat_le (length w) 10 then at_most most (digits_after 0 w) else None
 
 -- OPTIONS
 
@@ -73,7 +58,7 @@ valued a s (Some m) n = None
 
 -- an option has one value, a number of 32 bits
 abbrev pub with_setting : Arguments → List ℕ → Setting → Option Arguments
-with_setting a w s = valued a s (value_of s a.options) (number_said 4294967295 w)
+with_setting a w s = valued a s (value_of s a.options) (number 4294967295 w)
 
 abbrev pub awaits : Arguments → Setting → Option Arguments
 awaits a s = Some (record a { next = ValueOf s })

@@ -2,7 +2,8 @@
 -- condense STORE, session STORE, build KERNEL STORE, and drill N.
 use Rattle.std.specs.Prelude.{ℕ, Bool, ◌||◌, List, [], ◌∷◌, codes, Option, Some, None, is_some, option_map, option_and_then, if◌then◌else◌}
 use Rattle.st_image.specs.declared.head.HeadValues.{HeadValues}
-use Rattle.st_call.specs.Arguments.{Arguments, arguments_of, spells, number_said}
+use Rattle.st_chunk.specs.Lines.{number}
+use Rattle.st_call.specs.Arguments.{Arguments, arguments_of, spells}
 
 -- a command, with the names of an image, a kernel text and a store
 pub data Command : Type 0 where
@@ -17,7 +18,7 @@ pub data Command : Type 0 where
 
 -- an image, and a number of cycles of at most 1,000,000,000
 abbrev pub once_of : List (List ℕ) → Option Command
-once_of (image ∷ n ∷ []) = option_map (Once image) (number_said 1000000000 n)
+once_of (image ∷ n ∷ []) = option_map (Once image) (number 1000000000 n)
 once_of operands = None
 
 abbrev pub import_of : HeadValues → List (List ℕ) → Option Command
@@ -46,7 +47,7 @@ build_of operands = None
 
 -- a number of at most 1,000,000,000
 abbrev pub drill_of : List (List ℕ) → Option Command
-drill_of (n ∷ []) = option_map Drill (number_said 1000000000 n)
+drill_of (n ∷ []) = option_map Drill (number 1000000000 n)
 drill_of operands = None
 
 abbrev pub has_values : HeadValues → Bool

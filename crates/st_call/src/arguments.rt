@@ -1,10 +1,11 @@
 // The words behind a command: its operands, and its options with their values.
 ghost use Rattle.std.specs.Prelude.{◌≡◌, ◌≤◌, ◌^◌, map, option_map};
 ghost use Rattle.std.specs.String.{string_bytes};
-ghost use Rattle.st_call.specs.Arguments.{number_said, setting_named, value_of, with_value, is_option};
+ghost use Rattle.st_call.specs.Arguments.{setting_named, value_of, with_value, is_option};
 ghost use Rattle.st_call.specs.Arguments.{with_operand, with_setting, with_option, with_any, with_next, arguments_of};
 ghost use Rattle.st_call.specs.CommandViews.{operands_view, arguments_view};
 
+use st_chunk::read_number;
 use st_image::HeadValues;
 
 /// An option, which gives a value in place of one in an image's head.
@@ -49,28 +50,6 @@ const NO_ARGUMENTS: Arguments<'static> = Arguments {
     options: HeadValues::NONE,
     next: Next::Any,
 };
-
-/// The number that a word says: 1 to 10 decimal digits, and at most so much.
-#[tactic(auto, using(crate::proofs::Digits::digits), unfolding(crate::specs::Arguments::number_said))]
-pub(crate) fn read_number(word: &[u8], most: u32) -> Option<u32>
-    ensures { result ≡ number_said most word.now }
-{
-    if word.is_empty() || word.len() > 10 {
-        return None;
-    }
-    let most = u64::from(most);
-    let mut n: u64 = 0;
-    for digit in word {
-        if !digit.is_ascii_digit() {
-            return None;
-        }
-        n = 10 * n + u64::from(*digit - b'0');
-        if n > most {
-            return None;
-        }
-    }
-    Some(n as u32)
-}
 
 /// The option of this name.
 fn setting_named(name: &str) -> Option<Setting>
@@ -161,7 +140,7 @@ impl<'a> Arguments<'a> {
         if setting.value_in(self.options).is_some() {
             return None;
         }
-        let value = read_number(word.as_bytes(), u32::MAX)?;
+        let value = read_number(u32::MAX, word.as_bytes())?;
         Some(Arguments {
             options: setting.put_in(value, self.options),
             next: Next::Any,

@@ -1,19 +1,17 @@
 ghost use Rattle.std.specs.Prelude.{◌≡◌, OnOk};
-ghost use Rattle.st_host.specs.Counts.{HasCause};
-ghost use Rattle.st_host.specs.Runs.{ReadsAlike, ReadsAndSays, SaysAll};
-ghost use Rattle.st_host.specs.Telling.{Says};
+ghost use Rattle.st_host.specs.{Counts.HasCause, Runs.{ReadsAlike, ReadsAndSays, SaysAll}, Telling.Says};
 ghost use Rattle.st_call.specs.Saying.{Pushes};
 ghost use Rattle.st_call.specs.LastLines.{fault_line, place_line, store_line, last_line, SaysLastLine};
 
 use crate::lines::{push_line, push_long_line};
-use crate::output::Output;
+use crate::output::{Output, Pushed};
 use st_host::{Host, SayFault};
 use st_model::ImageFault;
 use st_protocol::Status;
 use st_store::{StoreFault, StorePlace};
 
 /// Adds the line of an image's fault: its row, then its pointer, and its second pointer or its index.
-fn push_fault<H: Host>(out: &mut Output, host: &mut H, fault: ImageFault) -> Result<(), SayFault>
+fn push_fault<H: Host>(out: &mut Output, host: &mut H, fault: ImageFault) -> Pushed
     ensures { Pushes H.Host.own (fault_line fault) host.old host.new out.old out.new result }
 {
     match fault {
@@ -31,7 +29,7 @@ fn push_fault<H: Host>(out: &mut Output, host: &mut H, fault: ImageFault) -> Res
 }
 
 /// Adds the line of a place at which a store is damaged.
-fn push_place<H: Host>(out: &mut Output, host: &mut H, place: StorePlace) -> Result<(), SayFault>
+fn push_place<H: Host>(out: &mut Output, host: &mut H, place: StorePlace) -> Pushed
     ensures { Pushes H.Host.own (place_line place) host.old host.new out.old out.new result }
 {
     match place {
@@ -41,7 +39,7 @@ fn push_place<H: Host>(out: &mut Output, host: &mut H, place: StorePlace) -> Res
 }
 
 /// Adds the line of why a store isn't opened or made.
-fn push_store<H: Host>(out: &mut Output, host: &mut H, fault: StoreFault) -> Result<(), SayFault>
+fn push_store<H: Host>(out: &mut Output, host: &mut H, fault: StoreFault) -> Pushed
     ensures { Pushes H.Host.own (store_line fault) host.old host.new out.old out.new result }
 {
     match fault {
@@ -54,7 +52,7 @@ fn push_store<H: Host>(out: &mut Output, host: &mut H, fault: StoreFault) -> Res
 }
 
 /// Adds the last line of a status, where it has one.
-fn push_last_line<H: Host>(out: &mut Output, host: &mut H, status: Status) -> Result<(), SayFault>
+fn push_last_line<H: Host>(out: &mut Output, host: &mut H, status: Status) -> Pushed
     ensures { Pushes H.Host.own (last_line status) host.old host.new out.old out.new result }
 {
     match status {
@@ -74,7 +72,7 @@ fn push_last_line<H: Host>(out: &mut Output, host: &mut H, status: Status) -> Re
 }
 
 /// Says the last line of a status, where it has one.
-fn say_last_line<H: Host>(host: &mut H, status: Status) -> Result<(), SayFault>
+fn say_last_line<H: Host>(host: &mut H, status: Status) -> Pushed
     ensures all { OnOk result (SaysAll H.Host.own (last_line status) host.old host.new) }
     ensures says { Says H.Host.own (last_line status) host.old host.new }
     ensures cause { HasCause (H.say_faults host.old) (H.say_faults host.new) result }

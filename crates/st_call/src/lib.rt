@@ -24,7 +24,7 @@ pub use image_refusal::ImageRefusal;
 pub use last_line::refuse;
 pub use lines::{push_line, push_long_line, push_values, push_values_line};
 pub use objects::{push_object, push_objects};
-pub use output::Output;
+pub use output::{Output, Pushed};
 pub use replies::{Reply, finish, push_why, say_reply};
 pub use report_words::{push_integer, push_number};
 pub use said::{push_bytes, push_escaped, say_at_once};

@@ -3,13 +3,13 @@ ghost use Rattle.st_model.specs.Values.{value};
 ghost use Rattle.st_model.specs.Text.{values_text, numbers_text};
 ghost use Rattle.st_call.specs.Saying.{Pushes};
 
-use crate::Output;
+use crate::output::{Output, Pushed};
 use crate::report_words::{push_long_number, push_number, push_value};
-use st_host::{Host, SayFault};
+use st_host::Host;
 use st_model::Oop;
 
 /// Adds each of the values after a space.
-pub fn push_values<H: Host>(out: &mut Output, host: &mut H, values: &[Oop]) -> Result<(), SayFault>
+pub fn push_values<H: Host>(out: &mut Output, host: &mut H, values: &[Oop]) -> Pushed
     ensures { let text = values_text (map value values.now) in
         Pushes H.Host.own text host.old host.new out.old out.new result }
 {
@@ -20,7 +20,7 @@ pub fn push_values<H: Host>(out: &mut Output, host: &mut H, values: &[Oop]) -> R
 }
 
 /// Adds each of the numbers after a space.
-fn push_numbers<H: Host>(out: &mut Output, host: &mut H, numbers: &[u32]) -> Result<(), SayFault>
+fn push_numbers<H: Host>(out: &mut Output, host: &mut H, numbers: &[u32]) -> Pushed
     ensures { Pushes H.Host.own (numbers_text numbers.now) host.old host.new out.old out.new result }
 {
     for n in numbers {
@@ -35,7 +35,7 @@ pub fn push_values_line<H: Host>(
     host: &mut H,
     word: &[u8],
     values: &[Oop],
-) -> Result<(), SayFault>
+) -> Pushed
     ensures { let text = word.now ++ (values_text (map value values.now) ++ codes "\n") in
         Pushes H.Host.own text host.old host.new out.old out.new result }
 {
@@ -45,12 +45,7 @@ pub fn push_values_line<H: Host>(
 }
 
 /// Adds a line of a word and numbers.
-pub fn push_line<H: Host>(
-    out: &mut Output,
-    host: &mut H,
-    word: &[u8],
-    numbers: &[u32],
-) -> Result<(), SayFault>
+pub fn push_line<H: Host>(out: &mut Output, host: &mut H, word: &[u8], numbers: &[u32]) -> Pushed
     ensures { let text = word.now ++ (numbers_text numbers.now ++ codes "\n") in
         Pushes H.Host.own text host.old host.new out.old out.new result }
 {
@@ -60,12 +55,7 @@ pub fn push_line<H: Host>(
 }
 
 /// Adds a line of a word and a number of up to 64 bits.
-pub fn push_long_line<H: Host>(
-    out: &mut Output,
-    host: &mut H,
-    word: &[u8],
-    number: u64,
-) -> Result<(), SayFault>
+pub fn push_long_line<H: Host>(out: &mut Output, host: &mut H, word: &[u8], number: u64) -> Pushed
     ensures { let text = word.now ++ ((codes " " ++ decimal number) ++ codes "\n") in
         Pushes H.Host.own text host.old host.new out.old out.new result }
 {

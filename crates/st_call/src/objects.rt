@@ -1,13 +1,12 @@
 ghost use Rattle.std.specs.Prelude.{◌≡◌, ◌/◌, ◌++◌, codes, length, true};
-ghost use Rattle.st_model.specs.Values.{value};
-ghost use Rattle.st_model.specs.View.{is_live, object_of};
+ghost use Rattle.st_model.specs.{Values.value, View.{is_live, object_of}};
 ghost use Rattle.st_model.specs.Text.{values_text, numbers_text, kind_text, colon_text};
 ghost use Rattle.st_model.specs.Text.{heading_text, object_head, object_body, object_text, objects_text};
 ghost use Rattle.st_call.specs.Saying.{Pushes};
 
-use crate::Output;
+use crate::output::{Output, Pushed};
 use crate::report_words::{push_number, push_value};
-use st_host::{Host, SayFault};
+use st_host::Host;
 use st_memory::{Memory, count_fields, count_units, unit_at};
 use st_model::{Kind, Oop};
 
@@ -18,7 +17,7 @@ fn push_fields<H: Host, M: Memory>(
     m: &M,
     o: Oop,
     fields: u32,
-) -> Result<(), SayFault>
+) -> Pushed
     requires live { is_live (M.view m.now).objects (value o) ≡ true }
     requires fields { fields ≡ length (object_of (M.view m.now).objects (value o)).fields }
     ensures { let text = values_text (object_of (M.view m.now).objects (value o)).fields in
@@ -38,7 +37,7 @@ fn push_units<H: Host, M: Memory>(
     m: &M,
     o: Oop,
     fields: u32,
-) -> Result<(), SayFault>
+) -> Pushed
     requires live { is_live (M.view m.now).objects (value o) ≡ true }
     requires fields { fields ≡ length (object_of (M.view m.now).objects (value o)).fields }
     ensures { let text = numbers_text (object_of (M.view m.now).objects (value o)).units in
@@ -80,7 +79,7 @@ fn push_heading<H: Host>(
     pointer: u32,
     class: Oop,
     letter: &[u8],
-) -> Result<(), SayFault>
+) -> Pushed
     ensures { let text = heading_text pointer (value class) letter.now in
         Pushes H.Host.own text host.old host.new out.old out.new result }
 {
@@ -91,12 +90,7 @@ fn push_heading<H: Host>(
 }
 
 /// Adds the pointer of an object, its class and its kind.
-fn push_head<H: Host, M: Memory>(
-    out: &mut Output,
-    host: &mut H,
-    m: &M,
-    o: Oop,
-) -> Result<(), SayFault>
+fn push_head<H: Host, M: Memory>(out: &mut Output, host: &mut H, m: &M, o: Oop) -> Pushed
     requires { is_live (M.view m.now).objects (value o) ≡ true }
     ensures { let text = object_head (o.0 / 2) (object_of (M.view m.now).objects (value o)) in
         Pushes H.Host.own text host.old host.new out.old out.new result }
@@ -111,12 +105,7 @@ fn push_head<H: Host, M: Memory>(
 }
 
 /// Adds the fields of an object, its words or bytes, and the line's end.
-fn push_body<H: Host, M: Memory>(
-    out: &mut Output,
-    host: &mut H,
-    m: &M,
-    o: Oop,
-) -> Result<(), SayFault>
+fn push_body<H: Host, M: Memory>(out: &mut Output, host: &mut H, m: &M, o: Oop) -> Pushed
     requires { is_live (M.view m.now).objects (value o) ≡ true }
     ensures { let text = object_body (object_of (M.view m.now).objects (value o)) in
         Pushes H.Host.own text host.old host.new out.old out.new result }
@@ -129,12 +118,7 @@ fn push_body<H: Host, M: Memory>(
 }
 
 /// Adds the line of an object.
-pub fn push_object<H: Host, M: Memory>(
-    out: &mut Output,
-    host: &mut H,
-    m: &M,
-    o: Oop,
-) -> Result<(), SayFault>
+pub fn push_object<H: Host, M: Memory>(out: &mut Output, host: &mut H, m: &M, o: Oop) -> Pushed
     requires { is_live (M.view m.now).objects (value o) ≡ true }
     ensures { let text = object_text (o.0 / 2) (object_of (M.view m.now).objects (value o)) in
         Pushes H.Host.own text host.old host.new out.old out.new result }
@@ -144,11 +128,7 @@ pub fn push_object<H: Host, M: Memory>(
 }
 
 /// Adds the lines of all kept objects by rising pointer.
-pub fn push_objects<H: Host, M: Memory>(
-    out: &mut Output,
-    host: &mut H,
-    m: &M,
-) -> Result<(), SayFault>
+pub fn push_objects<H: Host, M: Memory>(out: &mut Output, host: &mut H, m: &M) -> Pushed
     ensures { let text = objects_text 0 (M.view m.now).objects in
         Pushes H.Host.own text host.old host.new out.old out.new result }
 {

@@ -7,6 +7,9 @@ ghost use Rattle.st_call.specs.Saying.{Pushes};
 use st_host::{Host, SayFault, say_all};
 use std::marker::Model;
 
+/// What comes of adding to an output: a fault where bytes that were held back could not be said.
+pub type Pushed = Result<(), SayFault>;
+
 /// Bytes that are still to be said, at most 512. Clauses see them as a list.
 #[derive(Drop)]
 pub struct Output {
@@ -39,7 +42,7 @@ impl Output {
     }
 
     /// Says the bytes that are held back.
-    pub(crate) fn flush<H: Host>(&mut self, host: &mut H) -> Result<(), SayFault>
+    pub(crate) fn flush<H: Host>(&mut self, host: &mut H) -> Pushed
         ensures pushes { Pushes H.Host.own [] host.old host.new self.old self.new result }
         ensures empty { OnOk result (self.new ≡ []) }
     {
@@ -49,7 +52,7 @@ impl Output {
     }
 
     /// Says the bytes that are held back where one more has no place beside them.
-    fn make_room<H: Host>(&mut self, host: &mut H) -> Result<(), SayFault>
+    fn make_room<H: Host>(&mut self, host: &mut H) -> Pushed
         ensures pushes { Pushes H.Host.own [] host.old host.new self.old self.new result }
         ensures room { OnOk result (length self.new < 512) }
     {
@@ -69,7 +72,7 @@ impl Output {
     }
 
     /// Adds a byte. Where there is no place for it, what is held back is said first.
-    fn push_byte<H: Host>(&mut self, host: &mut H, byte: u8) -> Result<(), SayFault>
+    fn push_byte<H: Host>(&mut self, host: &mut H, byte: u8) -> Pushed
         ensures { Pushes H.Host.own (byte ∷ []) host.old host.new self.old self.new result }
     {
         self.make_room(host)?;
@@ -78,7 +81,7 @@ impl Output {
     }
 
     /// Adds bytes. The last of them, at most 512, may be held back for now.
-    pub fn push<H: Host>(&mut self, host: &mut H, bytes: &[u8]) -> Result<(), SayFault>
+    pub fn push<H: Host>(&mut self, host: &mut H, bytes: &[u8]) -> Pushed
         ensures { Pushes H.Host.own bytes.now host.old host.new self.old self.new result }
     {
         for byte in bytes {
@@ -88,7 +91,7 @@ impl Output {
     }
 
     /// Says all that is held back.
-    pub fn finish<H: Host>(self, host: &mut H) -> Result<(), SayFault>
+    pub fn finish<H: Host>(self, host: &mut H) -> Pushed
         ensures all { OnOk result (SaysAll H.Host.own self host.old host.new) }
         ensures says { Says H.Host.own self host.old host.new }
         ensures cause { HasCause (H.say_faults host.old) (H.say_faults host.new) result }

@@ -4,7 +4,7 @@ ghost use Rattle.st_call.specs.Replies.{accepted_line, refused_text, side_text, 
 ghost use Rattle.st_call.specs.Telling.{Tells};
 
 use crate::lines::{push_line, push_long_line};
-use crate::output::Output;
+use crate::output::{Output, Pushed};
 use st_host::{Host, SayFault};
 use st_model::{Dead, Demand};
 use st_protocol::{Refusal, Status};
@@ -41,7 +41,7 @@ pub enum Reply<'a> {
 }
 
 /// Adds why a definition is refused.
-pub fn push_why<H: Host>(out: &mut Output, host: &mut H, why: Refusal) -> Result<(), SayFault>
+pub fn push_why<H: Host>(out: &mut Output, host: &mut H, why: Refusal) -> Pushed
     ensures { Pushes H.Host.own (why_text why) host.old host.new out.old out.new result }
 {
     match why {
@@ -59,7 +59,7 @@ pub fn push_why<H: Host>(out: &mut Output, host: &mut H, why: Refusal) -> Result
 }
 
 /// Adds the class side, where it is meant.
-fn push_side<H: Host>(out: &mut Output, host: &mut H, meta: bool) -> Result<(), SayFault>
+fn push_side<H: Host>(out: &mut Output, host: &mut H, meta: bool) -> Pushed
     ensures { Pushes H.Host.own (side_text meta) host.old host.new out.old out.new result }
 {
     if meta {
@@ -76,7 +76,7 @@ fn push_accepted<H: Host>(
     class: &[u8],
     meta: bool,
     selector: &[u8],
-) -> Result<(), SayFault>
+) -> Pushed
     ensures { let text = accepted_line class.now meta selector.now in
         Pushes H.Host.own text host.old host.new out.old out.new result }
 {
@@ -89,7 +89,7 @@ fn push_accepted<H: Host>(
 }
 
 /// Adds the line of a definition that is refused.
-fn push_refused<H: Host>(out: &mut Output, host: &mut H, why: Refusal) -> Result<(), SayFault>
+fn push_refused<H: Host>(out: &mut Output, host: &mut H, why: Refusal) -> Pushed
     ensures { Pushes H.Host.own (refused_text why) host.old host.new out.old out.new result }
 {
     out.push(host, b"refused ")?;
@@ -97,7 +97,7 @@ fn push_refused<H: Host>(out: &mut Output, host: &mut H, why: Refusal) -> Result
 }
 
 /// Adds a line.
-fn push_reply<H: Host>(out: &mut Output, host: &mut H, reply: Reply<'_>) -> Result<(), SayFault>
+fn push_reply<H: Host>(out: &mut Output, host: &mut H, reply: Reply<'_>) -> Pushed
     ensures { Pushes H.Host.own (reply_text reply.entry) host.old host.new out.old out.new result }
 {
     match reply {

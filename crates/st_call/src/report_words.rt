@@ -4,13 +4,13 @@ ghost use Rattle.st_model.specs.Values.{value};
 ghost use Rattle.st_model.specs.Text.{value_text};
 ghost use Rattle.st_call.specs.Saying.{Pushes};
 
-use crate::Output;
+use crate::output::{Output, Pushed};
 use itoa::Buffer;
-use st_host::{Host, SayFault};
+use st_host::Host;
 use st_model::Oop;
 
 /// Adds a number after a space.
-pub fn push_number<H: Host>(out: &mut Output, host: &mut H, n: u32) -> Result<(), SayFault>
+pub fn push_number<H: Host>(out: &mut Output, host: &mut H, n: u32) -> Pushed
     ensures { Pushes H.Host.own (codes " " ++ decimal n) host.old host.new out.old out.new result }
 {
     let mut buffer = Buffer::new();
@@ -19,7 +19,7 @@ pub fn push_number<H: Host>(out: &mut Output, host: &mut H, n: u32) -> Result<()
 }
 
 /// Adds a number of up to 64 bits after a space.
-pub fn push_long_number<H: Host>(out: &mut Output, host: &mut H, n: u64) -> Result<(), SayFault>
+pub fn push_long_number<H: Host>(out: &mut Output, host: &mut H, n: u64) -> Pushed
     ensures { Pushes H.Host.own (codes " " ++ decimal n) host.old host.new out.old out.new result }
 {
     let mut buffer = Buffer::new();
@@ -28,7 +28,7 @@ pub fn push_long_number<H: Host>(out: &mut Output, host: &mut H, n: u64) -> Resu
 }
 
 /// Adds an integer after a space.
-pub fn push_integer<H: Host>(out: &mut Output, host: &mut H, n: i32) -> Result<(), SayFault>
+pub fn push_integer<H: Host>(out: &mut Output, host: &mut H, n: i32) -> Pushed
     ensures { Pushes H.Host.own (codes " " ++ signed_decimal n) host.old host.new out.old out.new result }
 {
     let mut buffer = Buffer::new();
@@ -37,7 +37,7 @@ pub fn push_integer<H: Host>(out: &mut Output, host: &mut H, n: i32) -> Result<(
 }
 
 /// Adds a pointer after a space, as @60.
-fn push_pointer<H: Host>(out: &mut Output, host: &mut H, o: Oop) -> Result<(), SayFault>
+fn push_pointer<H: Host>(out: &mut Output, host: &mut H, o: Oop) -> Pushed
     ensures { Pushes H.Host.own (codes " @" ++ decimal o.0) host.old host.new out.old out.new result }
 {
     let mut buffer = Buffer::new();
@@ -47,7 +47,7 @@ fn push_pointer<H: Host>(out: &mut Output, host: &mut H, o: Oop) -> Result<(), S
 
 /// Adds a value after a space: a pointer as @60, a SmallInteger as its number.
 #[tactic(auto, using(st_model::proofs::Words::texts))]
-pub fn push_value<H: Host>(out: &mut Output, host: &mut H, o: Oop) -> Result<(), SayFault>
+pub fn push_value<H: Host>(out: &mut Output, host: &mut H, o: Oop) -> Pushed
     ensures { Pushes H.Host.own (codes " " ++ value_text (value o)) host.old host.new out.old out.new result }
 {
     if o.is_small() {

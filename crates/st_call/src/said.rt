@@ -1,12 +1,10 @@
 ghost use Rattle.std.specs.Prelude.{◌≡◌, ◌<◌, [], true, OnOk};
-ghost use Rattle.st_model.specs.Values.{value};
-ghost use Rattle.st_model.specs.Objects.{is_bytes};
-ghost use Rattle.st_model.specs.View.{is_live, object_of};
+ghost use Rattle.st_model.specs.{Values.value, Objects.is_bytes, View.{is_live, object_of}};
 ghost use Rattle.st_model.specs.Text.{hexadecimal, escaped_byte, escaped};
 ghost use Rattle.st_call.specs.Saying.{Pushes, said_in};
 
-use crate::Output;
-use st_host::{Host, SayFault};
+use crate::output::{Output, Pushed};
+use st_host::Host;
 use st_memory::Memory;
 use st_model::{Kind, Oop};
 
@@ -23,7 +21,7 @@ fn hexadecimal(digit: u8) -> u8
 }
 
 /// Adds a byte: those from 32 to 126 but the backslash for themselves, others as a backslash and two digits.
-pub fn push_escaped<H: Host>(out: &mut Output, host: &mut H, byte: u8) -> Result<(), SayFault>
+pub fn push_escaped<H: Host>(out: &mut Output, host: &mut H, byte: u8) -> Pushed
     ensures { Pushes H.Host.own (escaped_byte byte) host.old host.new out.old out.new result }
 {
     if byte < 32 || byte > 126 || byte == b'\\' {
@@ -36,12 +34,7 @@ pub fn push_escaped<H: Host>(out: &mut Output, host: &mut H, byte: u8) -> Result
 
 /// Adds the bytes of an object of kind Bytes, escaped.
 #[tactic(auto, using(st_memory::proofs::Bodies::bodies))]
-pub fn push_bytes<H: Host, M: Memory>(
-    out: &mut Output,
-    host: &mut H,
-    m: &M,
-    o: Oop,
-) -> Result<(), SayFault>
+pub fn push_bytes<H: Host, M: Memory>(out: &mut Output, host: &mut H, m: &M, o: Oop) -> Pushed
     requires live { is_live (M.view m.now).objects (value o) ≡ true }
     requires kind { is_bytes (object_of (M.view m.now).objects (value o)).kind ≡ true }
     ensures { let text = escaped (object_of (M.view m.now).objects (value o)).units in
@@ -55,12 +48,7 @@ pub fn push_bytes<H: Host, M: Memory>(
 }
 
 /// Adds the line that says the bytes of an object, which is there and of kind Bytes.
-fn push_say<H: Host, M: Memory>(
-    out: &mut Output,
-    host: &mut H,
-    m: &M,
-    o: Oop,
-) -> Result<(), SayFault>
+fn push_say<H: Host, M: Memory>(out: &mut Output, host: &mut H, m: &M, o: Oop) -> Pushed
     requires live { is_live (M.view m.now).objects (value o) ≡ true }
     requires kind { is_bytes (object_of (M.view m.now).objects (value o)).kind ≡ true }
     ensures { let text = said_in (M.view m.now).objects (value o) in
@@ -72,12 +60,7 @@ fn push_say<H: Host, M: Memory>(
 }
 
 /// Adds the line that says the bytes of an object, where one of kind Bytes is there.
-fn push_said<H: Host, M: Memory>(
-    out: &mut Output,
-    host: &mut H,
-    m: &M,
-    o: Oop,
-) -> Result<(), SayFault>
+fn push_said<H: Host, M: Memory>(out: &mut Output, host: &mut H, m: &M, o: Oop) -> Pushed
     ensures { let text = said_in (M.view m.now).objects (value o) in
         Pushes H.Host.own text host.old host.new out.old out.new result }
 {
@@ -92,12 +75,7 @@ fn push_said<H: Host, M: Memory>(
 
 /// Adds the line that says the bytes of an object, where one of kind Bytes is there, and says it at once, behind all that was held
 /// back.
-pub fn say_at_once<H: Host, M: Memory>(
-    out: &mut Output,
-    host: &mut H,
-    m: &M,
-    o: Oop,
-) -> Result<(), SayFault>
+pub fn say_at_once<H: Host, M: Memory>(out: &mut Output, host: &mut H, m: &M, o: Oop) -> Pushed
     ensures says { let text = said_in (M.view m.now).objects (value o) in
         Pushes H.Host.own text host.old host.new out.old out.new result }
     ensures at_once { OnOk result (out.new ≡ []) }

@@ -3,17 +3,17 @@ ghost use Rattle.st_model.specs.Text.{pointers_text, registers_text, input_text,
 ghost use Rattle.st_frames.specs.Shown.{IsFrame, IsReady, registers_of, shown};
 ghost use Rattle.st_call.specs.Saying.{Pushes};
 
-use crate::Output;
 use crate::lines::{push_line, push_values, push_values_line};
 use crate::objects::push_objects;
+use crate::output::{Output, Pushed};
 use crate::report_words::{push_integer, push_number};
 use st_frames::{Frame, World};
-use st_host::{Host, SayFault};
+use st_host::Host;
 use st_memory::Memory;
 use st_model::RootPlace;
 
 /// Adds an instruction pointer and a stack pointer, and the line's end.
-fn push_pointers<H: Host>(out: &mut Output, host: &mut H, ip: i32, sp: u32) -> Result<(), SayFault>
+fn push_pointers<H: Host>(out: &mut Output, host: &mut H, ip: i32, sp: u32) -> Pushed
     ensures { Pushes H.Host.own (pointers_text ip sp) host.old host.new out.old out.new result }
 {
     push_integer(out, host, ip)?;
@@ -27,7 +27,7 @@ pub fn push_registers<H: Host, M: Memory>(
     host: &mut H,
     m: &M,
     f: &Frame,
-) -> Result<(), SayFault>
+) -> Pushed
     requires { IsFrame (M.view m.now) f.now }
     ensures { let text = registers_text (registers_of f.now) in
         Pushes H.Host.own text host.old host.new out.old out.new result }
@@ -38,7 +38,7 @@ pub fn push_registers<H: Host, M: Memory>(
 }
 
 /// Adds the line of the input state: how many words wait and how many signals are pending, the mouse, and the clocks.
-pub fn push_input<H: Host>(out: &mut Output, host: &mut H, w: &World) -> Result<(), SayFault>
+pub fn push_input<H: Host>(out: &mut Output, host: &mut H, w: &World) -> Pushed
     ensures { Pushes H.Host.own (input_text w.now) host.old host.new out.old out.new result }
 {
     let numbers = [
@@ -53,7 +53,7 @@ pub fn push_input<H: Host>(out: &mut Output, host: &mut H, w: &World) -> Result<
 }
 
 /// Adds the line of what is held.
-pub fn push_held<H: Host, M: Memory>(out: &mut Output, host: &mut H, m: &M) -> Result<(), SayFault>
+pub fn push_held<H: Host, M: Memory>(out: &mut Output, host: &mut H, m: &M) -> Pushed
     ensures { let text = held_text (M.view m.now).held.devices in
         Pushes H.Host.own text host.old host.new out.old out.new result }
 {
@@ -71,7 +71,7 @@ pub fn push_held<H: Host, M: Memory>(out: &mut Output, host: &mut H, m: &M) -> R
 }
 
 /// Adds the line of what is used.
-pub fn push_used<H: Host, M: Memory>(out: &mut Output, host: &mut H, m: &M) -> Result<(), SayFault>
+pub fn push_used<H: Host, M: Memory>(out: &mut Output, host: &mut H, m: &M) -> Pushed
     ensures { let text = used_text (M.view m.now).objects in
         Pushes H.Host.own text host.old host.new out.old out.new result }
 {
@@ -86,7 +86,7 @@ pub fn push_state<H: Host, M: Memory>(
     m: &M,
     f: &Frame,
     w: &World,
-) -> Result<(), SayFault>
+) -> Pushed
     requires ready { IsReady (M.view m.now) f.now w.now }
     ensures { let text = state_text (shown (M.view m.now) f.now w.now) in
         Pushes H.Host.own text host.old host.new out.old out.new result }

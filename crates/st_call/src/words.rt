@@ -3,7 +3,8 @@ ghost use Rattle.std.specs.String.{string_bytes};
 ghost use Rattle.st_call.specs.Words.{once_of, import_of, export_of, clean_of, condense_of, session_of, build_of, drill_of, has_values, command_named, command_of};
 ghost use Rattle.st_call.specs.CommandViews.{operands_view, arguments_view, command_view};
 
-use crate::arguments::{Arguments, Operands, read_arguments, read_number};
+use crate::arguments::{Arguments, Operands, read_arguments};
+use st_chunk::read_number;
 use st_image::HeadValues;
 
 /// A command of the program.
@@ -58,7 +59,7 @@ fn once(operands: Operands<'_>) -> Option<Command<'_>>
 {
     match operands {
         Operands::Two(image, number) => {
-            let cycles = read_number(number.as_bytes(), LARGEST_OPERAND)?;
+            let cycles = read_number(LARGEST_OPERAND, number.as_bytes())?;
             Some(Command::Once { image, cycles })
         }
         Operands::Empty | Operands::One(_) => None,
@@ -131,7 +132,7 @@ fn drill(operands: Operands<'_>) -> Option<Command<'_>>
 {
     match operands {
         Operands::One(number) => {
-            let number = read_number(number.as_bytes(), LARGEST_OPERAND)?;
+            let number = read_number(LARGEST_OPERAND, number.as_bytes())?;
             Some(Command::Drill { number })
         }
         Operands::Empty | Operands::Two(_, _) => None,

@@ -1,13 +1,10 @@
 // Adding a definition to a changes file.
 ghost use Rattle.std.specs.Prelude.{◌≡◌, ◌≤◌, ◌<◌, ◌+◌, ◌-◌, ◌^◌, ◌++◌, ◌∷◌, [], Some, None, IsTrue, IfOk, OnOk, OnErr, nat_lt, length};
-ghost use Rattle.st_host.specs.Counts.{HasCause};
-ghost use Rattle.st_host.specs.Runs.{Changes as ChangesFile, ChangesBoth, Makes};
-ghost use Rattle.st_store.specs.Names.{roots_file, changes_file};
-ghost use Rattle.st_store.specs.Stored.{Stored, Opens, IsFirm, IsKept};
+ghost use Rattle.st_host.specs.{Counts.HasCause, Runs.{Changes as ChangesFile, ChangesBoth, Makes}};
+ghost use Rattle.st_store.specs.{Names.{roots_file, changes_file}, Stored.{Stored, Opens, IsFirm, IsKept}};
 ghost use Rattle.st_store.specs.Faults.{RestsUnlessGate};
 ghost use Rattle.st_chunk.specs.Definitions.{IsDefinition, entry, entries};
-ghost use Rattle.st_changes.specs.Views.{definition_of};
-ghost use Rattle.st_changes.specs.States.{grown, next_store, FitsBehind};
+ghost use Rattle.st_changes.specs.{Views.definition_of, States.{grown, next_store, FitsBehind}};
 
 use crate::Definition;
 use crate::changes::{Changes, Ready};

@@ -3,16 +3,12 @@ ghost use Rattle.std.specs.Prelude.{◌≡◌, ◌⊎◌, ◌≤◌, ◌+◌, �
 ghost use Rattle.st_host.specs.Pieces.{end_of, Pushes};
 ghost use Rattle.st_host.specs.Runs.{IsSynced, WritesAbove, Makes, ChangesBoth, IsAtRest};
 ghost use Rattle.st_host.specs.declared.file_fault.FileFault.TheVariants.{OutOfMemory};
-ghost use Rattle.st_store.specs.Names.{roots_file, changes_file};
-ghost use Rattle.st_store.specs.Stored.{Stored, Opens, IsKept};
+ghost use Rattle.st_store.specs.{Names.{roots_file, changes_file}, Stored.{Stored, Opens, IsKept}};
 ghost use Rattle.st_store.specs.Faults.{RestsUnlessGate};
-ghost use Rattle.st_changes.specs.Writing.{Extends, CondenseHasCause};
-ghost use Rattle.st_changes.specs.Lists.{StandsAt};
-ghost use Rattle.st_chunk.specs.Definitions.{Definition as Defined, IsDefinition, entry, entries};
-ghost use Rattle.st_changes.specs.IndexStates.{found};
-ghost use Rattle.st_changes.specs.Views.{definition_of, definitions_of};
-ghost use Rattle.st_changes.specs.Last.{Answers};
+ghost use Rattle.st_changes.specs.{Writing.{Extends, CondenseHasCause}, Lists.StandsAt, IndexStates.found};
+ghost use Rattle.st_changes.specs.{Views.{definition_of, definitions_of}, Last.Answers};
 ghost use Rattle.st_changes.specs.Condensing.{Tells, Stays, kept_by, turned, Condenses, condensed};
+ghost use Rattle.st_chunk.specs.Definitions.{Definition as Defined, IsDefinition, entry, entries};
 
 use crate::Definition;
 use crate::changes::Changes;

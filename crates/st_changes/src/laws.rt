@@ -1,13 +1,11 @@
 //! Laws of the definitions.
 
-ghost use Rattle.st_changes.specs.Condensing.{Condenses};
-ghost use Rattle.st_changes.specs.Last.{IsLastText, IsNowhere};
+ghost use Rattle.st_changes.specs.{Condensing.Condenses, Last.{IsLastText, IsNowhere}};
+ghost use Rattle.st_changes.specs.Lists.{StandsAt, Lists, RefusesChanges};
 ghost use Rattle.std.specs.Prelude.{◌≡◌, ◌++◌, ◌∷◌, [], ℕ, List, Bool, length, All};
-ghost use Rattle.st_store.specs.declared.root.Root.{Root};
-ghost use Rattle.st_store.specs.declared.fault.StorePlace.TheVariants.{Changes};
+ghost use Rattle.st_store.specs.{declared.root.Root.Root, declared.fault.StorePlace.TheVariants.Changes};
 ghost use Rattle.st_store.specs.declared.fault.StoreFault.TheVariants.{NotAStore};
 ghost use Rattle.st_chunk.specs.Definitions.{Definition, IsDefinition, entry, entries};
-ghost use Rattle.st_changes.specs.Lists.{StandsAt, Lists, RefusesChanges};
 
 /// The entries of any definitions list these and no others, and so do they with one entry more.
 pub fn one_list()

@@ -2,8 +2,7 @@
 ghost use Rattle.std.specs.Prelude.{◌≡◌, ◌≤◌, ◌+◌, ◌<◌, ◌^◌, ◌++◌, ◌∷◌, [], ℕ, Bool, List, All, IfOk, OnOk, length};
 ghost use Rattle.std.specs.Option.{option_map};
 ghost use Rattle.st_chunk.specs.Definitions.{Definition as Defined, IsDefinition, entry, entries};
-ghost use Rattle.st_changes.specs.IndexStates.{found, HasName};
-ghost use Rattle.st_changes.specs.Views.{definition_of, definitions_of};
+ghost use Rattle.st_changes.specs.{IndexStates.{found, HasName}, Views.{definition_of, definitions_of}};
 ghost use Rattle.st_changes.specs.Last.{IsPrepared, Answers, FindsSelector, span_of};
 
 use crate::Definition;

@@ -1,10 +1,7 @@
 // The text of an entry, and its length.
 ghost use Rattle.std.specs.Prelude.{◌≡◌, ◌≤◌, ◌++◌, ◌^◌, IfOk, OnOk, length};
-ghost use Rattle.st_chunk.specs.Groups.{header_text};
-ghost use Rattle.st_chunk.specs.Definitions.{header_for, IsDefinition, entry};
-ghost use Rattle.st_changes.specs.Runs.{doubled_by};
-ghost use Rattle.st_changes.specs.Views.{definition_of};
-ghost use Rattle.st_changes.specs.Entries.{side_front};
+ghost use Rattle.st_chunk.specs.{Groups.header_text, Definitions.{header_for, IsDefinition, entry}};
+ghost use Rattle.st_changes.specs.{Runs.doubled_by, Views.definition_of, Entries.side_front};
 
 use crate::Definition;
 use st_scan::Text;

@@ -26,7 +26,7 @@ pub fn is_empty(text: &[u8]) -> bool
 
 /// The number that a word of 1 to 10 decimal digits says, where it is at most the limit.
 #[tactic(auto, using(crate::proofs::Digits::digits), unfolding(crate::specs::Lines::number))]
-pub(crate) fn read_number(limit: u32, word: &[u8]) -> Option<u32>
+pub fn read_number(limit: u32, word: &[u8]) -> Option<u32>
     ensures value { result ≡ number limit word.now }
     ensures within { IfSome result (λ n. n ≤ limit) }
 {

@@ -1,8 +1,6 @@
 ghost use Rattle.std.specs.Prelude.{◌≡◌, ◌≢◌, ◌<◌, ◌≤◌, ◌+◌, ℕ, length, true, false, IfOk};
-ghost use Rattle.st_model.specs.Values.{value, Ref};
-ghost use Rattle.st_model.specs.Objects.{is_words, is_pointers, is_method};
-ghost use Rattle.st_model.specs.Settled.{is_marked};
-ghost use Rattle.st_model.specs.View.{is_live, object_of};
+ghost use Rattle.st_model.specs.{Values.{value, Ref}, Objects.{is_words, is_pointers, is_method}};
+ghost use Rattle.st_model.specs.{Settled.is_marked, View.{is_live, object_of}};
 ghost use Rattle.st_clean.specs.Reach.{IsClosed};
 ghost use Rattle.st_clean.specs.Filling.{Puts, PutsPart, HasRoom, IsAmong, FilledBelow, only};
 

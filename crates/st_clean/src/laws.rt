@@ -1,15 +1,9 @@
 //! Laws of the definitions.
 
 ghost use Rattle.std.specs.Prelude.{◌≡◌, ℕ, Bool, IsTrue};
-ghost use Rattle.st_model.specs.Machine.{Head};
-ghost use Rattle.st_model.specs.Table.{Table};
-ghost use Rattle.st_model.specs.Faults.{IsWellFormed};
-ghost use Rattle.st_model.specs.View.{View, IsWhole};
-ghost use Rattle.st_image.specs.Back.{CanStart};
-ghost use Rattle.st_image.specs.HeadValues.{head_over, no_values};
-ghost use Rattle.st_clean.specs.Cleaning.{image_only};
-ghost use Rattle.st_clean.specs.Filling.{only};
-ghost use Rattle.st_clean.specs.Reach.{IsReach, IsClosed};
+ghost use Rattle.st_model.specs.{Machine.Head, Table.Table, Faults.IsWellFormed, View.{View, IsWhole}};
+ghost use Rattle.st_image.specs.{Back.CanStart, HeadValues.{head_over, no_values}};
+ghost use Rattle.st_clean.specs.{Cleaning.image_only, Filling.only, Reach.{IsReach, IsClosed}};
 
 /// What is reached is closed under referring, and lies in every set that is.
 pub fn reach_is_least()

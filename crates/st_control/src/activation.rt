@@ -11,6 +11,7 @@ use st_method::Header;
 use st_model::{Dead, PageObject, Word};
 
 /// Fills a new context of the method: the active context as its sender, the first bytecode, the temporary count, and the method.
+#[inline(always)]
 #[tactic(auto, using(st_frames::proofs::Doing::rows), unfolding(st_model::specs::Contexts::fill_context))]
 fn fill_context<O: Objects>(
     m: &mut O,
@@ -51,6 +52,7 @@ fn new_context<O: Objects>(
 }
 
 /// Receiver and n arguments go from the stack to fields 5 and on of the context.
+#[inline(always)]
 #[tactic(auto, using(st_frames::proofs::Doing::rows), unfolding(st_model::specs::Contexts::pass_words))]
 fn pass_words<O: Objects>(m: &mut O, r: &mut Registers, context: Word, n: u32) -> Result<(), Dead>
     requires few { n < 16384 }

@@ -41,6 +41,7 @@ pub fn arithmetic_number(k: u32) -> u32
 }
 
 /// The integer of the SmallInteger k words below the top.
+#[inline(always)]
 #[tactic(auto, using(crate::proofs::Tries::integers), unfolding(st_model::specs::Arithmetic::integer_under))]
 pub fn integer_under<O: Objects>(m: &O, r: &Registers, k: u32) -> Result<i16, Dead>
     requires few { k < 32768 }

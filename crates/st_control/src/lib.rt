@@ -22,7 +22,9 @@ mod values;
 mod wide;
 
 pub use activation::{activate, activate_at_once};
-pub use arithmetic::{answer_integers, answer_pair, arithmetic_number, integer_answer, word_of};
+pub use arithmetic::{
+    answer_integers, answer_pair, arithmetic_number, integer_answer, integer_under, word_of,
+};
 pub use at_once::{jump_at_once, return_to_caller_at_once, return_to_sender_at_once};
 pub use blocks::{primitive_block_copy, try_blocks};
 pub use finding::find_method;

@@ -44,6 +44,7 @@ fn fetch_literal_variable<O: Objects>(m: &O, r: &Registers, i: u32) -> Result<Wo
 }
 
 /// What an operand names.
+#[inline(always)]
 #[tactic(auto, using(st_frames::proofs::Doing::rows), unfolding(st_model::specs::Bytecodes::fetch_operand))]
 pub fn fetch_operand<O: Objects>(m: &O, r: &Registers, operand: Operand) -> Result<Word, Dead>
     requires numbered { IsNumberedOperand operand }
@@ -74,6 +75,7 @@ fn store_receiver_variable<O: Objects>(
 }
 
 /// Stores x in temporary variable i of the home context.
+#[inline(always)]
 #[tactic(auto, using(st_frames::proofs::Doing::rows), unfolding(st_model::specs::Bytecodes::store_temporary_variable))]
 fn store_temporary_variable<O: Objects>(
     m: &mut O,
@@ -103,6 +105,7 @@ fn store_literal_variable<O: Objects>(m: &mut O, r: &Registers, i: u32, x: Word)
 }
 
 /// Stores x in what an operand names. Dead of an unused code where that is a literal constant.
+#[inline(always)]
 #[tactic(auto, using(st_frames::proofs::Doing::rows), unfolding(st_model::specs::Bytecodes::store_operand))]
 pub fn store_operand<O: Objects>(
     m: &mut O,
@@ -125,6 +128,7 @@ pub fn store_operand<O: Objects>(
 }
 
 /// The word of a constant.
+#[inline(always)]
 #[tactic(auto, using(st_frames::proofs::Doing::rows), unfolding(st_model::specs::Bytecodes::constant_value))]
 pub fn constant_value<O: Objects>(m: &O, r: &Registers, constant: Constant) -> Word
     ensures does { RowReads O.Objects.own (constant_value O.names constant) word m.now r.now (Ok result) }

@@ -11,6 +11,7 @@ use st_memory::Objects;
 use st_model::{Constant, Dead, Operand, Word, extended_operand};
 
 /// Pushes what the operand names.
+#[inline(always)]
 #[tactic(auto, using(st_frames::proofs::Doing::rows), unfolding(st_model::specs::Bytecodes::push_operand))]
 pub fn push_operand<O: Objects>(m: &mut O, r: &mut Registers, operand: Operand) -> Result<(), Dead>
     requires numbered { IsNumberedOperand operand }
@@ -24,6 +25,7 @@ pub fn push_operand<O: Objects>(m: &mut O, r: &mut Registers, operand: Operand) 
 }
 
 /// Pops into what the operand names.
+#[inline(always)]
 #[tactic(auto, using(st_frames::proofs::Doing::rows), unfolding(st_model::specs::Bytecodes::store_and_pop))]
 pub fn store_and_pop<O: Objects>(m: &mut O, r: &mut Registers, operand: Operand) -> Result<(), Dead>
     requires numbered { IsNumberedOperand operand }
@@ -37,6 +39,7 @@ pub fn store_and_pop<O: Objects>(m: &mut O, r: &mut Registers, operand: Operand)
 }
 
 /// Pushes the receiver.
+#[inline(always)]
 #[tactic(auto, using(st_frames::proofs::Doing::rows), unfolding(st_model::specs::Bytecodes::push_receiver))]
 pub fn push_receiver<O: Objects>(m: &mut O, r: &mut Registers) -> Result<(), Dead>
     requires room { 1 ≤ O.room m.old }
@@ -47,6 +50,7 @@ pub fn push_receiver<O: Objects>(m: &mut O, r: &mut Registers) -> Result<(), Dea
 }
 
 /// Pushes a constant.
+#[inline(always)]
 #[tactic(auto, using(st_frames::proofs::Doing::rows), unfolding(st_model::specs::Bytecodes::push_constant))]
 pub fn push_constant<O: Objects>(
     m: &mut O,
@@ -98,6 +102,7 @@ pub fn extended_store_and_pop<O: Objects>(m: &mut O, r: &mut Registers) -> Resul
 }
 
 /// Pops.
+#[inline(always)]
 #[tactic(auto, using(st_frames::proofs::Doing::rows), unfolding(st_model::specs::Bytecodes::pop_stack))]
 pub fn pop_stack<O: Objects>(m: &O, r: &mut Registers) -> Result<(), Dead>
     ensures does { RowMoves O.Objects.own (pop_stack O.names) itself m.now r.old result r.new }
@@ -107,6 +112,7 @@ pub fn pop_stack<O: Objects>(m: &O, r: &mut Registers) -> Result<(), Dead>
 }
 
 /// Pushes the top again.
+#[inline(always)]
 #[tactic(auto, using(st_frames::proofs::Doing::rows), unfolding(st_model::specs::Bytecodes::duplicate_top))]
 pub fn duplicate_top<O: Objects>(m: &mut O, r: &mut Registers) -> Result<(), Dead>
     requires room { 1 ≤ O.room m.old }

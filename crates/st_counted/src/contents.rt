@@ -11,8 +11,9 @@ ghost use Rattle.st_counted.specs.Links.{IsListed};
 ghost use Rattle.st_counted.specs.Contents.{counts_of};
 ghost use Rattle.st_counted.specs.References.{all_roots, nils_of, IsCounted};
 
-use crate::counting::{lower, pointer_of, raise};
+use crate::counting::{lower, raise};
 use crate::counts::Counts;
+use crate::links::pointer_of;
 use crate::roots::Roots;
 use st_heap::Objects;
 use st_model::{Demand, Kind, Oop, RootPlace};
@@ -201,9 +202,10 @@ impl Contents {
         ensures rest { SameButLinks self.old self.new }
         ensures places { SamePlaces self.old.objects.store self.new.objects.store }
     {
+        let stand = self.objects.place_of(o);
         let mut nils = 0;
         for i in 0..self.objects.count_fields(o) {
-            let v = self.objects.field(o, i);
+            let v = self.objects.placed_field(o, stand, i);
             if v.0 == Oop::NIL.0 {
                 nils += 1;
             } else {

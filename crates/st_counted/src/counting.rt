@@ -1,4 +1,4 @@
-ghost use Rattle.std.specs.Prelude.{◌≡◌, ◌≢◌, ◌<◌, ◌+◌, ◌*◌, ◌/◌, ℕ, true, false};
+ghost use Rattle.std.specs.Prelude.{◌≡◌, ◌≢◌, ◌<◌, ◌+◌, ◌/◌, ℕ, true, false};
 ghost use Rattle.st_model.specs.Values.{value, is_small};
 ghost use Rattle.st_table.specs.Entries.{place};
 ghost use Rattle.st_counted.specs.Counts.{is_counted, number_at};
@@ -11,14 +11,6 @@ ghost use Rattle.st_counted.specs.References.{raised_by, lowered_by};
 use crate::counts::Counts;
 use st_heap::Objects;
 use st_model::Oop;
-
-/// The pointer of a place.
-pub fn pointer_of(k: usize) -> Oop
-    requires { k < 32768 }
-    ensures { result.0 ≡ 2 * k }
-{
-    Oop((2 * k) as u16)
-}
 
 /// Counts so many references more to what a word names, and leaves the list; a SmallInteger names nothing.
 pub fn add(counts: &mut Counts, v: Oop, by: u32)

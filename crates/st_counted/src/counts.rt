@@ -6,8 +6,7 @@ ghost use Rattle.st_heap.specs.Tables.{objects_of, room_of};
 ghost use Rattle.st_counted.specs.Counts.{count_at, is_counted, number_at, is_unused, raised, lowered};
 ghost use Rattle.st_counted.specs.Slots.{counts_in, no_count};
 
-use crate::counting::pointer_of;
-use crate::links::{link, unlink};
+use crate::links::{link, pointer_of, unlink};
 use st_heap::Objects;
 use st_model::Oop;
 use std::alloc::{AllocError, Global};
@@ -60,7 +59,8 @@ impl Counts {
         requires place { k < 32768 }
         requires some { k ≢ 0 }
         requires absent { is_counted (counts_of self.old) k ≡ false }
-        ensures { counts_of self.new ≡ slice_set (counts_of self.old) k (Some 0) }
+        ensures counts { counts_of self.new ≡ slice_set (counts_of self.old) k (Some 0) }
+        ensures first { self.new.first ≡ self.old.first }
     {
         self.counts[k] = Slot {
             number: 0,
@@ -79,10 +79,7 @@ impl Counts {
         ensures room { room_of objects.new ≡ room_of objects.old }
         ensures counts { counts_of self.new ≡ slice_set (counts_of self.old) k (Some 0) }
     {
-        self.counts[k] = Slot {
-            number: 0,
-            counted: true,
-        };
+        self.start(k);
         self.first = link(objects, self.first, pointer_of(k));
     }
 

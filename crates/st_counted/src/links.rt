@@ -1,4 +1,4 @@
-ghost use Rattle.std.specs.Prelude.{◌≡◌, ◌≢◌, ◌/◌, ℕ, Bool, true, false, is_some, if◌then◌else◌, ◌==◌};
+ghost use Rattle.std.specs.Prelude.{◌≡◌, ◌≢◌, ◌<◌, ◌*◌, ◌/◌, ℕ, Bool, true, false, is_some, if◌then◌else◌, ◌==◌};
 ghost use Rattle.st_model.specs.Values.{value};
 ghost use Rattle.st_model.specs.Table.{entry};
 ghost use Rattle.st_model.specs.View.{is_live};
@@ -10,6 +10,14 @@ ghost use Rattle.st_counted.specs.Links.{Holds, IsEnd, with_member, without_memb
 
 use st_heap::Objects;
 use st_model::Oop;
+
+/// The pointer of a place.
+pub fn pointer_of(k: usize) -> Oop
+    requires { k < 32768 }
+    ensures { result.0 ≡ 2 * k }
+{
+    Oop((2 * k) as u16)
+}
 
 /// Puts an object that is not in the list at its head, and answers the head.
 #[inline(never)]

@@ -12,7 +12,8 @@ ghost use Rattle.st_counted.specs.Counted.{counted_view, numbers_of, AllCounted,
 ghost use Rattle.st_counted.specs.Links.{IsListed};
 
 use crate::contents::Contents;
-use crate::counting::{add, pointer_of};
+use crate::counting::add;
+use crate::links::pointer_of;
 use st_model::Oop;
 
 /// The pointers of the root page.

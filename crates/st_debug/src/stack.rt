@@ -1,15 +1,12 @@
 // The lines of the stack.
-ghost use Rattle.std.specs.Prelude.{◌≡◌, ◌≤◌, length, IfOk, OnOk};
-ghost use Rattle.std.specs.List.{flat_map};
-ghost use Rattle.st_host.specs.Counts.{HasCause};
-ghost use Rattle.st_host.specs.Runs.{SaysAll};
-ghost use Rattle.st_host.specs.Telling.{Says};
+ghost use Rattle.std.specs.{Prelude.{◌≡◌, ◌≤◌, length, IfOk, OnOk}, List.flat_map};
+ghost use Rattle.st_host.specs.{Counts.HasCause, Runs.SaysAll, Telling.Says};
 ghost use Rattle.st_model.specs.Values.{value};
 ghost use Rattle.st_call.specs.Saying.{Pushes};
 ghost use Rattle.st_debug.specs.Stack.{calls, frame_line, stack_text};
 
 use crate::context::call_at;
-use st_call::{Output, push_line, push_values_line};
+use st_call::{Output, Pushed, push_line, push_values_line};
 use st_frames::Frame;
 use st_host::{Host, SayFault};
 use st_memory::Memory;
@@ -41,7 +38,7 @@ fn push_calls<H: Host, M: Memory>(
     m: &M,
     active: Oop,
     most: u32,
-) -> Result<(), SayFault>
+) -> Pushed
     ensures { let cs = calls (M.view m.now).objects most (value active) in
         Pushes H.Host.own (flat_map frame_line cs) host.old host.new out.old out.new result }
 {

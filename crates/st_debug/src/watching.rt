@@ -1,14 +1,13 @@
 // The bytecode that comes next.
 ghost use Rattle.std.specs.Prelude.{◌≡◌, option_map};
-ghost use Rattle.st_model.specs.Values.{value};
-ghost use Rattle.st_model.specs.Machine.{World};
+ghost use Rattle.st_model.specs.{Values.value, Machine.World};
 ghost use Rattle.st_frames.specs.Shown.{IsFrame, shown};
 ghost use Rattle.st_call.specs.Saying.{Pushes};
 ghost use Rattle.st_debug.specs.Watched.{at_of, at_text, is_entered, is_first, watched};
 
-use st_call::{Output, push_integer, push_number, push_values};
+use st_call::{Output, Pushed, push_integer, push_number, push_values};
 use st_frames::Frame;
-use st_host::{Host, SayFault};
+use st_host::Host;
 use st_memory::{Memory, Objects, count_fields};
 use st_model::{Kind, Oop, Word};
 
@@ -65,7 +64,7 @@ pub fn entered<M: Memory>(m: &M, f: &Frame, method: Oop) -> bool
 }
 
 /// Adds the line of a bytecode that comes.
-pub fn push_at<H: Host>(out: &mut Output, host: &mut H, at: At) -> Result<(), SayFault>
+pub fn push_at<H: Host>(out: &mut Output, host: &mut H, at: At) -> Pushed
     ensures { Pushes H.Host.own (at_text (at_of at)) host.old host.new out.old out.new result }
 {
     out.push(host, b"at")?;

@@ -3,18 +3,14 @@
 ghost use Rattle.std.specs.Prelude.{◌≡◌, ◌-◌, ◌++◌, ◌∷◌, true, map, slice_get, IfOk, OnOk};
 ghost use Rattle.std.specs.Prelude.{option_map, ℕ, List};
 ghost use Rattle.st_scan.specs.Views.{expression_view, names_view};
-ghost use Rattle.st_emit.specs.declared.step.Step.{Step as StepView};
-ghost use Rattle.st_emit.specs.Nodes.{is_above};
-ghost use Rattle.st_emit.specs.Selectors.{sends_now};
+ghost use Rattle.st_emit.specs.{declared.step.Step.{Step as StepView}, Nodes.is_above, Selectors.sends_now};
 ghost use Rattle.st_emit.specs.Resolving.{special_selectors, first_special};
 ghost use Rattle.st_emit.specs.Views.{literal_view, literals_view};
 ghost use Rattle.st_resolved.specs.Instructions.{on_some};
-ghost use Rattle.st_expression_stack.specs.Items.{leaf, piece};
-ghost use Rattle.st_expression_stack.specs.Choosing.{literal_tree, constant_tree};
-ghost use Rattle.st_decompile.specs.Methods.{literal_now};
+ghost use Rattle.st_expression_stack.specs.{Items.{leaf, piece}, Choosing.{literal_tree, constant_tree}};
 ghost use Rattle.st_expression_stack.specs.Items.{goes_on};
-ghost use Rattle.st_decompile.specs.Reading.{symbol_of, argument_number};
-ghost use Rattle.st_expression_stack.specs.Stacks.{stack_view, piece_view, item_view, acted_if, acted_by, text_now};
+ghost use Rattle.st_expression_stack.specs.Stacks.{stack_view, piece_view, item_view, acted_if, acted_by, Acts, text_now};
+ghost use Rattle.st_decompile.specs.{Methods.literal_now, Reading.{symbol_of, argument_number}};
 ghost use Rattle.st_decompile.specs.Read.{AreDeclared, IsPieceStart, IsBlockStart, selector_now};
 ghost use Rattle.st_decompile.specs.Read.{act_by, assigned_by, pushed_by};
 ghost use Rattle.st_decompile.specs.Read.{popped_by, popped_into_by, stored_into_by};
@@ -162,8 +158,7 @@ fn stored_into(
     place: Place,
     items: &mut Stack,
 ) -> Result<bool, AllocError>
-    ensures { IfOk result (λ ok. acted_if ok items.new.items
-        ≡ stored_into_by reading.entry place (stack_view items.old.items)) }
+    ensures { Acts result items.new (stored_into_by reading.entry place (stack_view items.old.items)) }
 {
     let Some(value) = pop_piece(items)? else {
         return Ok(false);
@@ -181,8 +176,7 @@ fn pushes(
     at: usize,
     items: &mut Stack,
 ) -> Result<bool, AllocError>
-    ensures { IfOk result (λ ok. acted_if ok items.new.items
-        ≡ pushes_by reading.entry place at (stack_view items.old.items)) }
+    ensures { Acts result items.new (pushes_by reading.entry place at (stack_view items.old.items)) }
 {
     let Some(tree) = pushed_tree(alloc, reading, place)? else {
         return Ok(false);
@@ -226,8 +220,8 @@ fn sends_at(
     place: usize,
     items: &mut Stack,
 ) -> Result<bool, AllocError>
-    ensures { IfOk result (λ ok. acted_if ok items.new.items
-        ≡ sends_by reading.entry (is_above lookup) place (stack_view items.old.items)) }
+    ensures { Acts result items.new (sends_by reading.entry (is_above lookup) place
+        (stack_view items.old.items)) }
 {
     match selector_at(reading.literals, place) {
         Some(selector) => sends(alloc, lookup, selector, items),
@@ -261,8 +255,7 @@ fn special_selector(code: u8) -> Option<&'static [u8]>
 
 /// A send by a special selector that is no `blockCopy:`.
 fn sends_special(alloc: Global, code: u8, items: &mut Stack) -> Result<bool, AllocError>
-    ensures { IfOk result (λ ok. acted_if ok items.new.items
-        ≡ special_sends_by code (stack_view items.old.items)) }
+    ensures { Acts result items.new (special_sends_by code (stack_view items.old.items)) }
 {
     match special_selector(code) {
         Some(selector) => sends(alloc, Lookup::InClass, selector, items),
@@ -272,8 +265,7 @@ fn sends_special(alloc: Global, code: u8, items: &mut Stack) -> Result<bool, All
 
 /// The top as what is returned.
 fn returns_top(items: &mut Stack) -> Result<bool, AllocError>
-    ensures { IfOk result (λ ok. acted_if ok items.new.items
-        ≡ returns_top_by (stack_view items.old.items)) }
+    ensures { Acts result items.new (returns_top_by (stack_view items.old.items)) }
 {
     let Some(value) = pop_piece(items)? else {
         return Ok(false);
@@ -284,8 +276,7 @@ fn returns_top(items: &mut Stack) -> Result<bool, AllocError>
 
 /// An item more.
 fn put(item: Item, items: &mut Stack) -> Result<bool, AllocError>
-    ensures { IfOk result (λ ok.
-        acted_if ok items.new.items ≡ goes_on (item_view item ∷ stack_view items.old.items)) }
+    ensures { Acts result items.new (goes_on (item_view item ∷ stack_view items.old.items)) }
 {
     items.push(item)?;
     Ok(true)
@@ -298,8 +289,8 @@ fn pushes_constant(
     at: usize,
     items: &mut Stack,
 ) -> Result<bool, AllocError>
-    ensures { IfOk result (λ ok. acted_if ok items.new.items
-        ≡ goes_on (piece (leaf (constant_tree constant) at) ∷ stack_view items.old.items)) }
+    ensures { Acts result items.new (goes_on
+        (piece (leaf (constant_tree constant) at) ∷ stack_view items.old.items)) }
 {
     let tree = constant_tree(alloc, constant)?;
     put(Item::Piece(leaf(tree, at)), items)
@@ -312,8 +303,8 @@ fn returns_constant(
     at: usize,
     items: &mut Stack,
 ) -> Result<bool, AllocError>
-    ensures { IfOk result (λ ok. acted_if ok items.new.items
-        ≡ goes_on (piece (record (leaf (constant_tree constant) at) { returns = true }) ∷ stack_view items.old.items)) }
+    ensures { Acts result items.new (goes_on
+        (piece (record (leaf (constant_tree constant) at) { returns = true }) ∷ stack_view items.old.items)) }
 {
     let tree = constant_tree(alloc, constant)?;
     put(Item::Piece(returned(leaf(tree, at))), items)

@@ -3,9 +3,8 @@
 ghost use Rattle.std.specs.Prelude.{◌≡◌, ◌∷◌, [], IfOk};
 ghost use Rattle.st_emit.specs.declared.step.Step.TheVariants.{JumpIf};
 ghost use Rattle.st_expression_stack.specs.Items.{over};
-ghost use Rattle.st_decompile.specs.Reading.{choice_piece, loop_piece};
-ghost use Rattle.st_decompile.specs.Located.{AreSpaced, steps_in};
-ghost use Rattle.st_expression_stack.specs.Stacks.{stack_view, piece_view, taken_view, acted_by, chosen_if, stack_if};
+ghost use Rattle.st_expression_stack.specs.Stacks.{stack_view, piece_view, taken_view, Passes, Chooses, stack_if};
+ghost use Rattle.st_decompile.specs.{Reading.{choice_piece, loop_piece}, Located.{AreSpaced, steps_in}};
 ghost use Rattle.st_decompile.specs.Read.{region_by, act_by, IsPassed, chosen_by, looped_by};
 ghost use Rattle.st_decompile.specs.Read.{makes_block_by, block_made_by, decided_by, choice_made_by, repeats_by};
 
@@ -84,8 +83,8 @@ fn chosen(
     second: Stack,
     items: &mut Stack,
 ) -> Result<bool, AllocError>
-    ensures { IfOk result (λ ok. chosen_if ok items.new.items
-        ≡ chosen_by on (stack_view first.items) (stack_view second.items) (stack_view items.old.items)) }
+    ensures { Chooses result items.new (chosen_by on (stack_view first.items) (stack_view second.items)
+        (stack_view items.old.items)) }
 {
     let Some(condition) = pop_piece(items)? else {
         return Ok(false);
@@ -129,8 +128,8 @@ fn looped(
     body: Stack,
     items: &mut Stack,
 ) -> Result<bool, AllocError>
-    ensures { IfOk result (λ ok. chosen_if ok items.new.items
-        ≡ looped_by on at (stack_view body.items) (stack_view items.old.items)) }
+    ensures { Chooses result items.new (looped_by on at (stack_view body.items)
+        (stack_view items.old.items)) }
 {
     let Some(condition) = statements_from(alloc, at, items)? else {
         return Ok(false);
@@ -150,8 +149,8 @@ fn block_made(
     made: Option<Stack>,
     items: &mut Stack,
 ) -> Result<Option<usize>, AllocError>
-    ensures { IfOk result (λ skip. acted_by skip items.new.items
-        ≡ block_made_by reading.entry start distance (stack_if made) (stack_view items.old.items)) }
+    ensures { Passes result items.new (block_made_by reading.entry start distance (stack_if made)
+        (stack_view items.old.items)) }
 {
     let Some(body) = made else {
         return Ok(None);
@@ -170,8 +169,8 @@ fn choice_made(
     second: Option<Stack>,
     items: &mut Stack,
 ) -> Result<Option<usize>, AllocError>
-    ensures { IfOk result (λ skip. acted_by skip items.new.items
-        ≡ choice_made_by jump (stack_view first.items) (stack_if second) (stack_view items.old.items)) }
+    ensures { Passes result items.new (choice_made_by jump (stack_view first.items) (stack_if second)
+        (stack_view items.old.items)) }
 {
     let Some(other) = second else {
         return Ok(None);
@@ -189,8 +188,8 @@ fn repeats(
     body: Stack,
     items: &mut Stack,
 ) -> Result<Option<usize>, AllocError>
-    ensures { IfOk result (λ skip. acted_by skip items.new.items
-        ≡ repeats_by jump next (stack_view body.items) (stack_view items.old.items)) }
+    ensures { Passes result items.new (repeats_by jump next (stack_view body.items)
+        (stack_view items.old.items)) }
 {
     let at = sum(next, jump.distance)?.saturating_sub(jump.end);
     let skip = sum(jump.distance, 1)?;
@@ -208,9 +207,8 @@ fn makes_block(
     items: &mut Stack,
 ) -> Result<Option<usize>, AllocError>
     requires { AreSpaced spot.rest.now }
-    ensures { IfOk result (λ skip. acted_by skip items.new.items
-        ≡ makes_block_by reading.entry depth spot.entry.next (steps_in spot.entry.rest.now)
-        (stack_view items.old.items)) }
+    ensures { Passes result items.new (makes_block_by reading.entry depth spot.entry.next
+        (steps_in spot.entry.rest.now) (stack_view items.old.items)) }
 {
     let Some(start) = block_start(items)? else {
         return Ok(None);
@@ -235,9 +233,8 @@ fn chooses(
     items: &mut Stack,
 ) -> Result<Option<usize>, AllocError>
     requires { AreSpaced spot.rest.now }
-    ensures { IfOk result (λ skip. acted_by skip items.new.items
-        ≡ decided_by reading.entry depth jump.on jump.distance spot.entry (over jump.end ∷ stack_view first.items)
-        (stack_view items.old.items)) }
+    ensures { Passes result items.new (decided_by reading.entry depth jump.on jump.distance spot.entry
+        (over jump.end ∷ stack_view first.items) (stack_view items.old.items)) }
 {
     let at = sum(spot.next, jump.distance)?;
     let steps = front(jump.end, behind(jump.distance, spot.rest));
@@ -258,9 +255,8 @@ fn decided(
     items: &mut Stack,
 ) -> Result<Option<usize>, AllocError>
     requires { AreSpaced spot.rest.now }
-    ensures { IfOk result (λ skip. acted_by skip items.new.items
-        ≡ decided_by reading.entry depth on distance spot.entry (stack_view first.items)
-        (stack_view items.old.items)) }
+    ensures { Passes result items.new (decided_by reading.entry depth on distance spot.entry
+        (stack_view first.items) (stack_view items.old.items)) }
 {
     let mut first = first;
     let Some(last) = first.pop() else {
@@ -291,9 +287,8 @@ fn decides(
     items: &mut Stack,
 ) -> Result<Option<usize>, AllocError>
     requires { AreSpaced spot.rest.now }
-    ensures { IfOk result (λ skip. acted_by skip items.new.items
-        ≡ act_by reading.entry depth (JumpIf on distance) spot.entry.at spot.entry.next
-        (steps_in spot.entry.rest.now) (stack_view items.old.items)) }
+    ensures { Passes result items.new (act_by reading.entry depth (JumpIf on distance) spot.entry.at
+        spot.entry.next (steps_in spot.entry.rest.now) (stack_view items.old.items)) }
 {
     let steps = front(distance, spot.rest);
     let Some(first) = region_in(alloc, reading, depth, spot.next, steps)? else {
@@ -313,9 +308,8 @@ fn act(
     items: &mut Stack,
 ) -> Result<Option<usize>, AllocError>
     requires { AreSpaced spot.rest.now }
-    ensures { IfOk result (λ skip. acted_by skip items.new.items
-        ≡ act_by reading.entry depth step spot.entry.at spot.entry.next (steps_in spot.entry.rest.now)
-        (stack_view items.old.items)) }
+    ensures { Passes result items.new (act_by reading.entry depth step spot.entry.at spot.entry.next
+        (steps_in spot.entry.rest.now) (stack_view items.old.items)) }
 {
     match step {
         Step::JumpIf(on, distance) => decides(alloc, reading, depth, on, distance, spot, items),

@@ -1,5 +1,5 @@
 -- What contracts see of a stack of items.
-use Rattle.std.specs.Prelude.{◌≡◌, ◌<◌, length, ℕ, Bool, true, false, min, max, reverse, List, [], ◌∷◌, Option, Some, None}
+use Rattle.std.specs.Prelude.{◌≡◌, ◌<◌, length, ℕ, Bool, true, false, min, max, reverse, List, [], ◌∷◌, Option, Some, None, Result, IfOk}
 use Rattle.std.specs.Borrow.{Bor}
 use Rattle.std.specs.Global.{Vec}
 use Rattle.st_scan.specs.Views.{ExpressionsView, no_expressions, statement, expression_view, expressions_view, statements_view, messages_view}
@@ -84,6 +84,18 @@ acted_by (Some skip) xs = Some (record { skip = skip; items = stack_view xs })
 abbrev pub chosen_if : Bool → List KeptItem → Option (List Item)
 chosen_if false xs = None
 chosen_if true xs = Some (stack_view xs)
+
+-- What was asked for is done, with this on the stack; or it answers that it can't be done, and this is nothing.
+abbrev pub Acts : {E : Type 0} → Result Bool E → Vec KeptItem → Option Acted → Type 0
+Acts result new acted = IfOk result (λ ok. acted_if ok new.items ≡ acted)
+
+-- the same, with how many bytes are passed
+abbrev pub Passes : {E : Type 0} → Result (Option ℕ) E → Vec KeptItem → Option Acted → Type 0
+Passes result new acted = IfOk result (λ skip. acted_by skip new.items ≡ acted)
+
+-- the same of a form
+abbrev pub Chooses : {E : Type 0} → Result Bool E → Vec KeptItem → Option (List Item) → Type 0
+Chooses result new chosen = IfOk result (λ ok. chosen_if ok new.items ≡ chosen)
 
 abbrev pub stack_if : Option (Vec KeptItem) → Option (List Item)
 stack_if None = None

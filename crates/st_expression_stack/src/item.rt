@@ -2,10 +2,9 @@
 
 ghost use Rattle.std.specs.Prelude.{◌≡◌, ◌++◌, ◌∷◌, [], IfOk, OnOk};
 ghost use Rattle.st_scan.specs.Views.{no_statements};
-ghost use Rattle.st_expression_stack.specs.Items.{statements_of, is_low, put_low};
-ghost use Rattle.st_expression_stack.specs.Items.{statements_from};
+ghost use Rattle.st_expression_stack.specs.Items.{statements_of, is_low, put_low, statements_from};
 ghost use Rattle.st_expression_stack.specs.Stacks.{stack_view, piece_view, IsPopped, IsArgumentPopped};
-ghost use Rattle.st_expression_stack.specs.Stacks.{taken_view, taken_if, put_statement, chosen_if};
+ghost use Rattle.st_expression_stack.specs.Stacks.{taken_view, taken_if, put_statement, Chooses};
 
 use st_emit::Place;
 use st_scan::{Expression, MessageList, Statement, StatementList};
@@ -170,8 +169,7 @@ pub fn is_low(height: usize) -> bool
 
 /// A piece more, if a text may have it.
 pub fn put_low(piece: Piece, items: &mut Stack) -> Result<bool, AllocError>
-    ensures { IfOk result (λ ok.
-        chosen_if ok items.new.items ≡ put_low (piece_view piece) (stack_view items.old.items)) }
+    ensures { Chooses result items.new (put_low (piece_view piece) (stack_view items.old.items)) }
 {
     let low = is_low(piece.height);
     if low {

@@ -3,8 +3,7 @@
 ghost use Rattle.std.specs.Prelude.{◌≡◌, false, IfOk, option_map, Some};
 ghost use Rattle.st_scan.specs.Views.{name_view, content_view, elements_view, expression_view, expressions_view};
 ghost use Rattle.st_scan.specs.Views.{statements_view, statement, no_statements, send, message, no_messages};
-ghost use Rattle.st_emit.specs.Nodes.{is_above};
-ghost use Rattle.st_emit.specs.Views.{literal_view, members_view};
+ghost use Rattle.st_emit.specs.{Nodes.is_above, Views.{literal_view, members_view}};
 ghost use Rattle.st_expression_stack.specs.Choosing.{called, constant_text, constant_tree, small_signed, small_tree};
 ghost use Rattle.st_expression_stack.specs.Choosing.{named_content, content_of, elements_of, literal_tree, received, alone};
 ghost use Rattle.st_expression_stack.specs.Choosing.{one_sided_by, with_block, with_blocks, two_sides, choice_tree, loop_selector, loop_tree};

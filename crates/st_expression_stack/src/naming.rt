@@ -2,15 +2,11 @@
 //! can use these, and the method's own `t1`, `t2` and so on, with more letters t where the class has such names.
 
 ghost use Rattle.std.specs.Prelude.{◌≡◌, map, slice_get, option_map, IfOk};
-ghost use Rattle.std.specs.Char.{is_ascii_alphabetic, is_ascii_alphanumeric};
-ghost use Rattle.std.specs.Fmt.{decimal};
-ghost use Rattle.std.specs.List.{list_all};
-ghost use Rattle.st_scan.specs.Views.{name_view};
-ghost use Rattle.st_scan.specs.Pieces.{begins, is_name};
+ghost use Rattle.std.specs.{Char.{is_ascii_alphabetic, is_ascii_alphanumeric}, Fmt.decimal, List.list_all};
+ghost use Rattle.st_scan.specs.{Views.name_view, Pieces.{begins, is_name}};
 ghost use Rattle.st_emit.specs.NameViews.{names_view, texts_view, variable_view};
 ghost use Rattle.st_emit.specs.Views.{literal_view, literals_view};
-ghost use Rattle.st_expression_stack.specs.Choosing.{called};
-ghost use Rattle.st_expression_stack.specs.Called.{calling_view, items_now};
+ghost use Rattle.st_expression_stack.specs.{Choosing.called, Called.{calling_view, items_now}};
 ghost use Rattle.st_expression_stack.specs.Names.{is_usable, usable_or, marks, most_marks, texts_of, marks_of, marked, numeral};
 ghost use Rattle.st_expression_stack.specs.Names.{own_name, is_value, names_value, shared_text, literal_text, calling_of, name_in, or_unused};
 

@@ -2,12 +2,10 @@
 
 ghost use Rattle.std.specs.Prelude.{◌≡◌, ◌++◌, ◌∷◌, [], IfOk, OnOk};
 ghost use Rattle.st_scan.specs.Views.{expression_view, messages_view, send};
-ghost use Rattle.st_emit.specs.Nodes.{is_above};
-ghost use Rattle.st_emit.specs.Selectors.{colons, arity};
-ghost use Rattle.st_expression_stack.specs.Items.{again};
-ghost use Rattle.st_expression_stack.specs.Messages.{to_receiver, sends, doubled, popped};
+ghost use Rattle.st_emit.specs.{Nodes.is_above, Selectors.{colons, arity}};
+ghost use Rattle.st_expression_stack.specs.{Items.again, Messages.{to_receiver, sends, doubled, popped}};
 ghost use Rattle.st_expression_stack.specs.Sent.{sent_by, finished_by};
-ghost use Rattle.st_expression_stack.specs.Stacks.{stack_view, piece_view, item_view, acted_if, ArgumentsTaken};
+ghost use Rattle.st_expression_stack.specs.Stacks.{stack_view, piece_view, item_view, Acts, ArgumentsTaken};
 
 use crate::item::{Item, NO_ARGUMENTS, Piece, Stack, is_low, pop_piece};
 use crate::make::received;
@@ -128,7 +126,7 @@ fn cascaded(
     below: Item,
     items: &mut Stack,
 ) -> Result<bool, AllocError>
-    ensures { IfOk result (λ ok. acted_if ok items.new.items ≡ sent_by lookup message
+    ensures { Acts result items.new (sent_by lookup message
         (again ∷ stack_view (items.old.items ++ below ∷ []))) }
 {
     match below {
@@ -151,8 +149,7 @@ fn cascaded_below(
     message: Received,
     items: &mut Stack,
 ) -> Result<bool, AllocError>
-    ensures { IfOk result (λ ok. acted_if ok items.new.items
-        ≡ sent_by lookup message (again ∷ stack_view items.old.items)) }
+    ensures { Acts result items.new (sent_by lookup message (again ∷ stack_view items.old.items)) }
 {
     match items.pop() {
         Some(below) => cascaded(alloc, lookup, message, below, items),
@@ -184,8 +181,7 @@ fn sent_to_item(
     top: Item,
     items: &mut Stack,
 ) -> Result<bool, AllocError>
-    ensures { IfOk result (λ ok. acted_if ok items.new.items
-        ≡ sent_by lookup message (stack_view (items.old.items ++ top ∷ []))) }
+    ensures { Acts result items.new (sent_by lookup message (stack_view (items.old.items ++ top ∷ []))) }
 {
     match top {
         Item::Piece(receiver) => {
@@ -208,8 +204,7 @@ fn sent_to(
     message: Received,
     items: &mut Stack,
 ) -> Result<bool, AllocError>
-    ensures { IfOk result (λ ok. acted_if ok items.new.items
-        ≡ sent_by lookup message (stack_view items.old.items)) }
+    ensures { Acts result items.new (sent_by lookup message (stack_view items.old.items)) }
 {
     match items.pop() {
         Some(top) => sent_to_item(alloc, lookup, message, top, items),
@@ -224,8 +219,7 @@ pub fn sends(
     selector: &[u8],
     items: &mut Stack,
 ) -> Result<bool, AllocError>
-    ensures { IfOk result (λ ok. acted_if ok items.new.items
-        ≡ sends (is_above lookup) selector.now (stack_view items.old.items)) }
+    ensures { Acts result items.new (sends (is_above lookup) selector.now (stack_view items.old.items)) }
 {
     let count = arity(selector)?;
     let Some(arguments) = take_arguments(alloc, count, items)? else {
@@ -247,8 +241,7 @@ pub fn sends(
 
 /// What was on top once more, as the receiver of a cascade.
 fn doubled_item(alloc: Global, top: Item, items: &mut Stack) -> Result<bool, AllocError>
-    ensures { IfOk result (λ ok. acted_if ok items.new.items
-        ≡ doubled (stack_view (items.old.items ++ top ∷ []))) }
+    ensures { Acts result items.new (doubled (stack_view (items.old.items ++ top ∷ []))) }
 {
     match top {
         Item::Piece(receiver) => {
@@ -267,7 +260,7 @@ fn doubled_item(alloc: Global, top: Item, items: &mut Stack) -> Result<bool, All
 
 /// The top once more, as the receiver of a cascade.
 pub fn doubled(alloc: Global, items: &mut Stack) -> Result<bool, AllocError>
-    ensures { IfOk result (λ ok. acted_if ok items.new.items ≡ doubled (stack_view items.old.items)) }
+    ensures { Acts result items.new (doubled (stack_view items.old.items)) }
 {
     match items.pop() {
         Some(top) => doubled_item(alloc, top, items),

@@ -1,8 +1,6 @@
 // The classes that a text declares.
 ghost use Rattle.std.specs.Prelude.{◌≡◌, ◌+◌, [], ◌∷◌, ◌++◌, false, length, is_some, IfOk, OnOk};
-ghost use Rattle.st_kernel_text.specs.Parts.{Class};
-ghost use Rattle.st_kernel_text.specs.Lists.{texts_of};
-ghost use Rattle.st_kernel_text.specs.Views.{class_of, part_of, parts_of};
+ghost use Rattle.st_kernel_text.specs.{Parts.Class, Lists.texts_of, Views.{class_of, part_of, parts_of}};
 ghost use Rattle.st_first_objects.specs.Classes.{undeclared, found, declared, is_nil, limited, inherited, declared_in, with_class, with_part, classes};
 ghost use Rattle.st_first_objects.specs.Views.{declared_of};
 

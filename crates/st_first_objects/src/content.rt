@@ -1,9 +1,7 @@
 // What is in an object.
-ghost use Rattle.std.specs.Prelude.{◌≡◌, IfOk, replicate};
-ghost use Rattle.std.specs.Prelude.{List};
+ghost use Rattle.std.specs.Prelude.{◌≡◌, IfOk, replicate, List};
 ghost use Rattle.st_model.specs.Objects.{words_of};
-ghost use Rattle.st_first_objects.specs.Things.{Thing as NamedThing};
-ghost use Rattle.st_first_objects.specs.Pointers.{object_in};
+ghost use Rattle.st_first_objects.specs.{Things.{Thing as NamedThing}, Pointers.object_in};
 ghost use Rattle.st_first_objects.specs.Contents.{Empty, of_fields, of_bytes, association, array, dictionary};
 ghost use Rattle.st_first_objects.specs.Views.{thing_of, field_of, fields_of, content_of};
 

@@ -1,7 +1,6 @@
 // The placing of objects.
 ghost use Rattle.std.specs.Prelude.{◌≡◌, ◌*◌, ◌/◌, ◌<◌, ◌≤◌, [], length};
-ghost use Rattle.st_model.specs.declared.oop.Oop.{Oop};
-ghost use Rattle.st_model.specs.Values.{value, Ref};
+ghost use Rattle.st_model.specs.{declared.oop.Oop.Oop, Values.{value, Ref}};
 ghost use Rattle.st_first_objects.specs.Contents.{Fields, Bytes};
 ghost use Rattle.st_first_objects.specs.Pointers.{place, place_in, value_in, object_by, object_in};
 ghost use Rattle.st_first_objects.specs.Placing.{Puts, CanPlace};

@@ -1,10 +1,7 @@
 // What each part makes.
 ghost use Rattle.std.specs.Prelude.{◌≡◌, ◌++◌, ℕ, List, IfOk, OnOk, map};
-ghost use Rattle.st_kernel_text.specs.Parts.{Part};
-ghost use Rattle.st_kernel_text.specs.Lists.{texts_of};
-ghost use Rattle.st_kernel_text.specs.Views.{class_of, pool_of, part_of};
-ghost use Rattle.st_first_objects.specs.declared.thing.What.TheVariants.{Variable};
-ghost use Rattle.st_first_objects.specs.Things.{within};
+ghost use Rattle.st_kernel_text.specs.{Parts.Part, Lists.texts_of, Views.{class_of, pool_of, part_of}};
+ghost use Rattle.st_first_objects.specs.{declared.thing.What.TheVariants.Variable, Things.within};
 ghost use Rattle.st_first_objects.specs.Orders.{want_all, class_things, names_things, shared_things, pool_things, wanted_by};
 ghost use Rattle.st_first_objects.specs.Views.{thing_of, things_of};
 

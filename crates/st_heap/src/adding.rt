@@ -107,6 +107,7 @@ impl Form {
     }
 
     /// Stores a new object that has nothing but fields, and few, under an unused pointer: its words are written at once.
+    #[inline(always)]
     fn store_fields(&self, store: &mut Store, at: Oop)
         requires unused { IsUnused (stored_of store.old) at }
         requires form { IsForm self.now }
@@ -127,6 +128,7 @@ impl Form {
     }
 
     /// Stores a new object under an unused pointer.
+    #[inline(always)]
     pub fn store(&self, store: &mut Store, at: Oop)
         requires unused { IsUnused (stored_of store.old) at }
         requires form { IsForm self.now }

@@ -123,6 +123,7 @@ impl Heap {
 
     /// Finds n words for the object of a pointer: a hole of just this length, or words beyond all blocks. Where neither is
     /// there it closes up first. Answers their place, for the pointer's entry.
+    #[inline(always)]
     pub fn take(&mut self, t: &mut Table, o: Oop, n: u32) -> u32
         requires fits { Fits self.old n }
         requires size { 2 ≤ n }
@@ -144,6 +145,7 @@ impl Heap {
     }
 
     /// Moves all blocks down, in the order of their places, so that all free words lie beyond them.
+    #[inline(never)]
     pub fn close_up(&mut self, t: &mut Table)
         requires { IsTied t.old (blocks_of self.old) }
         ensures tied { IsTied t.new (blocks_of self.new) }

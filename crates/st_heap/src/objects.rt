@@ -341,6 +341,7 @@ impl Objects {
     }
 
     /// A new object at a free pointer, with fields of nil, units of 0 and, in a Method, its literal count.
+    #[inline(always)]
     pub fn place(&mut self, at: Oop, class: Oop, kind: Kind, size: u32, literals: u32)
         requires even { is_small (value at) ≡ false }
         requires borne { at.0 ≢ 0 }

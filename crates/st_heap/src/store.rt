@@ -180,6 +180,7 @@ impl Store {
     }
 
     /// Stores something under an unused pointer, in n words; what the words are is not said.
+    #[inline(always)]
     pub fn take(&mut self, o: Oop, kind: Kind, odd: bool, n: u32)
         requires unused { IsUnused (stored_of self.old) o }
         requires size { 2 ≤ n }
@@ -196,11 +197,9 @@ impl Store {
             next: Oop(0),
             before: Oop(0),
         };
+        self.used.entries += 1;
+        self.used.words += n;
         self.table.take_entry(o, entry);
-        self.used = Demand {
-            entries: self.used.entries + 1,
-            words: self.used.words + n,
-        };
     }
 
     /// Takes what is stored under a pointer, in n words, away.
@@ -215,10 +214,8 @@ impl Store {
         let at = self.table.entry(o).at;
         self.heap.give(at, n);
         self.table.free_entry(o);
-        self.used = Demand {
-            entries: self.used.entries - 1,
-            words: self.used.words - n,
-        };
+        self.used.entries -= 1;
+        self.used.words -= n;
     }
 
     /// Exchanges what is stored under two pointers.

@@ -1,8 +1,6 @@
 ghost use Rattle.std.specs.Prelude.{◌≡◌, ◌*◌, ◌<◌, IfOk, IfErr, OnOk};
-ghost use Rattle.st_model.specs.Image.{entries_of};
-ghost use Rattle.st_image.specs.Sizes.{AreInside};
-ghost use Rattle.st_model.specs.Faults.{IsImageFault};
-ghost use Rattle.st_image.specs.HeadValues.{head_over};
+ghost use Rattle.st_model.specs.{Image.entries_of, Faults.IsImageFault};
+ghost use Rattle.st_image.specs.{Sizes.AreInside, HeadValues.head_over};
 ghost use Rattle.st_image.specs.Rows.{IsRow, IsMemoryRow, IsReadFault, IsCleanBelow};
 
 use crate::error::ReadImage;

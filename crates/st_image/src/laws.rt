@@ -1,18 +1,10 @@
 ghost use Rattle.std.specs.Prelude.{◌≡◌, ℕ, List};
-ghost use Rattle.st_model.specs.declared.fault.ImageFault.{ImageFault};
-ghost use Rattle.st_model.specs.declared.head.ImageHead.{ImageHead};
-ghost use Rattle.st_model.specs.Faults.{IsImageFault, IsWellFormed};
-ghost use Rattle.st_model.specs.Machine.{State, Went};
-ghost use Rattle.st_model.specs.Births.{Births, births};
-ghost use Rattle.st_model.specs.Table.{Table};
-ghost use Rattle.st_model.specs.Show.{Shows};
-ghost use Rattle.st_model.specs.Start.{begin};
-ghost use Rattle.st_model.specs.Saving.{save};
+ghost use Rattle.st_model.specs.{declared.fault.ImageFault.ImageFault, declared.head.ImageHead.ImageHead};
+ghost use Rattle.st_model.specs.{Faults.{IsImageFault, IsWellFormed}, Machine.{State, Went}};
+ghost use Rattle.st_model.specs.{Births.{Births, births}, Table.Table, Show.Shows, Start.begin, Saving.save};
 ghost use Rattle.st_model.specs.View.{View, IsWhole};
 ghost use Rattle.st_frames.specs.declared.frame.Frame.{Frame};
-ghost use Rattle.st_image.specs.HeadValues.{no_values, head_over};
-ghost use Rattle.st_image.specs.Reading.{IsStart};
-ghost use Rattle.st_image.specs.Back.{CanStart};
+ghost use Rattle.st_image.specs.{HeadValues.{no_values, head_over}, Reading.IsStart, Back.CanStart};
 ghost use Rattle.st_writer.specs.Written.{image_of};
 
 /// The law that an image file has at most one fault.

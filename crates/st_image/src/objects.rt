@@ -1,8 +1,7 @@
 ghost use Rattle.std.specs.Prelude.{◌≡◌, ℕ, ◌+◌, ◌<◌, length, true, IfOk, IfSome};
 ghost use Rattle.st_model.specs.Image.{entries_of, is_used, size};
 ghost use Rattle.st_model.specs.Faults.{size_fails, class_fails, is_field, field_fails, method_fails};
-ghost use Rattle.st_image.specs.Spans.{span};
-ghost use Rattle.st_image.specs.Passes.{IsFirst, IsLeast, IsFirstPair};
+ghost use Rattle.st_image.specs.{Spans.span, Passes.{IsFirst, IsLeast, IsFirstPair}};
 ghost use Rattle.st_image.specs.Sizes.{IsInside, AreInside, span_of};
 
 use crate::image::Image;

@@ -1,9 +1,7 @@
 ghost use Rattle.std.specs.Prelude.{◌≡◌, ◌+◌, ◌<◌, true};
-ghost use Rattle.st_model.specs.Objects.{is_method};
-ghost use Rattle.st_model.specs.Image.{entries_of, size};
+ghost use Rattle.st_model.specs.{Objects.is_method, Image.{entries_of, size}};
 ghost use Rattle.st_model.specs.Start.{is_word_class, has_words, kind_in, fields_in, units_in};
-ghost use Rattle.st_image.specs.Sizes.{IsInside};
-ghost use Rattle.st_image.specs.Loads.{IsSound, IsShape};
+ghost use Rattle.st_image.specs.{Sizes.IsInside, Loads.{IsSound, IsShape}};
 
 use crate::head::has_letters;
 use crate::image::Image;

@@ -2,15 +2,11 @@
 
 ghost use Rattle.st_chunk.specs.Definitions.{Definition as DefinitionView, IsDefinition};
 ghost use Rattle.st_chunk.specs.ScriptDefinitions.{definition_of};
-ghost use Rattle.st_model.specs.Machine.{State, World};
-ghost use Rattle.st_model.specs.Births.{Births};
-ghost use Rattle.st_model.specs.Show.{Shows};
-ghost use Rattle.st_frames.specs.declared.frame.Frame.{Frame};
-ghost use Rattle.st_frames.specs.Shown.{IsReady, shown};
-ghost use Rattle.st_install.specs.Defining.{installed};
+ghost use Rattle.st_model.specs.{Machine.{State, World}, Births.Births, Show.Shows};
+ghost use Rattle.st_frames.specs.{declared.frame.Frame.Frame, Shown.{IsReady, shown}};
+ghost use Rattle.st_install.specs.{Defining.installed, Prepareds.IsPrepared};
 ghost use Rattle.st_protocol.specs.Installations.{InstallsAs, Unchanged};
 ghost use Rattle.st_protocol.specs.declared.installation.Installation.TheVariants.{Accepted};
-ghost use Rattle.st_install.specs.Prepareds.{IsPrepared};
 
 use crate::installing::install;
 use crate::preparing::{Prepared, prepare};

@@ -1,11 +1,9 @@
 //! Laws of the definition.
 
 ghost use Rattle.std.specs.Prelude.{◌≡◌, ℕ, List, Result};
-ghost use Rattle.st_scan.specs.declared.fault.Fault.{Fault};
-ghost use Rattle.st_scan.specs.Views.{MethodView};
+ghost use Rattle.st_scan.specs.{declared.fault.Fault.Fault, Views.MethodView};
 ghost use Rattle.st_grammar.specs.Texts.{Means};
-ghost use Rattle.st_install.specs.Syntax.{IsSyntax, syntax};
-ghost use Rattle.st_install.specs.Messages.{HaveArguments};
+ghost use Rattle.st_install.specs.{Syntax.{IsSyntax, syntax}, Messages.HaveArguments};
 
 /// `syntax` is the tree that a text means, or its first fault, and nothing else is.
 pub fn one_syntax()

@@ -1,14 +1,11 @@
 //! An installation that is ready is carried out.
 
-ghost use Rattle.std.specs.Prelude.{◌≡◌, length};
-ghost use Rattle.std.specs.List.{AllByRecursion};
-ghost use Rattle.st_model.specs.Objects.{nil};
-ghost use Rattle.st_model.specs.Table.{table, bounded_table};
+ghost use Rattle.std.specs.{Prelude.{◌≡◌, length}, List.AllByRecursion};
+ghost use Rattle.st_model.specs.{Objects.nil, Table.{table, bounded_table}};
 ghost use Rattle.st_install.specs.Carried.{Goes, Becomes, Installs, IsPlannable, AreShaped, HasSmallBodies};
-ghost use Rattle.st_install.specs.Goes.{IsReadyFor};
-ghost use Rattle.st_install.specs.Installing.{fill_and_store, install};
-ghost use Rattle.st_scope.specs.Meanings.{values};
+ghost use Rattle.st_install.specs.{Goes.IsReadyFor, Installing.{fill_and_store, install}};
 ghost use Rattle.st_install.specs.Readies.{HasRoom, objects_of, plan_of};
+ghost use Rattle.st_scope.specs.Meanings.{values};
 
 use crate::filling::{fill_all, part_value};
 use crate::making::make_all;

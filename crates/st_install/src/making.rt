@@ -1,15 +1,11 @@
 //! The objects of an installation are made.
 
-ghost use Rattle.std.specs.Prelude.{◌≡◌, [], ◌∷◌, length, true};
-ghost use Rattle.std.specs.List.{AllByRecursion};
-ghost use Rattle.st_model.specs.Values.{value};
-ghost use Rattle.st_model.specs.Table.{bounded_table};
-ghost use Rattle.st_model.specs.View.{fits};
+ghost use Rattle.std.specs.{Prelude.{◌≡◌, [], ◌∷◌, length, true}, List.AllByRecursion};
+ghost use Rattle.st_model.specs.{Values.value, Table.bounded_table, View.fits};
 ghost use Rattle.st_install.specs.Carried.{Goes, Becomes, Makes, IsPlannable, AreShaped};
 ghost use Rattle.st_install.specs.Installing.{size_by, literals_by, make_new, make_all};
+ghost use Rattle.st_install.specs.{Plans.demand_of_all, Readies.{object_of as planned_of, objects_of}};
 ghost use Rattle.st_scope.specs.Meanings.{values};
-ghost use Rattle.st_install.specs.Plans.{demand_of_all};
-ghost use Rattle.st_install.specs.Readies.{object_of as planned_of, objects_of};
 
 use crate::plan::NewObject;
 use st_memory::Memory;

@@ -1,10 +1,7 @@
 //! The places of a method dictionary, and where the search for one ends.
 
 ghost use Rattle.std.specs.Prelude.{◌≡◌, ◌≤◌, ◌<◌, ◌-◌, Ok, IfOk};
-ghost use Rattle.st_model.specs.Values.{value};
-ghost use Rattle.st_model.specs.Table.{table};
-ghost use Rattle.st_model.specs.Lookup.{half_word};
-ghost use Rattle.st_model.specs.Calls.{Reads, itself};
+ghost use Rattle.st_model.specs.{Values.value, Table.table, Lookup.half_word, Calls.{Reads, itself}};
 ghost use Rattle.st_install.specs.Dictionaries.{count_places, seek_from, seek};
 ghost use Rattle.st_install.specs.Endings.{SeeksAt, SeeksFrom, ending_of, IsSmallPlace};
 

@@ -1,13 +1,11 @@
 //! What the installation of a method makes and stores, in order: Symbols, the other literals, the method, and a dictionary.
 
 ghost use Rattle.std.specs.Prelude.{◌≡◌, ◌==◌, ◌≤◌, ◌<◌, Some, None, length, IfOk, if◌then◌else◌};
-ghost use Rattle.st_model.specs.Values.{value};
-ghost use Rattle.st_model.specs.Table.{table};
+ghost use Rattle.st_model.specs.{Values.value, Table.table};
 ghost use Rattle.st_code.specs.MethodDrafts.{parts_view};
-ghost use Rattle.st_install.specs.Readies.{part_of, object_of, plan_of, HasRoom};
-ghost use Rattle.st_install.specs.Carried.{HasSmallBodies};
-ghost use Rattle.st_scope.specs.Findings.{Finds};
+ghost use Rattle.st_install.specs.{Readies.{part_of, object_of, plan_of, HasRoom}, Carried.HasSmallBodies};
 ghost use Rattle.st_install.specs.PlanDrafts.{plan_from, plan_step, TellsGrowth, TellsPlan};
+ghost use Rattle.st_scope.specs.Findings.{Finds};
 
 use crate::growing::grown_for;
 use crate::literals::{place_literals, put_object};

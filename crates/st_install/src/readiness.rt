@@ -1,14 +1,11 @@
 //! Whether a method can be installed, and with what.
 
 ghost use Rattle.std.specs.Prelude.{◌≡◌, IfOk};
-ghost use Rattle.st_model.specs.Values.{value};
-ghost use Rattle.st_model.specs.Table.{table};
+ghost use Rattle.st_model.specs.{Values.value, Table.table};
 ghost use Rattle.st_code.specs.MethodDrafts.{parts_view};
-ghost use Rattle.st_install.specs.Calls.{planned, ready};
-ghost use Rattle.st_install.specs.Readies.{plan_of, HasRoom};
+ghost use Rattle.st_install.specs.{Calls.{planned, ready}, Readies.{plan_of, HasRoom}};
+ghost use Rattle.st_install.specs.{Carried.HasSmallBodies, Rooms.TellsReady};
 ghost use Rattle.st_scope.specs.Findings.{Finds};
-ghost use Rattle.st_install.specs.Carried.{HasSmallBodies};
-ghost use Rattle.st_install.specs.Rooms.{TellsReady};
 
 use crate::plan::Ready;
 use crate::planning::plan;

@@ -1,8 +1,7 @@
 //! A grown dictionary takes over what stood in the one before it (chapter 27).
 
 ghost use Rattle.std.specs.Prelude.{◌≤◌, false, Some};
-ghost use Rattle.st_model.specs.Values.{value};
-ghost use Rattle.st_model.specs.Table.{table};
+ghost use Rattle.st_model.specs.{Values.value, Table.table};
 ghost use Rattle.st_install.specs.Carried.{Goes, Becomes};
 ghost use Rattle.st_install.specs.Dictionaries.{put_method, put_at, refill_unless, refill_from, refill};
 ghost use Rattle.st_install.specs.Endings.{ending_of, IsSmallPlace};

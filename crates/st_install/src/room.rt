@@ -3,10 +3,8 @@
 ghost use Rattle.std.specs.Prelude.{◌≡◌, ◌<◌, ◌≤◌, ◌^◌, length, Some, Err, IfSome, IfNone, IfOk};
 ghost use Rattle.st_model.specs.Table.{table};
 ghost use Rattle.st_scope.specs.declared.fault.InstallFault.TheVariants.{OutOfMemory};
-ghost use Rattle.st_install.specs.Plans.{words_of_new, words_of_all, demand_of_all};
-ghost use Rattle.st_install.specs.Calls.{with_room};
-ghost use Rattle.st_install.specs.Readies.{object_of, objects_of, plan_of, HasRoom};
-ghost use Rattle.st_install.specs.Carried.{HasSmallBodies};
+ghost use Rattle.st_install.specs.{Plans.{words_of_new, words_of_all, demand_of_all}, Calls.with_room};
+ghost use Rattle.st_install.specs.{Readies.{object_of, objects_of, plan_of, HasRoom}, Carried.HasSmallBodies};
 ghost use Rattle.st_install.specs.Rooms.{TellsReady};
 
 use crate::plan::{NewObject, Ready};

@@ -1,12 +1,9 @@
 //! Objects of a memory, where it is sure that a step goes: it reads and stores without a check.
 
 ghost use Rattle.std.specs.Prelude.{◌≡◌, Ok};
-ghost use Rattle.st_model.specs.Values.{value};
-ghost use Rattle.st_model.specs.Formed.{IsHeader};
-ghost use Rattle.st_model.specs.Table.{table};
+ghost use Rattle.st_model.specs.{Values.value, Formed.IsHeader, Table.table};
 ghost use Rattle.st_model.specs.Steps.{fetch_field, store_field, store_method_field, store_byte};
-ghost use Rattle.st_model.specs.Calls.{Reads};
-ghost use Rattle.st_model.specs.View.{IsKnown, object_of};
+ghost use Rattle.st_model.specs.{Calls.Reads, View.{IsKnown, object_of}};
 ghost use Rattle.st_install.specs.Carried.{Goes, Becomes, KeepsFields};
 
 use st_memory::Memory;

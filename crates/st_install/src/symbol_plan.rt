@@ -1,13 +1,10 @@
 //! The Symbols that a method needs, of which those that the symbol table lacks are made.
 
-ghost use Rattle.std.specs.Prelude.{◌≡◌, ◌<◌, ◌∷◌, None, length, OnOk};
-ghost use Rattle.std.specs.List.{position_or_len};
-ghost use Rattle.st_model.specs.Values.{value};
-ghost use Rattle.st_model.specs.Table.{table};
+ghost use Rattle.std.specs.{Prelude.{◌≡◌, ◌<◌, ◌∷◌, None, length, OnOk}, List.position_or_len};
+ghost use Rattle.st_model.specs.{Values.value, Table.table};
 ghost use Rattle.st_emit.specs.Views.{literal_view, literals_view};
 ghost use Rattle.st_install.specs.Symbols.{is_vacant, grown_size, symbol_part, symbols_of, symbols_in, with_symbol, symbols_for};
-ghost use Rattle.st_install.specs.Readies.{part_of, parts_of};
-ghost use Rattle.st_install.specs.Told.{named_of};
+ghost use Rattle.st_install.specs.{Readies.{part_of, parts_of}, Told.named_of};
 ghost use Rattle.st_install.specs.Naming.{nil, Becomes, with_named, in_field, in_array, with_made, naming, TellsFields, TellsNaming, TellsNames};
 
 use crate::literals::put_object;

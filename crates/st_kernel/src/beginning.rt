@@ -1,12 +1,8 @@
 // The beginning of a machine.
 ghost use Rattle.std.specs.Prelude.{◌≡◌, ◌+◌, true, Ok, Option, Result, IfOk, IfErr};
-ghost use Rattle.st_model.specs.Objects.{nil};
-ghost use Rattle.st_model.specs.Machine.{empty_world};
-ghost use Rattle.st_model.specs.Start.{idle_state};
+ghost use Rattle.st_model.specs.{Objects.nil, Machine.empty_world, Start.idle_state};
 ghost use Rattle.st_kernel_text.specs.Views.{start_of};
-ghost use Rattle.st_kernel.specs.Starting.{begin_by};
-ghost use Rattle.st_kernel.specs.Built.{IsBegun};
-ghost use Rattle.st_kernel.specs.Found.{IsMissing};
+ghost use Rattle.st_kernel.specs.{Starting.begin_by, Built.IsBegun, Found.IsMissing};
 ghost use Rattle.st_kernel.specs.Following.{IsQuiet, Ends};
 
 use crate::finding::{global_value, method_of};

@@ -1,13 +1,10 @@
 // What a start finds in an image.
 ghost use Rattle.std.specs.Prelude.{◌≡◌, IfOk, true};
-ghost use Rattle.st_model.specs.declared.dead.Dead.TheVariants as dead;
-ghost use Rattle.st_model.specs.Values.{value};
-ghost use Rattle.st_model.specs.Steps.{or_die};
-ghost use Rattle.st_model.specs.Table.{Table, table};
-ghost use Rattle.st_model.specs.Calls.{Reads};
+ghost use Rattle.st_model.specs.{Values.value, Steps.or_die, Table.{Table, table}, Calls.Reads};
 ghost use Rattle.st_model.specs.View.{IsKnown, is_live, table_of};
 ghost use Rattle.st_scope.specs.Texts.{found};
 ghost use Rattle.st_kernel.specs.Starting.{global_value, symbol_of, unary_method, method_of};
+ghost use Rattle.st_model.specs.declared.dead.Dead.TheVariants as dead;
 
 use st_install::symbol_named;
 use st_lookup::find;

@@ -1,11 +1,9 @@
 // Following a kernel text over the memory of its first objects.
 ghost use Rattle.std.specs.Prelude.{◌≡◌, ◌≤◌, ◌<◌, ◌-◌, ◌^◌, ◌∷◌, List, Result, IfOk, IfErr, length};
-ghost use Rattle.st_kernel_text.specs.Parts.{Part as APart, start};
-ghost use Rattle.st_kernel_text.specs.Views.{start_of, parts_of};
+ghost use Rattle.st_kernel_text.specs.{Parts.{Part as APart, start}, Views.{start_of, parts_of}};
+ghost use Rattle.st_kernel_text.specs.{Parts.{Side as ASide}, Definitions.AreDefinitions};
 ghost use Rattle.st_install.specs.Defining.{installed};
 ghost use Rattle.st_protocol.specs.Installing.{Install};
-ghost use Rattle.st_kernel_text.specs.Parts.{Side as ASide};
-ghost use Rattle.st_kernel_text.specs.Definitions.{AreDefinitions};
 ghost use Rattle.st_kernel.specs.Built.{Built, Fault, no_side, IsBegun, IsFaultOf};
 ghost use Rattle.st_kernel.specs.Following.{side_in, IsUnderway, Finishes, IsQuiet};
 

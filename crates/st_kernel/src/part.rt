@@ -1,11 +1,8 @@
 // One part more.
 ghost use Rattle.std.specs.Prelude.{◌≡◌, ◌∷◌, [], List, Option, Result};
-ghost use Rattle.st_chunk.specs.Definitions.{IsDefinition};
-ghost use Rattle.st_kernel_text.specs.declared.cause.Cause.{Cause as ACause};
-ghost use Rattle.st_kernel_text.specs.Parts.{Part as APart, method};
-ghost use Rattle.st_kernel_text.specs.Views.{part_of, side_of};
-ghost use Rattle.st_chunk.specs.ScriptDefinitions.{definition_of};
-ghost use Rattle.st_kernel_text.specs.Definitions.{AreDefinitions, definition_by};
+ghost use Rattle.st_chunk.specs.{Definitions.IsDefinition, ScriptDefinitions.definition_of};
+ghost use Rattle.st_kernel_text.specs.{declared.cause.Cause.{Cause as ACause}, Parts.{Part as APart, method}};
+ghost use Rattle.st_kernel_text.specs.{Views.{part_of, side_of}, Definitions.{AreDefinitions, definition_by}};
 ghost use Rattle.st_install.specs.Defining.{installed};
 ghost use Rattle.st_kernel.specs.Built.{Built, Fault};
 ghost use Rattle.st_kernel.specs.Following.{side_in, IsUnderway, Installs, GoesOn, StaysGood, IsQuiet};

@@ -2,8 +2,7 @@
 ghost use Rattle.std.specs.Prelude.{◌≡◌, ◌+◌, false, length, Ok, Some};
 ghost use Rattle.st_kernel_text.specs.Known.{nothing, named, is_known, inherited, most_fields, with_name, with_layout, with_inherited};
 ghost use Rattle.st_kernel_text.specs.Known.{with_class, with_pool, with_global, is_met, has_all, complete, if_known, known_behind};
-ghost use Rattle.st_kernel_text.specs.Views.{class_of, pool_of, part_of};
-ghost use Rattle.st_kernel_text.specs.Lists.{needs_of, texts_of};
+ghost use Rattle.st_kernel_text.specs.{Views.{class_of, pool_of, part_of}, Lists.{needs_of, texts_of}};
 ghost use Rattle.st_kernel_text.specs.Reading.{Leaves};
 
 use crate::cause::{Cause, Stop};

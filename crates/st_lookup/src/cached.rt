@@ -291,14 +291,17 @@ impl<M: Memory> Memory for Cached<M> {
         self.memory.place(o)
     }
 
+    #[inline(always)]
     fn placed_pointer(&self, o: Oop, place: u32, at: u32) -> Oop {
         self.memory.placed_pointer(o, place, at)
     }
 
+    #[inline(always)]
     fn placed_byte(&self, o: Oop, place: u32, at: u32) -> u8 {
         self.memory.placed_byte(o, place, at)
     }
 
+    #[inline(always)]
     fn set_placed_pointer(&mut self, o: Oop, place: u32, at: u32, v: Oop) {
         forget_if(&mut self.watch, &mut self.entries, o);
         self.memory.set_placed_pointer(o, place, at, v);

@@ -1,9 +1,6 @@
 ghost use Rattle.std.specs.Prelude.{◌≡◌, length, OnOk};
-ghost use Rattle.st_model.specs.Values.{value};
-ghost use Rattle.st_model.specs.Table.{bounded_table};
-ghost use Rattle.st_model.specs.Processes.{signal};
-ghost use Rattle.st_model.specs.Cycles.{signal_next, signal_newest};
-ghost use Rattle.st_model.specs.Calls.{Does, itself};
+ghost use Rattle.st_model.specs.{Values.value, Table.bounded_table, Processes.signal};
+ghost use Rattle.st_model.specs.{Cycles.{signal_next, signal_newest}, Calls.{Does, itself}};
 ghost use Rattle.st_frames.specs.Shown.{IsReady, shown};
 
 use st_frames::{Frame, World, load};

@@ -1,9 +1,7 @@
 ghost use Rattle.std.specs.Prelude.{◌≡◌, OnOk};
-ghost use Rattle.st_model.specs.Values.{value};
-ghost use Rattle.st_model.specs.Table.{bounded_table};
+ghost use Rattle.st_model.specs.{Values.value, Table.bounded_table};
 ghost use Rattle.st_model.specs.Processes.{leave_process, switch_to_process};
-ghost use Rattle.st_model.specs.Cycles.{switch_if_waiting, check_process_switch};
-ghost use Rattle.st_model.specs.Calls.{Does, itself};
+ghost use Rattle.st_model.specs.{Cycles.{switch_if_waiting, check_process_switch}, Calls.{Does, itself}};
 ghost use Rattle.st_frames.specs.Shown.{IsReady, shown};
 
 use crate::signals::signal_newest;

@@ -1,9 +1,6 @@
 ghost use Rattle.std.specs.Prelude.{◌≡◌, ◌/◌, true, IfOk};
-ghost use Rattle.st_model.specs.Formed.{IsMakeable, fresh};
-ghost use Rattle.st_model.specs.Objects.{words_of};
-ghost use Rattle.st_model.specs.View.{no_devices};
-ghost use Rattle.st_frames.specs.Shown.{IsFrame, IsReady};
-ghost use Rattle.st_frames.specs.Naming.{IsNaming};
+ghost use Rattle.st_model.specs.{Formed.{IsMakeable, fresh}, Objects.words_of, View.no_devices};
+ghost use Rattle.st_frames.specs.{Shown.{IsFrame, IsReady}, Naming.IsNaming};
 
 use st_frames::Loaded;
 use st_image::{HeadValues, ReadImage, read};

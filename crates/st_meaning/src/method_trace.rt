@@ -4,8 +4,7 @@ ghost use Rattle.std.specs.Prelude.{◌≡◌, ◌++◌, None, IfOk, IfErr};
 ghost use Rattle.st_scan.specs.Views.{method_view};
 ghost use Rattle.st_emit.specs.NameViews.{names_view, frame_view, scope_view};
 ghost use Rattle.st_code.specs.Methods.{fault};
-ghost use Rattle.st_meaning.specs.Deeds.{answers_view, deeds_view, Lists, IsFault};
-ghost use Rattle.st_meaning.specs.Meanings.{Trace};
+ghost use Rattle.st_meaning.specs.{Deeds.{answers_view, deeds_view, Lists, IsFault}, Meanings.Trace};
 ghost use Rattle.st_meaning.specs.Sketches.{IsSketchOf};
 
 use crate::arena::Statements;

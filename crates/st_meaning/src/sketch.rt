@@ -6,10 +6,8 @@ ghost use Rattle.st_scan.specs.Views.{name_view, content_view, expression_view, 
 ghost use Rattle.st_scan.specs.Chains.{IsStart as IsFirst};
 ghost use Rattle.st_emit.specs.Around.{context};
 ghost use Rattle.st_emit.specs.Emits.{after, after_all, after_messages, after_loop, after_link, after_chain};
-ghost use Rattle.st_emit.specs.Emits.{after_statements, after_begun, BeginsNoLoop};
-ghost use Rattle.st_emit.specs.Nodes.{is_above};
-ghost use Rattle.st_emit.specs.Resolving.{name_node, content_node, number_node};
-ghost use Rattle.st_emit.specs.Shapes.{IsCascade};
+ghost use Rattle.st_emit.specs.{Emits.{after_statements, after_begun, BeginsNoLoop}, Nodes.is_above};
+ghost use Rattle.st_emit.specs.{Resolving.{name_node, content_node, number_node}, Shapes.IsCascade};
 ghost use Rattle.st_meaning.specs.Meant.{IsNode, IsStart, IsAct, IsArguments, IsBody};
 ghost use Rattle.st_meaning.specs.Sketches.{IsFew, Builds, MakesMessage, MakesMessages, MakesSends, literals_of, node_naming};
 ghost use Rattle.st_meaning.specs.Sketches.{chain_naming, begun_naming, arguments_naming, sent_naming, two_naming};

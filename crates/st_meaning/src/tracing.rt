@@ -1,8 +1,7 @@
 //! What the nodes of a method do.
 
 ghost use Rattle.std.specs.Prelude.{◌≡◌, [], IfOk, IfErr, OnOk};
-ghost use Rattle.st_meaning.specs.Meanings.{most};
-ghost use Rattle.st_meaning.specs.Courses.{IsLong, IsSound};
+ghost use Rattle.st_meaning.specs.{Meanings.most, Courses.{IsLong, IsSound}};
 ghost use Rattle.st_meaning.specs.Traced.{Gives, GivesAll, IsOver, IsPassed, IsFirstOn, IsLeftOn, IsCut};
 ghost use Rattle.st_meaning.specs.Traced.{EndsTurn, IsTurnCut, Repeats, IsRepeatCut};
 ghost use Rattle.st_meaning.specs.Traced.{node_in, start_in, acts_in, act_in, messages_in, message_in, arguments_in};

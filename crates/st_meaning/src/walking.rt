@@ -3,8 +3,7 @@
 ghost use Rattle.std.specs.Prelude.{◌≡◌, ◌+◌, ◌*◌, IfOk, IfErr};
 ghost use Rattle.st_code.specs.MethodDrafts.{parts_view};
 ghost use Rattle.st_meaning.specs.declared.deed.Value.TheVariants.{Constant};
-ghost use Rattle.st_meaning.specs.Deeds.{answers_view, deeds_view, Lists, IsFault};
-ghost use Rattle.st_meaning.specs.Meanings.{most, Walk};
+ghost use Rattle.st_meaning.specs.{Deeds.{answers_view, deeds_view, Lists, IsFault}, Meanings.{most, Walk}};
 ghost use Rattle.st_meaning.specs.Courses.{boolean, Tests, IsLongTest, IsBehind, Continues, IsTooLong};
 ghost use Rattle.st_meaning.specs.Courses.{becomes, advances, Jumps, IsLongJump, IsLong, IsSound};
 

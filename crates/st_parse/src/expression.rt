@@ -15,6 +15,7 @@ use crate::bodies::{Body, caret, goes_on, no_statements, period, with_statement}
 use crate::kinds::{KEYWORDS, NAMES, OPERATORS};
 use crate::literal::{constant_element, nested};
 use crate::names::{assigned, name_of, parameter, parameters, targets};
+use crate::read::Read;
 use crate::sends::{
     Parts, begins_message, checked, no_parts, operation, send_if, unary_messages, with_operation,
     with_part, with_parts, with_unary,
@@ -34,7 +35,7 @@ fn inside_group<'a>(
     text: &[u8],
     room: u32,
     leaves: &'a [Leaf],
-) -> Result<(Expression, &'a [Leaf]), ReadError>
+) -> Read<'a, Expression>
     ensures { Reads result (bracket_at text.now room false leaves.now) }
 {
     if room == 0 {
@@ -53,7 +54,7 @@ fn inside_block<'a>(
     text: &[u8],
     room: u32,
     leaves: &'a [Leaf],
-) -> Result<(Expression, &'a [Leaf]), ReadError>
+) -> Read<'a, Expression>
     ensures { Reads result (bracket_at text.now room true leaves.now) }
 {
     if room == 0 {
@@ -67,12 +68,7 @@ fn inside_block<'a>(
 /// A primary: a name, a literal, a block, or an expression in parentheses.
 #[cycle(reading)]
 #[tactic(auto, unfolding(st_grammar::specs::Reading::primary_at, st_grammar::specs::Reading::name_primary_at, st_grammar::specs::Reading::constant_primary_at, st_grammar::specs::Reading::array_primary_at, st_grammar::specs::Reading::block_primary_at, st_grammar::specs::Reading::group_primary_at))]
-fn primary<'a>(
-    alloc: Global,
-    text: &[u8],
-    room: u32,
-    leaves: &'a [Leaf],
-) -> Result<(Expression, &'a [Leaf]), ReadError>
+fn primary<'a>(alloc: Global, text: &[u8], room: u32, leaves: &'a [Leaf]) -> Read<'a, Expression>
     ensures { Reads result (within primary_at text.now room leaves.now) }
 {
     if starts(&NAMES, leaves) {
@@ -98,12 +94,7 @@ fn primary<'a>(
 /// A unary expression, as an argument.
 #[cycle(reading)]
 #[tactic(auto, unfolding(st_grammar::specs::Reading::unary_at, st_grammar::specs::Reading::any_unary_at))]
-fn unary<'a>(
-    alloc: Global,
-    text: &[u8],
-    room: u32,
-    leaves: &'a [Leaf],
-) -> Result<(Expression, &'a [Leaf]), ReadError>
+fn unary<'a>(alloc: Global, text: &[u8], room: u32, leaves: &'a [Leaf]) -> Read<'a, Expression>
     ensures { Reads result (within unary_at text.now room leaves.now) }
 {
     let (receiver, rest) = primary(alloc, text, room, leaves)?;
@@ -120,7 +111,7 @@ fn binary_message<'a>(
     room: u32,
     receiver: Expression,
     leaves: &'a [Leaf],
-) -> Result<(Expression, &'a [Leaf]), ReadError>
+) -> Read<'a, Expression>
     ensures { Reads result (within operations_step text.now room (expression_view receiver) leaves.now) }
 {
     let (operator, rest) = token(&OPERATORS, leaves)?;
@@ -137,7 +128,7 @@ fn binary_messages<'a>(
     room: u32,
     first: Expression,
     leaves: &'a [Leaf],
-) -> Result<(Expression, &'a [Leaf]), ReadError>
+) -> Read<'a, Expression>
     ensures { Reads result (within operations_at text.now room (expression_view first) leaves.now) }
 {
     let mut receiver = first;
@@ -153,12 +144,7 @@ fn binary_messages<'a>(
 /// A binary expression, as an argument.
 #[cycle(reading)]
 #[tactic(auto, unfolding(st_grammar::specs::Reading::binary_at, st_grammar::specs::Reading::any_binary_at))]
-fn binary<'a>(
-    alloc: Global,
-    text: &[u8],
-    room: u32,
-    leaves: &'a [Leaf],
-) -> Result<(Expression, &'a [Leaf]), ReadError>
+fn binary<'a>(alloc: Global, text: &[u8], room: u32, leaves: &'a [Leaf]) -> Read<'a, Expression>
     ensures { Reads result (within binary_at text.now room leaves.now) }
 {
     let (receiver, rest) = primary(alloc, text, room, leaves)?;
@@ -176,7 +162,7 @@ fn keyword_part<'a>(
     room: u32,
     parts: Parts,
     leaves: &'a [Leaf],
-) -> Result<(Parts, &'a [Leaf]), ReadError>
+) -> Read<'a, Parts>
     ensures { ReadsParts result (within parts_step text.now room (parts_view parts) leaves.now) }
 {
     let (keyword, rest) = token(&KEYWORDS, leaves)?;
@@ -193,7 +179,7 @@ fn keyword_parts<'a>(
     room: u32,
     first: Parts,
     leaves: &'a [Leaf],
-) -> Result<(Parts, &'a [Leaf]), ReadError>
+) -> Read<'a, Parts>
     ensures { ReadsParts result (within parts_at text.now room (parts_view first) leaves.now) }
 {
     let mut parts = first;
@@ -215,7 +201,7 @@ fn messages<'a>(
     room: u32,
     receiver: Expression,
     leaves: &'a [Leaf],
-) -> Result<(Expression, &'a [Leaf]), ReadError>
+) -> Read<'a, Expression>
     ensures { Reads result (within messages_at text.now room (expression_view receiver) leaves.now) }
 {
     let (receiver, rest) = unary_messages(alloc, text, receiver, leaves)?;
@@ -233,7 +219,7 @@ fn message<'a>(
     room: u32,
     cascade: Expression,
     leaves: &'a [Leaf],
-) -> Result<(Expression, &'a [Leaf]), ReadError>
+) -> Read<'a, Expression>
     ensures { Reads result (within message_at text.now room (expression_view cascade) leaves.now) }
 {
     if starts(&NAMES, leaves) {
@@ -258,7 +244,7 @@ fn next_message<'a>(
     room: u32,
     cascade: Expression,
     leaves: &'a [Leaf],
-) -> Result<(Expression, &'a [Leaf]), ReadError>
+) -> Read<'a, Expression>
     ensures { Reads result (within cascade_step text.now room (expression_view cascade) leaves.now) }
 {
     let (_semicolon, rest) = token(&[Kind::Semicolon], leaves)?;
@@ -274,7 +260,7 @@ fn next_messages<'a>(
     room: u32,
     first: Expression,
     leaves: &'a [Leaf],
-) -> Result<(Expression, &'a [Leaf]), ReadError>
+) -> Read<'a, Expression>
     ensures { Reads result (within cascades_at text.now room (expression_view first) leaves.now) }
 {
     let mut cascade = first;
@@ -296,7 +282,7 @@ fn sends<'a>(
     room: u32,
     receiver: Expression,
     leaves: &'a [Leaf],
-) -> Result<(Expression, &'a [Leaf]), ReadError>
+) -> Read<'a, Expression>
     ensures { Reads result (within sends_at text.now room (expression_view receiver) leaves.now) }
 {
     if !begins_message(leaves) {
@@ -309,12 +295,7 @@ fn sends<'a>(
 /// A keyword expression or a cascade.
 #[cycle(reading)]
 #[tactic(auto, unfolding(st_grammar::specs::Reading::cascade_at, st_grammar::specs::Reading::any_cascade_at))]
-fn cascade<'a>(
-    alloc: Global,
-    text: &[u8],
-    room: u32,
-    leaves: &'a [Leaf],
-) -> Result<(Expression, &'a [Leaf]), ReadError>
+fn cascade<'a>(alloc: Global, text: &[u8], room: u32, leaves: &'a [Leaf]) -> Read<'a, Expression>
     ensures { Reads result (within cascade_at text.now room leaves.now) }
 {
     let (receiver, rest) = primary(alloc, text, room, leaves)?;
@@ -325,12 +306,7 @@ fn cascade<'a>(
 /// An expression: assignments and a cascade.
 #[cycle(reading)]
 #[tactic(auto, unfolding(st_grammar::specs::Reading::expression_at))]
-fn expression<'a>(
-    alloc: Global,
-    text: &[u8],
-    room: u32,
-    leaves: &'a [Leaf],
-) -> Result<(Expression, &'a [Leaf]), ReadError>
+fn expression<'a>(alloc: Global, text: &[u8], room: u32, leaves: &'a [Leaf]) -> Read<'a, Expression>
     ensures { Reads result (within expression_at text.now room leaves.now) }
 {
     let (names, rest) = targets(alloc, text, leaves)?;
@@ -346,7 +322,7 @@ fn statement<'a>(
     room: u32,
     body: Body,
     leaves: &'a [Leaf],
-) -> Result<(Body, &'a [Leaf]), ReadError>
+) -> Read<'a, Body>
     ensures { ReadsBody result (within statement_step text.now room (body_view body) leaves.now) }
 {
     let (returns, rest) = caret(leaves);
@@ -365,7 +341,7 @@ fn all_statements<'a>(
     room: u32,
     first: Body,
     leaves: &'a [Leaf],
-) -> Result<(Body, &'a [Leaf]), ReadError>
+) -> Read<'a, Body>
     ensures { ReadsBody result (within body_at text.now room (body_view first) leaves.now) }
 {
     let mut body = first;
@@ -386,7 +362,7 @@ pub fn statements<'a>(
     text: &[u8],
     room: u32,
     leaves: &'a [Leaf],
-) -> Result<(StatementList, &'a [Leaf]), ReadError>
+) -> Read<'a, StatementList>
     ensures { ReadsStatements result (within statements_at text.now room leaves.now) }
 {
     let (body, rest) = all_statements(alloc, text, room, no_statements(alloc), leaves)?;
@@ -402,7 +378,7 @@ fn behind_arguments<'a>(
     room: u32,
     names: NameList,
     leaves: &'a [Leaf],
-) -> Result<(Expression, &'a [Leaf]), ReadError>
+) -> Read<'a, Expression>
     ensures { Reads result (within argument_body_at text.now room (names_view names.items) leaves.now) }
 {
     if starts(&[Kind::Bar], leaves) {
@@ -417,12 +393,7 @@ fn behind_arguments<'a>(
 /// What is inside a block.
 #[cycle(reading)]
 #[tactic(auto, unfolding(st_grammar::specs::Reading::block_at, st_grammar::specs::Reading::argument_block_at, st_grammar::specs::Reading::plain_block_at), using(st_scan::proofs::Views::views))]
-fn block<'a>(
-    alloc: Global,
-    text: &[u8],
-    room: u32,
-    leaves: &'a [Leaf],
-) -> Result<(Expression, &'a [Leaf]), ReadError>
+fn block<'a>(alloc: Global, text: &[u8], room: u32, leaves: &'a [Leaf]) -> Read<'a, Expression>
     ensures { Reads result (within block_at text.now room leaves.now) }
 {
     if starts(&[Kind::Colon], leaves) {

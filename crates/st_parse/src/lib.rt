@@ -8,6 +8,7 @@ mod literal;
 mod method;
 mod names;
 mod parser;
+mod read;
 mod sends;
 
 pub use parser::parse;

@@ -8,6 +8,7 @@ ghost use Rattle.st_grammar.specs.Reading.{constant_element_at, nested_at, eleme
 ghost use Rattle.st_grammar.specs.Reading.{elements_at, array_at};
 ghost use Rattle.st_parse.specs.Answers.{ReadsLiteral, ReadsArray, nested};
 
+use crate::read::Read;
 use st_grammar::leaf::{Kind, Leaf, bytes_of};
 use st_grammar::read::{ReadError, starts, token};
 use st_scan::{Cause, Content, Element, ElementList, Sort, Text};
@@ -128,7 +129,7 @@ pub fn constant_element<'a>(
     text: &[u8],
     kinds: &[Kind],
     leaves: &'a [Leaf],
-) -> Result<(Element, &'a [Leaf]), ReadError>
+) -> Read<'a, Element>
     ensures { ReadsLiteral result (constant_element_at text.now kinds.now leaves.now) }
 {
     let (leaf, rest) = token(kinds, leaves)?;
@@ -137,11 +138,7 @@ pub fn constant_element<'a>(
 
 /// A selector with one more keyword that is joined to it.
 #[tactic(auto, unfolding(st_grammar::specs::Reading::joined_step))]
-fn joined_keyword<'a>(
-    text: &[u8],
-    mut selector: Text,
-    leaves: &'a [Leaf],
-) -> Result<(Text, &'a [Leaf]), ReadError>
+fn joined_keyword<'a>(text: &[u8], mut selector: Text, leaves: &'a [Leaf]) -> Read<'a, Text>
     ensures { Gives (λ x. (x.0.items, x.1.now)) result (joined_step text.now selector.items leaves.now) }
 {
     let (leaf, rest) = token(&[Kind::Joined], leaves)?;
@@ -151,11 +148,7 @@ fn joined_keyword<'a>(
 
 /// A selector with all keywords that are joined to it.
 #[tactic(auto, unfolding(st_grammar::specs::Reading::joined_at))]
-fn joined_keywords<'a>(
-    text: &[u8],
-    first: Text,
-    leaves: &'a [Leaf],
-) -> Result<(Text, &'a [Leaf]), ReadError>
+fn joined_keywords<'a>(text: &[u8], first: Text, leaves: &'a [Leaf]) -> Read<'a, Text>
     ensures { Gives (λ x. (x.0.items, x.1.now)) result (joined_at text.now first.items leaves.now) }
 {
     let mut selector = first;
@@ -170,11 +163,7 @@ fn joined_keywords<'a>(
 
 /// Keywords that follow one another directly.
 #[tactic(auto, unfolding(st_grammar::specs::Reading::keyword_symbol_at))]
-fn keyword_symbol<'a>(
-    alloc: Global,
-    text: &[u8],
-    leaves: &'a [Leaf],
-) -> Result<(Element, &'a [Leaf]), ReadError>
+fn keyword_symbol<'a>(alloc: Global, text: &[u8], leaves: &'a [Leaf]) -> Read<'a, Element>
     ensures { ReadsLiteral result (keyword_symbol_at text.now leaves.now) }
 {
     let (leaf, rest) = token(&FIRST_KEYWORDS, leaves)?;
@@ -194,7 +183,7 @@ pub fn nested<'a>(
     room: u32,
     kinds: &[Kind],
     leaves: &'a [Leaf],
-) -> Result<(Element, &'a [Leaf]), ReadError>
+) -> Read<'a, Element>
     ensures { ReadsLiteral result (nested nested_at text.now room kinds.now leaves.now) }
 {
     let (leaf, rest) = token(kinds, leaves)?;
@@ -207,12 +196,7 @@ pub fn nested<'a>(
 /// An element.
 #[cycle(arrays)]
 #[tactic(auto, unfolding(st_grammar::specs::Reading::element_at))]
-fn element<'a>(
-    alloc: Global,
-    text: &[u8],
-    room: u32,
-    leaves: &'a [Leaf],
-) -> Result<(Element, &'a [Leaf]), ReadError>
+fn element<'a>(alloc: Global, text: &[u8], room: u32, leaves: &'a [Leaf]) -> Read<'a, Element>
     ensures { ReadsLiteral result (nested element_at text.now room leaves.now) }
 {
     if starts(&PLAIN, leaves) {
@@ -233,7 +217,7 @@ fn one_more<'a>(
     room: u32,
     mut list: ElementList,
     leaves: &'a [Leaf],
-) -> Result<(ElementList, &'a [Leaf]), ReadError>
+) -> Read<'a, ElementList>
     ensures { ReadsArray result (nested elements_step text.now room (elements_view list.items) leaves.now) }
 {
     let (element, rest) = element(alloc, text, room, leaves)?;
@@ -244,12 +228,7 @@ fn one_more<'a>(
 /// Elements, as long as one stands first.
 #[cycle(arrays)]
 #[tactic(auto, unfolding(st_grammar::specs::Reading::elements_at))]
-fn elements<'a>(
-    alloc: Global,
-    text: &[u8],
-    room: u32,
-    leaves: &'a [Leaf],
-) -> Result<(ElementList, &'a [Leaf]), ReadError>
+fn elements<'a>(alloc: Global, text: &[u8], room: u32, leaves: &'a [Leaf]) -> Read<'a, ElementList>
     ensures { ReadsArray result (nested elements_at text.now room no_elements leaves.now) }
 {
     let mut elements = Vec::new(alloc);
@@ -265,12 +244,7 @@ fn elements<'a>(
 /// The elements of an array, from behind its opening bracket to its end, where `room` more brackets may be open.
 #[cycle(arrays)]
 #[tactic(auto, unfolding(st_grammar::specs::Reading::array_at))]
-fn array<'a>(
-    alloc: Global,
-    text: &[u8],
-    room: u32,
-    leaves: &'a [Leaf],
-) -> Result<(ElementList, &'a [Leaf]), ReadError>
+fn array<'a>(alloc: Global, text: &[u8], room: u32, leaves: &'a [Leaf]) -> Read<'a, ElementList>
     ensures { ReadsArray result (array_at text.now room leaves.now) }
 {
     if room == 0 {

@@ -2,18 +2,17 @@
 
 ghost use Rattle.std.specs.Prelude.{◌≡◌, ◌∷◌, []};
 ghost use Rattle.st_scan.specs.Views.{names_view, method_view};
-ghost use Rattle.st_grammar.specs.Faults.{most};
-ghost use Rattle.st_grammar.specs.Trees.{number_of};
+ghost use Rattle.st_grammar.specs.{Faults.most, Trees.number_of};
 ghost use Rattle.st_grammar.specs.Reading.{Gives, pattern_step, keyword_names_at, pattern_at};
 ghost use Rattle.st_grammar.specs.Reading.{unary_pattern_at, binary_pattern_at, keyword_pattern_at};
 ghost use Rattle.st_grammar.specs.Reading.{name_list_at, temporaries_at, primitive_at, options_at};
 ghost use Rattle.st_grammar.specs.Reading.{temporaries_first_at, primitive_first_at, method_at, whole_at};
-ghost use Rattle.st_parse.specs.Parsed.{pattern_view, options_view};
-ghost use Rattle.st_parse.specs.Answers.{ReadsNames, ReadsPattern};
+ghost use Rattle.st_parse.specs.{Parsed.{pattern_view, options_view}, Answers.{ReadsNames, ReadsPattern}};
 
 use crate::expression::statements;
 use crate::kinds::{KEYWORDS, NAMES, OPERATORS};
 use crate::names::one_name;
+use crate::read::Read;
 use st_grammar::leaf::{Kind, Leaf, bytes_of};
 use st_grammar::read::{ReadError, starts, token};
 use st_scan::{Cause, MethodTree, NameList, Signed, Sort, Text};
@@ -43,7 +42,7 @@ fn keyword_name<'a>(
     text: &[u8],
     pattern: Pattern,
     leaves: &'a [Leaf],
-) -> Result<(Pattern, &'a [Leaf]), ReadError>
+) -> Read<'a, Pattern>
     ensures { ReadsPattern result (pattern_step text.now (pattern_view pattern) leaves.now) }
 {
     let (keyword, rest) = token(&KEYWORDS, leaves)?;
@@ -64,7 +63,7 @@ fn keyword_names<'a>(
     text: &[u8],
     first: Pattern,
     leaves: &'a [Leaf],
-) -> Result<(Pattern, &'a [Leaf]), ReadError>
+) -> Read<'a, Pattern>
     ensures { ReadsPattern result (keyword_names_at text.now (pattern_view first) leaves.now) }
 {
     let mut pattern = first;
@@ -79,11 +78,7 @@ fn keyword_names<'a>(
 
 /// A pattern of one name.
 #[tactic(auto, unfolding(st_grammar::specs::Reading::unary_pattern_at))]
-fn unary_pattern<'a>(
-    alloc: Global,
-    text: &[u8],
-    leaves: &'a [Leaf],
-) -> Result<(Pattern, &'a [Leaf]), ReadError>
+fn unary_pattern<'a>(alloc: Global, text: &[u8], leaves: &'a [Leaf]) -> Read<'a, Pattern>
     ensures { ReadsPattern result (unary_pattern_at text.now leaves.now) }
 {
     let (leaf, rest) = token(&NAMES, leaves)?;
@@ -98,11 +93,7 @@ fn unary_pattern<'a>(
 
 /// A pattern of an operator and a name.
 #[tactic(auto, using(crate::proofs::Patterns::binary_by_names))]
-fn binary_pattern<'a>(
-    alloc: Global,
-    text: &[u8],
-    leaves: &'a [Leaf],
-) -> Result<(Pattern, &'a [Leaf]), ReadError>
+fn binary_pattern<'a>(alloc: Global, text: &[u8], leaves: &'a [Leaf]) -> Read<'a, Pattern>
     ensures { ReadsPattern result (binary_pattern_at text.now leaves.now) }
 {
     let (operator, rest) = token(&OPERATORS, leaves)?;
@@ -117,11 +108,7 @@ fn binary_pattern<'a>(
 
 /// A pattern of keywords and names.
 #[tactic(auto, unfolding(st_grammar::specs::Reading::keyword_pattern_at))]
-fn keyword_pattern<'a>(
-    alloc: Global,
-    text: &[u8],
-    leaves: &'a [Leaf],
-) -> Result<(Pattern, &'a [Leaf]), ReadError>
+fn keyword_pattern<'a>(alloc: Global, text: &[u8], leaves: &'a [Leaf]) -> Read<'a, Pattern>
     ensures { ReadsPattern result (keyword_pattern_at text.now leaves.now) }
 {
     let none = Pattern {
@@ -134,11 +121,7 @@ fn keyword_pattern<'a>(
 
 /// A pattern.
 #[tactic(auto, unfolding(st_grammar::specs::Reading::pattern_at))]
-fn any_pattern<'a>(
-    alloc: Global,
-    text: &[u8],
-    leaves: &'a [Leaf],
-) -> Result<(Pattern, &'a [Leaf]), ReadError>
+fn any_pattern<'a>(alloc: Global, text: &[u8], leaves: &'a [Leaf]) -> Read<'a, Pattern>
     ensures { ReadsPattern result (pattern_at text.now leaves.now) }
 {
     if starts(&NAMES, leaves) {
@@ -157,7 +140,7 @@ fn all_names<'a>(
     text: &[u8],
     first: NameList,
     leaves: &'a [Leaf],
-) -> Result<(NameList, &'a [Leaf]), ReadError>
+) -> Read<'a, NameList>
     ensures { ReadsNames result (name_list_at text.now (names_view first.items) leaves.now) }
 {
     let mut names = first;
@@ -172,11 +155,7 @@ fn all_names<'a>(
 
 /// Temporaries.
 #[tactic(auto, unfolding(st_grammar::specs::Reading::temporaries_at))]
-fn temporaries<'a>(
-    alloc: Global,
-    text: &[u8],
-    leaves: &'a [Leaf],
-) -> Result<(NameList, &'a [Leaf]), ReadError>
+fn temporaries<'a>(alloc: Global, text: &[u8], leaves: &'a [Leaf]) -> Read<'a, NameList>
     ensures { ReadsNames result (temporaries_at text.now leaves.now) }
 {
     let (_bar, rest) = token(&[Kind::Bar], leaves)?;
@@ -200,7 +179,7 @@ fn number_of(sort: Sort) -> Signed
 
 /// The number of a primitive.
 #[tactic(auto, unfolding(st_grammar::specs::Reading::primitive_at))]
-fn primitive(leaves: &[Leaf]) -> Result<(Signed, &[Leaf]), ReadError>
+fn primitive(leaves: &[Leaf]) -> Read<'_, Signed>
     ensures { Gives (λ x. (x.0, x.1.now)) result (primitive_at leaves.now) }
 {
     let (_less, rest) = token(&[Kind::Less], leaves)?;
@@ -212,11 +191,7 @@ fn primitive(leaves: &[Leaf]) -> Result<(Signed, &[Leaf]), ReadError>
 
 /// Temporaries, and a primitive if one follows.
 #[tactic(auto, unfolding(st_grammar::specs::Reading::temporaries_first_at))]
-fn temporaries_first<'a>(
-    alloc: Global,
-    text: &[u8],
-    leaves: &'a [Leaf],
-) -> Result<(Options, &'a [Leaf]), ReadError>
+fn temporaries_first<'a>(alloc: Global, text: &[u8], leaves: &'a [Leaf]) -> Read<'a, Options>
     ensures { Gives (λ x. (options_view x.0, x.1.now)) result (temporaries_first_at text.now leaves.now) }
 {
     let (temporaries, rest) = temporaries(alloc, text, leaves)?;
@@ -244,11 +219,7 @@ fn temporaries_first<'a>(
 
 /// A primitive, and temporaries if they follow.
 #[tactic(auto, unfolding(st_grammar::specs::Reading::primitive_first_at))]
-fn primitive_first<'a>(
-    alloc: Global,
-    text: &[u8],
-    leaves: &'a [Leaf],
-) -> Result<(Options, &'a [Leaf]), ReadError>
+fn primitive_first<'a>(alloc: Global, text: &[u8], leaves: &'a [Leaf]) -> Read<'a, Options>
     ensures { Gives (λ x. (options_view x.0, x.1.now)) result (primitive_first_at text.now leaves.now) }
 {
     let (number, rest) = primitive(leaves)?;
@@ -276,11 +247,7 @@ fn primitive_first<'a>(
 
 /// Temporaries and a primitive, each optional, in either order.
 #[tactic(auto, unfolding(st_grammar::specs::Reading::options_at))]
-fn any_options<'a>(
-    alloc: Global,
-    text: &[u8],
-    leaves: &'a [Leaf],
-) -> Result<(Options, &'a [Leaf]), ReadError>
+fn any_options<'a>(alloc: Global, text: &[u8], leaves: &'a [Leaf]) -> Read<'a, Options>
     ensures { Gives (λ x. (options_view x.0, x.1.now)) result (options_at text.now leaves.now) }
 {
     if starts(&[Kind::Bar], leaves) {
@@ -302,11 +269,7 @@ fn any_options<'a>(
 
 /// A method, and the leaves behind it.
 #[tactic(auto, unfolding(st_grammar::specs::Reading::method_at))]
-fn method<'a>(
-    alloc: Global,
-    text: &[u8],
-    leaves: &'a [Leaf],
-) -> Result<(MethodTree, &'a [Leaf]), ReadError>
+fn method<'a>(alloc: Global, text: &[u8], leaves: &'a [Leaf]) -> Read<'a, MethodTree>
     ensures { Gives (λ x. (method_view x.0, x.1.now)) result (method_at text.now most leaves.now) }
 {
     let (pattern, rest) = any_pattern(alloc, text, leaves)?;

@@ -4,12 +4,12 @@ ghost use Rattle.std.specs.Prelude.{◌≡◌, IfOk, MatchOption};
 ghost use Rattle.st_scan.specs.Views.{name_view, names_view, expression_view};
 ghost use Rattle.st_grammar.specs.Trees.{name_at};
 ghost use Rattle.st_grammar.specs.Reading.{assigned_to, targets_at, name_step, parameters_step, parameters_at};
-ghost use Rattle.st_parse.specs.Phrases.{NoTarget, BeginsWithTarget};
-ghost use Rattle.st_parse.specs.Answers.{ReadsNames, Makes};
+ghost use Rattle.st_parse.specs.{Phrases.{NoTarget, BeginsWithTarget}, Answers.{ReadsNames, Makes}};
 
 use crate::kinds::NAMES;
+use crate::read::Read;
 use st_grammar::leaf::{Kind, Leaf, bytes_of};
-use st_grammar::read::{ReadError, is_among, starts, token};
+use st_grammar::read::{is_among, starts, token};
 use st_scan::{Expression, Name, NameList};
 use std::alloc::{AllocError, Global};
 
@@ -70,7 +70,7 @@ pub fn one_name<'a>(
     text: &[u8],
     mut names: NameList,
     leaves: &'a [Leaf],
-) -> Result<(NameList, &'a [Leaf]), ReadError>
+) -> Read<'a, NameList>
     ensures { ReadsNames result (name_step text.now (names_view names.items) leaves.now) }
 {
     let (leaf, rest) = token(&NAMES, leaves)?;
@@ -85,7 +85,7 @@ pub fn parameter<'a>(
     text: &[u8],
     names: NameList,
     leaves: &'a [Leaf],
-) -> Result<(NameList, &'a [Leaf]), ReadError>
+) -> Read<'a, NameList>
     ensures { ReadsNames result (parameters_step text.now (names_view names.items) leaves.now) }
 {
     let (_colon, rest) = token(&[Kind::Colon], leaves)?;
@@ -99,7 +99,7 @@ pub fn parameters<'a>(
     text: &[u8],
     first: NameList,
     leaves: &'a [Leaf],
-) -> Result<(NameList, &'a [Leaf]), ReadError>
+) -> Read<'a, NameList>
     ensures { ReadsNames result (parameters_at text.now (names_view first.items) leaves.now) }
 {
     let mut names = first;

@@ -1,9 +1,7 @@
 //! The tree of a method's text, or its first fault.
 
-ghost use Rattle.std.specs.Prelude.{◌≡◌, ◌<◌, ◌≤◌, ◌-◌, ◌^◌, IfOk, IfErr, Some};
-ghost use Rattle.std.specs.Prelude.{length, drop};
-ghost use Rattle.st_scan.specs.Scans.{AreSpans};
-ghost use Rattle.st_scan.specs.Views.{MethodView, method_view};
+ghost use Rattle.std.specs.Prelude.{◌≡◌, ◌<◌, ◌≤◌, ◌-◌, ◌^◌, IfOk, IfErr, Some, length, drop};
+ghost use Rattle.st_scan.specs.{Scans.AreSpans, Views.{MethodView, method_view}};
 ghost use Rattle.st_grammar.specs.Texts.{Means, IsFaultOf, IsOnly, bad_number, words, place_at, is_before};
 ghost use Rattle.st_grammar.specs.Texts.{first_fault};
 

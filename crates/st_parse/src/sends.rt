@@ -10,6 +10,7 @@ ghost use Rattle.st_parse.specs.Answers.{Reads, Makes, MakesParts, with_keyword,
 ghost use Rattle.st_parse.specs.Answers.{sent_operator, also_parts, also_operator, argument_of};
 
 use crate::kinds::{MESSAGE_STARTS, NAMES};
+use crate::read::Read;
 use st_grammar::leaf::{Leaf, bytes_of};
 use st_grammar::read::{ReadError, starts, token};
 use st_scan::{Expression, ExpressionList, Message, MessageList, Text};
@@ -117,7 +118,7 @@ fn is_super(e: &Expression) -> bool
 
 /// An expression that is no `super` without a message.
 #[tactic(auto, unfolding(st_grammar::specs::Reading::checked_at))]
-pub fn checked<'a>(e: Expression, leaves: &'a [Leaf]) -> Result<(Expression, &'a [Leaf]), ReadError>
+pub fn checked<'a>(e: Expression, leaves: &'a [Leaf]) -> Read<'a, Expression>
     ensures { Reads result (checked_at (expression_view e) leaves.now) }
 {
     if is_super(&e) {
@@ -133,7 +134,7 @@ fn unary_message<'a>(
     text: &[u8],
     receiver: Expression,
     leaves: &'a [Leaf],
-) -> Result<(Expression, &'a [Leaf]), ReadError>
+) -> Read<'a, Expression>
     ensures { Reads result (names_step text.now (expression_view receiver) leaves.now) }
 {
     let (leaf, rest) = token(&NAMES, leaves)?;
@@ -152,7 +153,7 @@ pub fn unary_messages<'a>(
     text: &[u8],
     first: Expression,
     leaves: &'a [Leaf],
-) -> Result<(Expression, &'a [Leaf]), ReadError>
+) -> Read<'a, Expression>
     ensures { Reads result (names_at text.now (expression_view first) leaves.now) }
 {
     let mut receiver = first;
@@ -179,7 +180,7 @@ pub fn with_unary<'a>(
     text: &[u8],
     cascade: Expression,
     leaves: &'a [Leaf],
-) -> Result<(Expression, &'a [Leaf]), ReadError>
+) -> Read<'a, Expression>
     ensures { Reads result (unary_message_at text.now (expression_view cascade) leaves.now) }
 {
     let (leaf, rest) = token(&NAMES, leaves)?;

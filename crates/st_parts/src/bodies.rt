@@ -1,9 +1,7 @@
 //! The fields and the bytes of objects.
 
 ghost use Rattle.std.specs.Prelude.{◌≡◌, true, false, drop, IfOk};
-ghost use Rattle.st_model.specs.Values.{value};
-ghost use Rattle.st_model.specs.Objects.{is_words, is_pointers};
-ghost use Rattle.st_model.specs.View.{is_live, object_of};
+ghost use Rattle.st_model.specs.{Values.value, Objects.{is_words, is_pointers}, View.{is_live, object_of}};
 ghost use Rattle.st_scope.specs.Meanings.{values_of};
 ghost use Rattle.st_parts.specs.Contents.{fields_at};
 

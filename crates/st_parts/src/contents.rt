@@ -1,8 +1,7 @@
 //! A literal by its contents.
 
 ghost use Rattle.std.specs.Prelude.{◌≡◌, true, IfOk, option_map};
-ghost use Rattle.st_model.specs.Values.{value};
-ghost use Rattle.st_model.specs.View.{is_live, object_of};
+ghost use Rattle.st_model.specs.{Values.value, View.{is_live, object_of}};
 ghost use Rattle.st_emit.specs.Views.{literal_view};
 ghost use Rattle.st_scope.specs.Meanings.{values};
 ghost use Rattle.st_parts.specs.Contents.{class_in, bytes_by, number_among, character_by, character_at, constant_named, or_character};

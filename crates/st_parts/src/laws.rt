@@ -2,13 +2,10 @@
 //! apart.
 
 ghost use Rattle.std.specs.Prelude.{◌≡◌, List};
-ghost use Rattle.st_model.specs.Values.{Value};
-ghost use Rattle.st_model.specs.Table.{Table};
-ghost use Rattle.st_model.specs.View.{View};
+ghost use Rattle.st_model.specs.{Values.Value, Table.Table, View.View};
 ghost use Rattle.st_emit.specs.Names.{NamesView};
 ghost use Rattle.st_scope.specs.Alike.{SeesAlike};
-ghost use Rattle.st_parts.specs.Keys.{HasOneName, names_for};
-ghost use Rattle.st_parts.specs.Parts.{Place, parts_at};
+ghost use Rattle.st_parts.specs.{Keys.{HasOneName, names_for}, Parts.{Place, parts_at}};
 
 /// Of the names that a method sees no two mean the value of one association.
 pub fn literals_have_one_name()

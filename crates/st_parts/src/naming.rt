@@ -1,20 +1,14 @@
 //! The names that a method which is there sees.
 
 ghost use Rattle.std.specs.Prelude.{◌≡◌, true, IfOk, OnOk, option_map};
-ghost use Rattle.st_model.specs.Values.{value};
-ghost use Rattle.st_model.specs.Table.{table};
-ghost use Rattle.st_model.specs.View.{is_live};
+ghost use Rattle.st_model.specs.{Values.value, Table.table, View.is_live};
 ghost use Rattle.st_scan.specs.Views.{method_view, statements_view, no_statements};
 ghost use Rattle.st_emit.specs.NameViews.{names_view};
-ghost use Rattle.st_scope.specs.Alike.{SeesAlike};
-ghost use Rattle.st_scope.specs.Calls.{names};
-ghost use Rattle.st_scope.specs.Findings.{text_of};
-ghost use Rattle.st_scope.specs.Meanings.{values};
+ghost use Rattle.st_scope.specs.{Alike.SeesAlike, Calls.names, Findings.text_of, Meanings.values};
 ghost use Rattle.st_scope.specs.Texts.{found, text_at};
 ghost use Rattle.st_parts.specs.Keys.{key_field, key_in, with_keys, with_mentioned, mentioning, literals_in};
 ghost use Rattle.st_parts.specs.Keys.{means, is_named_by, names_for, AnswersFor};
-ghost use Rattle.st_parts.specs.Kept.{Keeps, KeepsIf, AreKept};
-ghost use Rattle.st_parts.specs.Places.{variable_if};
+ghost use Rattle.st_parts.specs.{Kept.{Keeps, KeepsIf, AreKept}, Places.variable_if};
 
 use crate::bodies::{behind_header, bytes_of, fields_of};
 use st_emit::{NamedOops, Names, Variable, variable_named};

@@ -1,15 +1,11 @@
 // What a session keeps.
 ghost use Rattle.std.specs.Prelude.{◌≡◌, ◌-◌, ℕ, List, Some, None, IsTrue, IfErr, IfOk, OnOk, OnErr, IsSome, length};
-ghost use Rattle.st_host.specs.Counts.{HasCause};
-ghost use Rattle.st_host.specs.Runs.{Makes, Spares};
+ghost use Rattle.st_host.specs.{Counts.HasCause, Runs.{Makes, Spares}};
 ghost use Rattle.st_image.specs.Back.{CanStart};
-ghost use Rattle.st_chunk.specs.Definitions.{IsDefinition, entries};
-ghost use Rattle.st_chunk.specs.ScriptDefinitions.{definition_of};
+ghost use Rattle.st_chunk.specs.{Definitions.{IsDefinition, entries}, ScriptDefinitions.definition_of};
 ghost use Rattle.st_changes.specs.Views.{definition_of as kept_definition};
-ghost use Rattle.st_store.specs.Names.{IsNoFileOf};
-ghost use Rattle.st_store.specs.Faults.{RestsUnlessGate};
-ghost use Rattle.st_protocol.specs.Obeying.{Obeys};
-ghost use Rattle.st_protocol.specs.declared.status.Status.TheVariants.{DiskFault};
+ghost use Rattle.st_store.specs.{Names.IsNoFileOf, Faults.RestsUnlessGate};
+ghost use Rattle.st_protocol.specs.{Obeying.Obeys, declared.status.Status.TheVariants.DiskFault};
 ghost use Rattle.st_protocol.specs.Statuses.{Counts};
 ghost use Rattle.st_recover.specs.Archives.{Holds, IsStoreOf, IsOfKeeping};
 ghost use Rattle.st_recover.specs.Commits.{Commit, OpensAs, accepting, imaged, image_in, other_image};

@@ -4,10 +4,8 @@ ghost use Rattle.std.specs.Prelude.{◌≡◌, ℕ, Bool, List};
 ghost use Rattle.st_host.specs.Files.{Files};
 ghost use Rattle.st_protocol.specs.Installing.{Install};
 ghost use Rattle.st_changes.specs.Last.{IsNowhere, IsLastText};
-ghost use Rattle.st_recover.specs.Commits.{Commit, OpensAs, all_of};
-ghost use Rattle.st_recover.specs.Condensed.{IsCondensed, ReplaysAlike};
-ghost use Rattle.st_recover.specs.Openings.{OpeningKeeps, Reopens};
-ghost use Rattle.st_recover.specs.Replays.{Replayed};
+ghost use Rattle.st_recover.specs.{Commits.{Commit, OpensAs, all_of}, Condensed.{IsCondensed, ReplaysAlike}};
+ghost use Rattle.st_recover.specs.{Openings.{OpeningKeeps, Reopens}, Replays.Replayed};
 
 use st_host::Host;
 

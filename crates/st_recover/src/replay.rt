@@ -1,12 +1,8 @@
 // Installing the definitions again that a store keeps.
 ghost use Rattle.std.specs.Prelude.{◌≡◌, ◌≤◌, ◌<◌, ◌+◌, ◌-◌, ◌^◌, length, All, IfOk, OnOk};
-ghost use Rattle.st_model.specs.Machine.{State, World};
-ghost use Rattle.st_model.specs.Births.{Births};
-ghost use Rattle.st_model.specs.Show.{Shows};
-ghost use Rattle.st_frames.specs.declared.frame.Frame.{Frame};
-ghost use Rattle.st_frames.specs.Shown.{IsReady, shown};
-ghost use Rattle.st_chunk.specs.Definitions.{IsDefinition};
-ghost use Rattle.st_chunk.specs.ScriptDefinitions.{definition_of};
+ghost use Rattle.st_model.specs.{Machine.{State, World}, Births.Births, Show.Shows};
+ghost use Rattle.st_frames.specs.{declared.frame.Frame.Frame, Shown.{IsReady, shown}};
+ghost use Rattle.st_chunk.specs.{Definitions.IsDefinition, ScriptDefinitions.definition_of};
 ghost use Rattle.st_install.specs.Defining.{installed};
 ghost use Rattle.st_changes.specs.Views.{definition_of as kept_definition, definitions_of};
 ghost use Rattle.st_recover.specs.Replays.{replay, ReplaysAs, Notes};

@@ -1,11 +1,8 @@
 //! All fields of an object.
 
 ghost use Rattle.std.specs.Prelude.{◌≡◌, false};
-ghost use Rattle.st_model.specs.Values.{value};
-ghost use Rattle.st_model.specs.Steps.{fetch_fields};
-ghost use Rattle.st_model.specs.Table.{table};
-ghost use Rattle.st_scope.specs.Variables.{fields_unless, fields_or_none};
-ghost use Rattle.st_scope.specs.Meanings.{values_of};
+ghost use Rattle.st_model.specs.{Values.value, Steps.fetch_fields, Table.table};
+ghost use Rattle.st_scope.specs.{Variables.{fields_unless, fields_or_none}, Meanings.values_of};
 ghost use Rattle.st_scope.specs.Findings.{Finds};
 
 use crate::reading::{count_fields, fetch_field};

@@ -1,12 +1,8 @@
 //! Superclass chains.
 
 ghost use Rattle.std.specs.Prelude.{◌≡◌};
-ghost use Rattle.st_model.specs.Values.{value};
-ghost use Rattle.st_model.specs.Table.{table};
-ghost use Rattle.st_model.specs.Calls.{Reads};
-ghost use Rattle.st_scope.specs.Classes.{superclass, chain};
-ghost use Rattle.st_scope.specs.Meanings.{values_of};
-ghost use Rattle.st_scope.specs.Findings.{Finds};
+ghost use Rattle.st_model.specs.{Values.value, Table.table, Calls.Reads};
+ghost use Rattle.st_scope.specs.{Classes.{superclass, chain}, Meanings.values_of, Findings.Finds};
 
 use crate::reading::{check_fields, fetch_field};
 use crate::unread::Unread;

@@ -1,13 +1,9 @@
 //! Classes by their names.
 
 ghost use Rattle.std.specs.Prelude.{◌≡◌, Ok, IfOk};
-ghost use Rattle.st_model.specs.Values.{value};
-ghost use Rattle.st_model.specs.Table.{table};
-ghost use Rattle.st_model.specs.Calls.{Reads};
-ghost use Rattle.st_model.specs.View.{IsKnown};
+ghost use Rattle.st_model.specs.{Values.value, Table.table, Calls.Reads, View.IsKnown};
 ghost use Rattle.st_scope.specs.Classes.{class_association, class_on_side, class_named};
-ghost use Rattle.st_scope.specs.Calls.{class_of_name};
-ghost use Rattle.st_scope.specs.Meanings.{class_found};
+ghost use Rattle.st_scope.specs.{Calls.class_of_name, Meanings.class_found};
 
 use crate::fault::InstallFault;
 use crate::reading::{check_fields, class_of, fetch_field};

@@ -1,10 +1,8 @@
 //! The classes whose variables a method sees.
 
 ghost use Rattle.std.specs.Prelude.{◌≡◌};
-ghost use Rattle.st_model.specs.Values.{value};
-ghost use Rattle.st_model.specs.Table.{table};
-ghost use Rattle.st_scope.specs.Classes.{instance_lineage, metaclass_lineage, lineage};
-ghost use Rattle.st_scope.specs.Findings.{Finds};
+ghost use Rattle.st_model.specs.{Values.value, Table.table};
+ghost use Rattle.st_scope.specs.{Classes.{instance_lineage, metaclass_lineage, lineage}, Findings.Finds};
 ghost use Rattle.st_scope.specs.Lineages.{lineage_of};
 
 use crate::chains::chain;

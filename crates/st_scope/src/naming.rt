@@ -1,11 +1,9 @@
 //! The names that a method sees.
 
 ghost use Rattle.std.specs.Prelude.{◌≡◌, ◌++◌, is_some, OnOk};
-ghost use Rattle.st_model.specs.Values.{value};
-ghost use Rattle.st_model.specs.Table.{table};
+ghost use Rattle.st_model.specs.{Values.value, Table.table};
 ghost use Rattle.st_scan.specs.Views.{method_view};
-ghost use Rattle.st_scope.specs.Calls.{as_table, names_seen, names};
-ghost use Rattle.st_scope.specs.Meanings.{values_of};
+ghost use Rattle.st_scope.specs.{Calls.{as_table, names_seen, names}, Meanings.values_of};
 ghost use Rattle.st_scope.specs.Seen.{FindsNames, AnswersNames};
 
 use crate::fault::InstallFault;

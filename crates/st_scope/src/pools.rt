@@ -1,10 +1,8 @@
 //! The tables that share variables.
 
 ghost use Rattle.std.specs.Prelude.{◌≡◌};
-ghost use Rattle.st_model.specs.Values.{value};
-ghost use Rattle.st_model.specs.Table.{table};
-ghost use Rattle.st_scope.specs.Variables.{pool_or_none, own_pools, pools};
-ghost use Rattle.st_scope.specs.Meanings.{values, values_of};
+ghost use Rattle.st_model.specs.{Values.value, Table.table};
+ghost use Rattle.st_scope.specs.{Variables.{pool_or_none, own_pools, pools}, Meanings.{values, values_of}};
 ghost use Rattle.st_scope.specs.Findings.{Finds};
 
 use crate::arrays::fields_or_none;

@@ -1,14 +1,10 @@
 //! Fields and bytes of objects, by pointers.
 
 ghost use Rattle.std.specs.Prelude.{◌≡◌, ◌≢◌, ◌≤◌, ◌&&◌, true, false, IfOk};
-ghost use Rattle.st_model.specs.Values.{value};
-ghost use Rattle.st_model.specs.Objects.{is_bytes};
-ghost use Rattle.st_model.specs.Table.{table};
-ghost use Rattle.st_model.specs.Steps.{object, fetch_field, count_fields, class_of};
-ghost use Rattle.st_model.specs.Calls.{Reads, itself};
+ghost use Rattle.st_model.specs.{Values.value, Objects.is_bytes, Table.table};
+ghost use Rattle.st_model.specs.{Steps.{object, fetch_field, count_fields, class_of}, Calls.{Reads, itself}};
 ghost use Rattle.st_model.specs.View.{IsKnown, is_live, object_of};
-ghost use Rattle.st_scope.specs.Tables.{check_fields, is_text};
-ghost use Rattle.st_scope.specs.Texts.{text_at};
+ghost use Rattle.st_scope.specs.{Tables.{check_fields, is_text}, Texts.text_at};
 
 use st_memory::Memory;
 use st_model::{Dead, Kind, Oop};

@@ -1,13 +1,8 @@
 //! Variables that tables share.
 
 ghost use Rattle.std.specs.Prelude.{◌≡◌, Ok, true, IfSome};
-ghost use Rattle.st_model.specs.Values.{value};
-ghost use Rattle.st_model.specs.Table.{table};
-ghost use Rattle.st_model.specs.Calls.{Reads};
-ghost use Rattle.st_model.specs.View.{is_live};
-ghost use Rattle.st_scope.specs.Variables.{member_if_any, association_in};
-ghost use Rattle.st_scope.specs.Meanings.{values};
-ghost use Rattle.st_scope.specs.Texts.{found};
+ghost use Rattle.st_model.specs.{Values.value, Table.table, Calls.Reads, View.is_live};
+ghost use Rattle.st_scope.specs.{Variables.{member_if_any, association_in}, Meanings.values, Texts.found};
 
 use crate::tables::member_named;
 use st_memory::Memory;

@@ -1,12 +1,8 @@
 //! Tables of names: the first member of a name.
 
 ghost use Rattle.std.specs.Prelude.{◌≡◌, Ok, true, IfOk, IfSome};
-ghost use Rattle.st_model.specs.Values.{value};
-ghost use Rattle.st_model.specs.Table.{table};
-ghost use Rattle.st_model.specs.Calls.{Reads, itself};
-ghost use Rattle.st_model.specs.View.{is_live};
-ghost use Rattle.st_scope.specs.Tables.{member_key, has_name, member_named};
-ghost use Rattle.st_scope.specs.Texts.{found};
+ghost use Rattle.st_model.specs.{Values.value, Table.table, Calls.{Reads, itself}, View.is_live};
+ghost use Rattle.st_scope.specs.{Tables.{member_key, has_name, member_named}, Texts.found};
 
 use crate::reading::{check_fields, count_fields, fetch_field, is_text};
 use st_memory::Memory;

@@ -1,29 +1,23 @@
 ghost use Rattle.std.specs.Prelude.{◌≡◌, None, Some};
 ghost use Rattle.st_host.specs.Telling.{Says};
-ghost use Rattle.st_model.specs.Machine.{State};
-ghost use Rattle.st_model.specs.Births.{Births, births};
-ghost use Rattle.st_model.specs.Events.{event};
-ghost use Rattle.st_model.specs.Show.{Shows};
+ghost use Rattle.st_model.specs.{Machine.State, Births.{Births, births}, Events.event, Show.Shows};
 ghost use Rattle.st_frames.specs.Shown.{IsReady};
 ghost use Rattle.st_input.specs.Coming.{HasPlace};
-ghost use Rattle.st_call.specs.Saying.{Pushes};
-ghost use Rattle.st_chunk.specs.Lines.{IsInRange};
-ghost use Rattle.st_chunk.specs.Reading.{Place};
-ghost use Rattle.st_chunk.specs.Scripts.{asked_at};
+ghost use Rattle.st_call.specs.{Saying.Pushes, Replies.machine_text};
+ghost use Rattle.st_chunk.specs.{Lines.IsInRange, Reading.Place, Scripts.asked_at};
 ghost use Rattle.st_install.specs.Defining.{installed};
 ghost use Rattle.st_recover.specs.Commits.{Commit};
-ghost use Rattle.st_session.specs.Answers.{answer, event_course, line_course, living_line};
-ghost use Rattle.st_session.specs.Asking.{IsSaying};
-ghost use Rattle.st_session.specs.Keeping.{in_a_store};
-ghost use Rattle.st_session.specs.Pushing.{PushesCourse};
-ghost use Rattle.st_call.specs.Replies.{machine_text};
+ghost use Rattle.st_session.specs.{Answers.{answer, event_course, line_course, living_line}, Asking.IsSaying};
+ghost use Rattle.st_session.specs.{Keeping.in_a_store, Pushing.PushesCourse};
 ghost use Rattle.st_session.specs.Standing.{MayRun, MayGoOn, Serves, StandsAt, shown_by};
 
 use crate::debugging::say_stack;
 use crate::kept::Kept;
 use crate::saving::{run, snapshot};
 use crate::watch::Watch;
-use st_call::{Output, Reply, finish, push_held, push_input, push_registers, push_used, say_reply};
+use st_call::{
+    Output, Pushed, Reply, finish, push_held, push_input, push_registers, push_used, say_reply,
+};
 use st_chunk::Request;
 use st_host::{Host, SayFault};
 use st_machine::Machine;
@@ -37,7 +31,7 @@ fn push_event<H: Host, M: Memory>(
     host: &mut H,
     machine: &mut Machine<M>,
     e: Event,
-) -> Result<(), SayFault>
+) -> Pushed
     requires ready { IsReady (M.view machine.old.memory) machine.old.frame machine.old.world }
     requires alive { machine.old.death ≡ None }
     requires place { HasPlace e }
@@ -53,11 +47,7 @@ fn push_event<H: Host, M: Memory>(
 }
 
 /// Adds the registers, the input state and what is held.
-fn push_machine<H: Host, M: Memory>(
-    out: &mut Output,
-    host: &mut H,
-    machine: &Machine<M>,
-) -> Result<(), SayFault>
+fn push_machine<H: Host, M: Memory>(out: &mut Output, host: &mut H, machine: &Machine<M>) -> Pushed
     requires ready { IsReady (M.view machine.now.memory) machine.now.frame machine.now.world }
     ensures { let text = machine_text (shown_by M.view machine.now) in
         Pushes H.Host.own text host.old host.new out.old out.new result }
@@ -73,7 +63,7 @@ fn push_answer<H: Host, M: Memory>(
     host: &mut H,
     machine: &mut Machine<M>,
     request: Request,
-) -> Result<(), SayFault>
+) -> Pushed
     requires ready { IsReady (M.view machine.old.memory) machine.old.frame machine.old.world }
     requires alive { machine.old.death ≡ None }
     requires range { IsInRange request }

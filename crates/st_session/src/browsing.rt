@@ -1,9 +1,7 @@
 ghost use Rattle.std.specs.Prelude.{◌≡◌, None};
 ghost use Rattle.st_chunk.specs.Asks.{Source, ask_of, side_of};
-ghost use Rattle.st_session.specs.Answers.{browse_course};
-ghost use Rattle.st_session.specs.Browsing.{asked_text, TellsOrStarves};
-ghost use Rattle.st_session.specs.Sources.{kept_text, shown_text};
-ghost use Rattle.st_session.specs.Keeping.{in_a_store};
+ghost use Rattle.st_session.specs.{Answers.browse_course, Browsing.{asked_text, TellsOrStarves}};
+ghost use Rattle.st_session.specs.{Sources.{kept_text, shown_text}, Keeping.in_a_store};
 ghost use Rattle.st_session.specs.Standing.{MayGoOn, Serves};
 ghost use Rattle.st_call.specs.Telling.{Tells};
 

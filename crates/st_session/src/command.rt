@@ -1,19 +1,12 @@
 ghost use Rattle.std.specs.Prelude.{◌≡◌, ℕ, List, IsTrue, OnOk, None};
-ghost use Rattle.st_host.specs.Counts.{HasCause, Rose};
-ghost use Rattle.st_host.specs.Files.{bytes_of};
-ghost use Rattle.st_host.specs.Runs.{ReadsAndSays, SaysAll};
-ghost use Rattle.st_model.specs.Machine.{State};
-ghost use Rattle.st_model.specs.Births.{Births};
-ghost use Rattle.st_model.specs.Show.{Shows};
-ghost use Rattle.st_model.specs.Text.{state_text};
-ghost use Rattle.st_frames.specs.Shown.{IsReady, shown};
+ghost use Rattle.st_host.specs.{Counts.{HasCause, Rose}, Files.bytes_of, Runs.{ReadsAndSays, SaysAll}};
 ghost use Rattle.st_host.specs.Telling.{Says};
+ghost use Rattle.st_model.specs.{Machine.State, Births.Births, Show.Shows, Text.state_text};
+ghost use Rattle.st_frames.specs.Shown.{IsReady, shown};
 ghost use Rattle.st_protocol.specs.Statuses.{StatusHasCause};
-ghost use Rattle.st_session.specs.Commands.{OnceEnds};
-ghost use Rattle.st_session.specs.Reports.{run_text};
-ghost use Rattle.st_session.specs.StoreSessions.{SessionCommandEnds};
+ghost use Rattle.st_session.specs.{Commands.OnceEnds, Reports.run_text, StoreSessions.SessionCommandEnds};
 
-use crate::opening_refusal::opening_status;
+use crate::opening_refusal::refuse_opening;
 use crate::reading::serve;
 use crate::report::push_report;
 use crate::starting::start;
@@ -85,10 +78,6 @@ pub fn session<H: Host, L: Loader, S: Source>(
             refuse(host, status);
             status
         }
-        Err(fault) => {
-            let status = opening_status(fault);
-            refuse(host, status);
-            status
-        }
+        Err(fault) => refuse_opening(host, fault),
     }
 }

@@ -7,10 +7,9 @@ ghost use Rattle.st_store.specs.Names.{IsNoFileOf};
 ghost use Rattle.st_changes.specs.Lists.{StandsAt};
 ghost use Rattle.st_protocol.specs.Statuses.{Counts, StatusHasCause};
 ghost use Rattle.st_recover.specs.Commits.{Commit};
-ghost use Rattle.st_session.specs.Condensings.{IsKeptAs, DoesCondense, CondenseEnds};
-ghost use Rattle.st_session.specs.Exports.{IsOfExporting};
+ghost use Rattle.st_session.specs.{Condensings.{IsKeptAs, DoesCondense, CondenseEnds}, Exports.IsOfExporting};
 
-use crate::opening_refusal::opening_status;
+use crate::opening_refusal::refuse_opening;
 use crate::reading::status_of;
 use st_call::{Reply, refuse, say_reply};
 use st_changes::Changes;
@@ -64,10 +63,6 @@ pub fn condense<H: Host, L: Loader>(alloc: Global, host: &mut H, store: &str) ->
             refuse(host, status);
             status
         }
-        Err(fault) => {
-            let status = opening_status(fault);
-            refuse(host, status);
-            status
-        }
+        Err(fault) => refuse_opening(host, fault),
     }
 }

@@ -1,14 +1,11 @@
 // Lines of a debugger.
 ghost use Rattle.std.specs.Prelude.{◌≡◌, None};
-ghost use Rattle.st_model.specs.Show.{show};
-ghost use Rattle.st_model.specs.Values.{value};
+ghost use Rattle.st_model.specs.{Show.show, Values.value};
 ghost use Rattle.st_browse.specs.Asked.{method_of_side};
 ghost use Rattle.st_chunk.specs.Asks.{side_of};
 ghost use Rattle.st_debug.specs.Stack.{stack_text};
 ghost use Rattle.st_call.specs.Telling.{Tells};
-ghost use Rattle.st_session.specs.Answers.{going_on, until_course};
-ghost use Rattle.st_session.specs.Browsing.{memory_of};
-ghost use Rattle.st_session.specs.Keeping.{in_a_store};
+ghost use Rattle.st_session.specs.{Answers.{going_on, until_course}, Browsing.memory_of, Keeping.in_a_store};
 ghost use Rattle.st_session.specs.Standing.{MayGoOn, Serves};
 
 use crate::kept::Kept;

@@ -1,24 +1,18 @@
 //! The command `drill`.
 
 ghost use Rattle.std.specs.Prelude.{◌≡◌, ℕ, List, IfOk, IfErr, OnOk, None};
-ghost use Rattle.st_host.specs.Counts.{HasCause};
-ghost use Rattle.st_host.specs.Runs.{ReadsAndSays, SaysAll};
-ghost use Rattle.st_host.specs.Telling.{Says};
-ghost use Rattle.st_model.specs.Machine.{State};
-ghost use Rattle.st_model.specs.Births.{Births};
-ghost use Rattle.st_model.specs.Show.{Shows};
+ghost use Rattle.st_host.specs.{Counts.HasCause, Runs.{ReadsAndSays, SaysAll}, Telling.Says};
+ghost use Rattle.st_model.specs.{Machine.State, Births.Births, Show.Shows};
 ghost use Rattle.st_frames.specs.Shown.{IsReady};
 ghost use Rattle.st_call.specs.Saying.{Pushes};
 ghost use Rattle.st_protocol.specs.Statuses.{StatusHasCause};
 ghost use Rattle.st_session.specs.Drills.{BeginsDrill, IsNoDrill, DrillEnds, drill_said, use_text};
-ghost use Rattle.st_session.specs.Makings.{contents_in};
-ghost use Rattle.st_session.specs.Reports.{text_of};
-ghost use Rattle.st_session.specs.Standing.{shown_by};
+ghost use Rattle.st_session.specs.{Makings.contents_in, Reports.text_of, Standing.shown_by};
 
 use crate::building::kernel_status;
 use crate::making::{Origin, push_made};
 use crate::running::push_run;
-use st_call::{Output, push_used, refuse};
+use st_call::{Output, Pushed, push_used, refuse};
 use st_frames::{Loaded, World, fetch_scheduled};
 use st_host::{Host, SayFault};
 use st_kernel::{KernelFault, build, drill_text};
@@ -48,11 +42,7 @@ fn boot_drill<L: Loader>(alloc: Global, number: u32) -> Result<Machine<L::Done>,
 }
 
 /// Adds how many objects and words a machine has, where it isn't dead.
-fn push_use<H: Host, M: Memory>(
-    out: &mut Output,
-    host: &mut H,
-    machine: &Machine<M>,
-) -> Result<(), SayFault>
+fn push_use<H: Host, M: Memory>(out: &mut Output, host: &mut H, machine: &Machine<M>) -> Pushed
     ensures { let text = text_of use_text machine.now.death (shown_by M.view machine.now) in
         Pushes H.Host.own text host.old host.new out.old out.new result }
 {
@@ -68,7 +58,7 @@ fn push_drill<H: Host, M: Memory>(
     out: &mut Output,
     host: &mut H,
     machine: &mut Machine<M>,
-) -> Result<(), SayFault>
+) -> Pushed
     requires ready { IsReady (M.view machine.old.memory) machine.old.frame machine.old.world }
     requires alive { machine.old.death ≡ None }
     ensures { let image = contents_in (M.view machine.old.memory) in

@@ -1,21 +1,17 @@
 //! The commands `export` and `clean`.
 
 ghost use Rattle.std.specs.Prelude.{◌≡◌, List, IsTrue, IfErr, None};
-ghost use Rattle.st_model.specs.Births.{Births};
-ghost use Rattle.st_model.specs.Machine.{State, empty_world};
-ghost use Rattle.st_model.specs.Objects.{nil};
-ghost use Rattle.st_model.specs.Show.{Shows};
+ghost use Rattle.st_model.specs.{Births.Births, Machine.{State, empty_world}, Objects.nil, Show.Shows};
 ghost use Rattle.st_model.specs.View.{no_devices};
 ghost use Rattle.st_frames.specs.Shown.{IsFrame, IsReady, shown};
 ghost use Rattle.st_protocol.specs.Statuses.{Counts, StatusHasCause};
 ghost use Rattle.st_session.specs.Ends.{status_in};
 ghost use Rattle.st_session.specs.Exports.{ExportsImage, ExportsState, HasExported, LeavesOthers};
 ghost use Rattle.st_session.specs.Exports.{IsOfExporting, ExportEnds};
-ghost use Rattle.st_session.specs.declared.extent.Extent.TheVariants.{Kept, Reachable};
-ghost use Rattle.st_session.specs.Standing.{shown_by};
+ghost use Rattle.st_session.specs.{declared.extent.Extent.TheVariants.{Kept, Reachable}, Standing.shown_by};
 
 use crate::extent::Extent;
-use crate::opening_refusal::opening_status;
+use crate::opening_refusal::refuse_opening;
 use crate::reading::status_of;
 use st_call::{Reply, refuse, say_reply};
 use st_clean::clean;
@@ -154,10 +150,6 @@ pub fn export<H: Host, L: Loader>(
             refuse(host, status);
             status
         }
-        Err(fault) => {
-            let status = opening_status(fault);
-            refuse(host, status);
-            status
-        }
+        Err(fault) => refuse_opening(host, fault),
     }
 }

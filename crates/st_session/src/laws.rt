@@ -3,17 +3,13 @@
 ghost use Rattle.std.specs.Prelude.{ℕ, List, IsTrue};
 ghost use Rattle.st_image.specs.declared.head.HeadValues.{HeadValues};
 ghost use Rattle.st_model.specs.View.{View};
-ghost use Rattle.st_chunk.specs.Asks.{Side};
-ghost use Rattle.st_chunk.specs.Definitions.{Definition};
+ghost use Rattle.st_chunk.specs.{Asks.Side, Definitions.Definition};
 ghost use Rattle.st_browse.specs.Decompiling.{IsShown};
 ghost use Rattle.st_session.specs.declared.making.Origin.TheVariants.{Image as FromImage, Kernel as FromKernel};
-ghost use Rattle.st_session.specs.Builds.{Builds, IsWrongKernel};
-ghost use Rattle.st_session.specs.Imports.{ReadsAs, IsWrongImage};
+ghost use Rattle.st_session.specs.{Builds.{Builds, IsWrongKernel}, Imports.{ReadsAs, IsWrongImage}};
 ghost use Rattle.st_session.specs.Joining.{RestJoins, SessionJoins, ExportJoins, CondenseJoins, MakingJoins};
 ghost use Rattle.st_session.specs.OneOpening.{OneAnswer, OpensGives, RefusedIs, FollowedIs, StaysIs};
-ghost use Rattle.st_session.specs.Reports.{RunIsSaid};
-ghost use Rattle.st_session.specs.Sources.{shown_text};
-ghost use Rattle.st_session.specs.Traces.{TraceIsRun};
+ghost use Rattle.st_session.specs.{Reports.RunIsSaid, Sources.shown_text, Traces.TraceIsRun};
 
 use st_host::Host;
 

@@ -1,15 +1,13 @@
 //! The making of a store of an image, whatever the image comes from.
 
 ghost use Rattle.std.specs.Prelude.{◌≡◌, OnOk};
-ghost use Rattle.st_host.specs.Counts.{HasCause};
-ghost use Rattle.st_host.specs.Runs.{SaysAll};
-ghost use Rattle.st_host.specs.Telling.{Says};
+ghost use Rattle.st_host.specs.{Counts.HasCause, Runs.SaysAll, Telling.Says};
 ghost use Rattle.st_image.specs.Back.{CanStart};
 ghost use Rattle.st_call.specs.Saying.{Pushes};
 ghost use Rattle.st_protocol.specs.Statuses.{StatusHasCause};
 ghost use Rattle.st_session.specs.Makings.{contents_in, made_word, made_text, MakingEnds};
 
-use st_call::{Output, push_line, refuse, store_status};
+use st_call::{Output, Pushed, push_line, refuse, store_status};
 use st_host::{Host, SayFault};
 use st_memory::Memory;
 use st_protocol::Status;
@@ -43,7 +41,7 @@ pub(crate) fn push_made<H: Host, M: Memory>(
     host: &mut H,
     origin: Origin,
     m: &M,
-) -> Result<(), SayFault>
+) -> Pushed
     ensures { let text = made_text origin (contents_in (M.view m.now)) in
         Pushes H.Host.own text host.old host.new out.old out.new result }
 {

@@ -1,25 +1,17 @@
 ghost use Rattle.std.specs.Prelude.{◌≡◌, None};
-ghost use Rattle.st_model.specs.Machine.{State};
-ghost use Rattle.st_model.specs.Births.{Births};
-ghost use Rattle.st_model.specs.Show.{Shows};
-ghost use Rattle.st_model.specs.Text.{state_text};
+ghost use Rattle.st_model.specs.{Machine.State, Births.Births, Show.Shows, Text.state_text};
 ghost use Rattle.st_frames.specs.Shown.{IsReady};
 ghost use Rattle.st_call.specs.Saying.{Pushes};
-ghost use Rattle.st_session.specs.Standing.{MayRun, shown_by};
-ghost use Rattle.st_session.specs.Reports.{text_of, run_text};
+ghost use Rattle.st_session.specs.{Standing.{MayRun, shown_by}, Reports.{text_of, run_text}};
 
 use crate::running::push_run;
-use st_call::{Output, push_state};
-use st_host::{Host, SayFault};
+use st_call::{Output, Pushed, push_state};
+use st_host::Host;
 use st_machine::Machine;
 use st_memory::Memory;
 
 /// Adds what a machine shows, where it isn't dead.
-fn push_shown<H: Host, M: Memory>(
-    out: &mut Output,
-    host: &mut H,
-    machine: &Machine<M>,
-) -> Result<(), SayFault>
+fn push_shown<H: Host, M: Memory>(out: &mut Output, host: &mut H, machine: &Machine<M>) -> Pushed
     requires may_run { MayRun M.view machine.now }
     ensures { let text = text_of state_text machine.now.death (shown_by M.view machine.now) in
         Pushes H.Host.own text host.old host.new out.old out.new result }
@@ -43,7 +35,7 @@ pub(crate) fn push_report<H: Host, M: Memory>(
     host: &mut H,
     machine: &mut Machine<M>,
     cycles: u32,
-) -> Result<(), SayFault>
+) -> Pushed
     requires ready { IsReady (M.view machine.old.memory) machine.old.frame machine.old.world }
     requires alive { machine.old.death ≡ None }
     ensures { (s : State Births) → Shows (shown_by M.view machine.old) s →

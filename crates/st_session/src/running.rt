@@ -1,17 +1,12 @@
 ghost use Rattle.std.specs.Prelude.{◌≡◌, ◌-◌, ◌≤◌, ◌<◌, None, IfOk, IfSome};
-ghost use Rattle.st_model.specs.Machine.{State};
-ghost use Rattle.st_model.specs.Births.{Births};
-ghost use Rattle.st_model.specs.Show.{Shows};
+ghost use Rattle.st_model.specs.{Machine.State, Births.Births, Show.Shows};
 ghost use Rattle.st_frames.specs.Shown.{IsReady};
 ghost use Rattle.st_call.specs.Saying.{Pushes};
-ghost use Rattle.st_session.specs.Answers.{run_course};
-ghost use Rattle.st_session.specs.Keeping.{keeps_nothing};
-ghost use Rattle.st_session.specs.Pushing.{PushesCourse};
-ghost use Rattle.st_session.specs.Runs.{end_text};
-ghost use Rattle.st_session.specs.Standing.{MayRun, StandsAt, shown_by};
+ghost use Rattle.st_session.specs.{Answers.run_course, Keeping.keeps_nothing, Pushing.PushesCourse};
+ghost use Rattle.st_session.specs.{Runs.end_text, Standing.{MayRun, StandsAt, shown_by}};
 ghost use Rattle.st_session.specs.Stretches.{PushesStretch, stretch};
 
-use st_call::{Output, push_line, say_at_once};
+use st_call::{Output, Pushed, push_line, say_at_once};
 use st_host::{Host, SayFault};
 use st_machine::{Machine, RunEnd};
 use st_memory::Memory;
@@ -23,7 +18,7 @@ pub(crate) fn push_end<H: Host>(
     host: &mut H,
     finished: u32,
     end: RunEnd,
-) -> Result<(), SayFault>
+) -> Pushed
     ensures { Pushes H.Host.own (end_text finished end) host.old host.new out.old out.new result }
 {
     match end {
@@ -100,7 +95,7 @@ pub(crate) fn push_run<H: Host, M: Memory>(
     host: &mut H,
     machine: &mut Machine<M>,
     cycles: u32,
-) -> Result<(), SayFault>
+) -> Pushed
     requires ready { IsReady (M.view machine.old.memory) machine.old.frame machine.old.world }
     requires alive { machine.old.death ≡ None }
     ensures may_run { MayRun M.view machine.new }

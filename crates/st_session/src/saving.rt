@@ -1,23 +1,16 @@
 // Runs and snapshots of a session, which keep images in the store.
 ghost use Rattle.std.specs.Prelude.{◌≡◌, ◌-◌, ◌≤◌, ◌<◌, IfErr, IfOk, IfSome, IsErrOf, IsSome, None, OnOk};
-ghost use Rattle.st_model.specs.Machine.{State};
-ghost use Rattle.st_model.specs.Births.{Births};
-ghost use Rattle.st_model.specs.Show.{Shows};
+ghost use Rattle.st_model.specs.{Machine.State, Births.Births, Show.Shows};
 ghost use Rattle.st_frames.specs.Shown.{IsReady};
 ghost use Rattle.st_image.specs.Back.{CanStart};
 ghost use Rattle.st_store.specs.Names.{IsNoFileOf};
-ghost use Rattle.st_protocol.specs.Obeying.{Obeys};
-ghost use Rattle.st_protocol.specs.Statuses.{Counts};
+ghost use Rattle.st_protocol.specs.{Obeying.Obeys, Statuses.Counts};
 ghost use Rattle.st_protocol.specs.declared.status.Status.TheVariants.{OutOfMemory};
-ghost use Rattle.st_recover.specs.Archives.{Holds};
-ghost use Rattle.st_recover.specs.Commits.{Commit, OpensAs, image_with};
-ghost use Rattle.st_session.specs.Answers.{watched_course, going_on};
-ghost use Rattle.st_call.specs.Telling.{IsOfServing};
-ghost use Rattle.st_session.specs.Keeping.{in_a_store, imaging};
+ghost use Rattle.st_recover.specs.{Archives.Holds, Commits.{Commit, OpensAs, image_with}};
+ghost use Rattle.st_session.specs.{Answers.{watched_course, going_on}, Keeping.{in_a_store, imaging}};
 ghost use Rattle.st_session.specs.Standing.{MayRun, MayGoOn, Serves, shown_by};
-ghost use Rattle.st_session.specs.Stretches.{SaysStretch, went};
-ghost use Rattle.st_session.specs.Watched.{watched_stretch};
-ghost use Rattle.st_session.specs.Watching.{look_of};
+ghost use Rattle.st_session.specs.{Stretches.{SaysStretch, went}, Watched.watched_stretch, Watching.look_of};
+ghost use Rattle.st_call.specs.Telling.{IsOfServing};
 
 use crate::kept::Kept;
 use crate::watch::Watch;

@@ -1,14 +1,10 @@
 ghost use Rattle.std.specs.Prelude.{◌≡◌, None, Some, IfSome};
 ghost use Rattle.st_chunk.specs.Definitions.{IsDefinition};
 ghost use Rattle.st_chunk.specs.declared.request.Request.TheVariants.{Browse as Browsing, Define as Defining};
-ghost use Rattle.st_chunk.specs.ScriptDefinitions.{definition_of};
-ghost use Rattle.st_chunk.specs.Lines.{IsInRange};
+ghost use Rattle.st_chunk.specs.{ScriptDefinitions.definition_of, Lines.IsInRange};
 ghost use Rattle.st_chunk.specs.Scripts.{IsBrowsed, IsDefined, asked_at, asked_by};
-ghost use Rattle.st_install.specs.Defining.{installed};
-ghost use Rattle.st_install.specs.Prepareds.{IsPrepared};
-ghost use Rattle.st_session.specs.Answers.{answer, definition_course};
-ghost use Rattle.st_session.specs.Keeping.{in_a_store};
-ghost use Rattle.st_session.specs.Sessions.{follow};
+ghost use Rattle.st_install.specs.{Defining.installed, Prepareds.IsPrepared};
+ghost use Rattle.st_session.specs.{Answers.{answer, definition_course}, Keeping.in_a_store, Sessions.follow};
 ghost use Rattle.st_session.specs.Standing.{MayGoOn, Serves};
 
 use crate::answering::{answer_dead, answer_living};
@@ -36,8 +32,7 @@ fn accept<H: Host, M: Memory>(
     requires alive { kept.old.machine.death ≡ None }
     ensures { Serves M.view H.Host.own
         (λ p. definition_course in_a_store installed p.being p.kept (definition_of definition.now))
-        (host.new ≡ host.old)
-        kept.old host.old result kept.new host.new }
+        (host.new ≡ host.old) kept.old host.old result kept.new host.new }
 {
     match kept.archive.accept(alloc, host, definition) {
         Ok(()) => {
@@ -65,8 +60,7 @@ fn define<H: Host, M: Memory>(
     requires alive { kept.old.machine.death ≡ None }
     ensures { Serves M.view H.Host.own
         (λ p. definition_course in_a_store installed p.being p.kept (definition_of definition.now))
-        (host.new ≡ host.old)
-        kept.old host.old result kept.new host.new }
+        (host.new ≡ host.old) kept.old host.old result kept.new host.new }
 {
     let unprepared = match prepare(alloc, kept.machine.memory(), definition) {
         Ok(prepared) => return accept(alloc, host, kept, definition, prepared),

@@ -1,9 +1,6 @@
 ghost use Rattle.std.specs.Prelude.{◌≡◌, IsTrue, IfOk, IfErr, None};
-ghost use Rattle.st_host.specs.Files.{bytes_of};
-ghost use Rattle.st_host.specs.Runs.{OnlyReads};
-ghost use Rattle.st_model.specs.Objects.{nil};
-ghost use Rattle.st_model.specs.Machine.{empty_world};
-ghost use Rattle.st_model.specs.Image.{image_head};
+ghost use Rattle.st_host.specs.{Files.bytes_of, Runs.OnlyReads};
+ghost use Rattle.st_model.specs.{Objects.nil, Machine.empty_world, Image.image_head};
 ghost use Rattle.st_frames.specs.Shown.{IsReady};
 ghost use Rattle.st_image.specs.Reading.{IsStart};
 ghost use Rattle.st_recover.specs.Openings.{IsReadable, IsFaulty};

@@ -1,15 +1,10 @@
 // A run that is watched: what comes before a bytecode is done, the machine is looked at, and then the cycle goes on.
 ghost use Rattle.std.specs.Prelude.{◌≡◌, ◌-◌, ◌≤◌, ◌<◌, None, IfOk, IfSome};
-ghost use Rattle.st_model.specs.Values.{value};
-ghost use Rattle.st_model.specs.Machine.{State};
-ghost use Rattle.st_model.specs.Births.{Births, births};
-ghost use Rattle.st_model.specs.Cycles.{cycle};
-ghost use Rattle.st_model.specs.Show.{Shows};
+ghost use Rattle.st_model.specs.{Values.value, Machine.State, Births.{Births, births}, Cycles.cycle};
+ghost use Rattle.st_model.specs.{Show.Shows, Text.dead_text};
 ghost use Rattle.st_frames.specs.Shown.{IsReady};
-ghost use Rattle.st_model.specs.Text.{dead_text};
 ghost use Rattle.st_call.specs.Saying.{Pushes};
-ghost use Rattle.st_session.specs.declared.watching.Cycled.TheVariants.{Over};
-ghost use Rattle.st_session.specs.Standing.{MayRun, shown_by};
+ghost use Rattle.st_session.specs.{declared.watching.Cycled.TheVariants.Over, Standing.{MayRun, shown_by}};
 ghost use Rattle.st_session.specs.Stretches.{PushesStretch, cycle_stretch, went};
 ghost use Rattle.st_session.specs.Watched.{PushesLook, PushesCycle, is_stop, seen_cycle, watched_cycle, watched_stretch};
 ghost use Rattle.st_session.specs.Watching.{bytecode_seen, entry_seen, look_of};

@@ -12,6 +12,7 @@ use Rattle.st_model.specs.Contexts.{activate}
 use Rattle.st_model.specs.Sends.{Call}
 use Rattle.st_model.specs.Storage.{primitive_say}
 use Rattle.st_model.specs.Executing.{goes_on, or_activate, say_or_activate, respond_last, respond, takes, execute_found, drop_selector, spread_array, perform_if, perform, primitive_perform, spreading, perform_with, primitive_perform_with, perform_or_activate, respond_or_perform}
+use Rattle.st_frames.proofs.Doing.{rows}
 use Rattle.st_step.specs.Trying.{went_if, if_done, succeeds, said_if, says, perform_if_fits, performs, performs_first, performs_selector, performs_spread, performs_with, last_number, number_on_objects, number_behind, number_that_responds, by_number, or_activated, TriesByNumber}
 
 module _ (m : ObjectMemory Table) (c : Call) (v : Value) where
@@ -100,9 +101,23 @@ module _ (m : ObjectMemory Table) (c : Call) (v : Value) where
   unfolding primitive_perform_with performs_with
   with_performed = then_tried _ _ (λ r. then_tried _ _ (λ a. then_tried _ _ (λ b. then_tried _ _ (λ n. spread r a b n) (tried (spreading m b))) (top m)) (under m 1)) (under m 2)
 
-  responds : (k : ℕ) → IsTried (respond_or_perform m c v k) (by_number m k c.arguments)
-  unfolding respond_or_perform respond respond_last by_number number_that_responds number_behind number_on_objects last_number
-  responds k = search (if_tried, done, goes, fails, says_tried, selector_performed, with_performed) depth 32 fits 8000
+  responds : (k : ℕ) → IsTried (respond m c v k) (number_that_responds m k c.arguments)
+  unfolding respond respond_last number_that_responds number_behind number_on_objects last_number
+  responds k = search (if_tried, done, goes, fails, says_tried) depth 32 fits 8000
+
+  responds_or_performs : (k : ℕ) → IsTried (respond_or_perform m c v k) (by_number m k c.arguments)
+  unfolding respond_or_perform by_number
+  responds_or_performs k = search (if_tried, selector_performed, with_performed, responds)
 
 pub tries_by_number : TriesByNumber
-tries_by_number m c v k s = (responds m c v k).same s
+tries_by_number m c v k s = (responds_or_performs m c v k).same s
+
+module _ (m : ObjectMemory Table) (c : Call) (v : Value) (k : ℕ) (s : State Table) where
+  pub performs_by_number : (respond_or_perform m c v k).run s ≡ (by_number m k c.arguments >>= or_activated m c v).run s
+  performs_by_number = tries_by_number m c v k s
+
+  pub responds_by_number : (respond m c v k).run s ≡ (number_that_responds m k c.arguments >>= or_activated m c v).run s
+  responds_by_number = (responds m c v k).same s
+
+-- a method is executed by its primitive as that is tried
+pub ruleset responses = (rows, performs_by_number, responds_by_number)

@@ -5,4 +5,5 @@ pub mod Said
 pub mod Performed
 mod Failing
 mod Called
-mod Executes
+pub mod Executes
+pub mod NumberChanges

@@ -9,29 +9,13 @@ use Rattle.st_model.specs.Outcomes.{Outcome}
 use Rattle.st_model.specs.Machine.{ObjectMemory, State, Transition, Died, Went, answer, after, ◌>>=◌, ◌>>◌}
 use Rattle.st_model.specs.Steps.{count_fields, get_active, get_sp, top, under}
 use Rattle.st_model.specs.Primitives.{check_class}
-use Rattle.st_model.specs.Sends.{Call}
-use Rattle.st_model.specs.Contexts.{activate}
-use Rattle.st_model.specs.Executing.{goes_on, spread_array, perform, primitive_perform, spreading, perform_with, primitive_perform_with, perform_or_activate}
+use Rattle.st_model.specs.Executing.{spread_array, spreading}
 use Rattle.st_model.specs.Table.{Table}
 use Rattle.st_step.specs.Trying.{performs, performs_first, performs_selector, performs_spread, performs_with}
 use Rattle.st_model.proofs.Runs.{check-below, check-not_below, run-tried_went, run-tried_died}
 use Rattle.st_frames.proofs.Doing.{rows}
 
-pub perform-none : (m : ObjectMemory Table) (c : Call) (v : Value) (n : ℕ) (s : State Table) → n ≡ 0
-    → (perform_or_activate m c v n).run s ≡ (goes_on (activate m c.method v c.arguments)).run s
-unfolding perform_or_activate
-perform-none m c v zero s e = refl
-perform-none m c v (suc n) s e = cc
-
-pub perform-more : (m : ObjectMemory Table) (c : Call) (v : Value) (n : ℕ) (s : State Table) → n ≢ 0
-    → (perform_or_activate m c v n).run s ≡ (primitive_perform m c v (n - 1)).run s
-unfolding perform_or_activate
-perform-more m c v zero s d = absurd (d refl)
-perform-more m c v (suc n) s d = let f : suc n - 1 ≡ n = omega arith in rw f refl
-
-pub ruleset counts = (rows, perform-none, perform-more)
-
--- the same of 83 that is tried
+-- 83 that is tried
 pub performs-none : (m : ObjectMemory Table) (n : ℕ) (s : State Table) → n ≡ 0 → (performs_selector m n).run s ≡ Went None s
 unfolding performs_selector answer
 performs-none m zero s e = refl
@@ -43,17 +27,6 @@ performs-more m zero s d = absurd (d refl)
 performs-more m (suc n) s d = let f : suc n - 1 ≡ n = omega arith in rw f refl
 
 pub ruleset selectors = (rows, performs-none, performs-more)
-
--- 84, whose condition holds, or fails
-module _ (m : ObjectMemory Table) (c : Call) (h v w b : Value) (s : State Table) (y : Transition (State Table) Outcome)
-    (receiver : (under m 2).run s ≡ Went v s) (selector : (under m 1).run s ≡ Went w s) (array : (top m).run s ≡ Went b s) where
-  pub performs-with : (n : ℕ) → (spreading m b).run s ≡ Went n s → (perform m c h v w n (spread_array m b n)).run s ≡ y → (primitive_perform_with m c h).run s ≡ y
-  unfolding primitive_perform_with perform_with ◌>>=◌ after
-  performs-with n e k = rw (receiver, selector, array, run-tried_went (spreading m b) s s n e) k
-
-  pub activates-for : (k : Dead) → (spreading m b).run s ≡ Died k → (goes_on (activate m c.method h c.arguments)).run s ≡ y → (primitive_perform_with m c h).run s ≡ y
-  unfolding primitive_perform_with perform_with ◌>>=◌ after
-  activates-for k e f = rw (receiver, selector, array, run-tried_died (spreading m b) s k e) f
 
 -- 84 that is tried
 module _ (m : ObjectMemory Table) (v w b : Value) (s : State Table)

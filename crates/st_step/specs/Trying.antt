@@ -1,12 +1,15 @@
 -- A primitive that is called by its number, whatever method has it (chapter 29). It answers how it ended, or none where it
 -- failed.
-use Rattle.std.specs.Prelude.{◌≡◌, ℕ, zero, suc, ◌+◌, ◌==◌, Result, IfOk, Option, Some, None, Bool, true, false, ◌&&◌, if◌then◌else◌}
+use Rattle.std.specs.Prelude.{◌≡◌, ℕ, zero, suc, ◌+◌, ◌==◌, Result, Ok, Err, IfOk, Option, Some, None, Bool, true, false, ◌&&◌, if◌then◌else◌}
 use Rattle.std.specs.Option.{option_map}
 use Rattle.st_model.specs.declared.deed.Deed.{Deed}
 use Rattle.st_model.specs.declared.deed.Deed.TheVariants.{Nothing}
 use Rattle.st_model.specs.declared.dead.Dead.{Dead}
 use Rattle.st_model.specs.declared.dead.Dead.TheVariants as dead
 use Rattle.st_model.specs.declared.outcome.StepEnd.{StepEnd}
+use Rattle.st_model.specs.declared.outcome.StepEnd.TheVariants as ends
+use Rattle.st_model.specs.declared.tried.Tried.{Tried as FamilyTried}
+use Rattle.st_model.specs.declared.tried.Tried.TheVariants as family
 use Rattle.st_model.specs.Values.{Value}
 use Rattle.st_model.specs.Outcomes.{Outcome, outcome_of, end_of}
 use Rattle.st_model.specs.Outcomes as outcome
@@ -25,6 +28,7 @@ use Rattle.st_model.specs.Executing.{goes_on, asks, is_from, takes, execute_foun
 use Rattle.st_model.specs.Table.{Table}
 use Rattle.st_model.specs.View.{View}
 use Rattle.st_frames.specs.declared.frame.Frame.{Frame}
+use Rattle.st_frames.specs.Rows.{storage_changes}
 use Rattle.st_step.specs.declared.tried.Tried.{Tried}
 use Rattle.st_step.specs.declared.tried.Tried.TheVariants as trials
 
@@ -171,6 +175,18 @@ end_if_any x = option_map end_of x
 abbrev pub deed_if_any : Option StepEnd → Deed
 deed_if_any None = Nothing
 deed_if_any (Some end) = deed_of_end end
+
+-- the end of a primitive that its family tried; none where it failed
+abbrev pub end_of_trial : FamilyTried → Option StepEnd
+end_of_trial family.Failed = None
+end_of_trial (family.Done deed) = Some (ends.Went deed)
+
+-- How many changes a primitive makes that is tried by its number: where it failed, no more than one on objects, so that its
+-- method can be activated.
+abbrev pub number_changes : ℕ → Result (Option StepEnd) Dead → ℕ
+number_changes most (Ok None) = storage_changes
+number_changes most (Ok (Some end)) = most
+number_changes most (Err cause) = most
 
 -- what a primitive of the code was that was tried
 abbrev pub outcome_of_trial : Tried → Option Outcome

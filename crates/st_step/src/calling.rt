@@ -1,10 +1,7 @@
 ghost use Rattle.std.specs.Prelude.{◌≡◌, true, false, IfOk, IfErr};
-ghost use Rattle.st_model.specs.declared.dead.Dead.TheVariants.{Kind};
-ghost use Rattle.st_model.specs.Steps.{are_there};
-ghost use Rattle.st_model.specs.Table.{table, bounded_table};
-ghost use Rattle.st_model.specs.Calls.{Does};
-ghost use Rattle.st_frames.specs.Rows.{registers_in};
-ghost use Rattle.st_frames.specs.Shown.{IsReady, shown};
+ghost use Rattle.st_model.specs.{declared.dead.Dead.TheVariants.Kind, Steps.are_there};
+ghost use Rattle.st_model.specs.{Table.{table, bounded_table}, Calls.Does};
+ghost use Rattle.st_frames.specs.{Rows.registers_in, Shown.{IsReady, shown}};
 ghost use Rattle.st_step.specs.Trying.{try_primitive, is_said_there, end_if_any, outcome_of_trial, IsStill};
 
 use crate::numbers::tried_number;

@@ -1,43 +1,15 @@
-ghost use Rattle.std.specs.Prelude.{◌≡◌, ◌<◌, ◌≤◌, ◌+◌};
-ghost use Rattle.st_model.specs.Values.{word};
-ghost use Rattle.st_model.specs.Outcomes.{end_of};
-ghost use Rattle.st_model.specs.Deeds.{deed_of_end};
-ghost use Rattle.st_model.specs.Sends.{call_of, call_if_any};
-ghost use Rattle.st_model.specs.Executing.{respond_or_perform, execute, execute_if_any};
+ghost use Rattle.std.specs.Prelude.{◌≤◌, ◌+◌};
+ghost use Rattle.st_model.specs.{Outcomes.end_of, Deeds.deed_of_end, Sends.{call_of, call_if_any}};
+ghost use Rattle.st_model.specs.Executing.{execute, execute_if_any};
 ghost use Rattle.st_frames.specs.Rows.{RowLeaves, Takes, execution_changes};
 
 use crate::flags::by_flag;
-use crate::perform::{perform_or_activate, primitive_perform_with};
-use crate::respond::{is_with, respond};
+use crate::respond::respond_or_perform;
 use st_control::method_primitive;
 use st_frames::Registers;
 use st_memory::Objects;
 use st_method::Header;
 use st_model::{Call, Dead, Deed, StepEnd};
-
-/// Does the method's primitive, which may be 83 or 84.
-#[tactic(auto, using(st_frames::proofs::Doing::rows), unfolding(st_model::specs::Executing::respond_or_perform))]
-fn respond_or_perform<O: Objects>(
-    m: &mut O,
-    r: &mut Registers,
-    call: Call,
-    header: Header,
-    primitive: u32,
-) -> Result<StepEnd, Dead>
-    requires room { execution_changes ≤ O.room m.old }
-    ensures does { RowLeaves O.Objects.own
-        (respond_or_perform O.names (call_of call) (word header.0) primitive)
-        end_of deed_of_end m.old r.old result m.new r.new }
-    ensures takes { Takes O.Objects.own execution_changes m.old m.new }
-{
-    if primitive == 83 {
-        return perform_or_activate(m, r, call, header);
-    }
-    if is_with(primitive, 84, call.arguments, 2) {
-        return primitive_perform_with(m, r, call, header);
-    }
-    respond(m, r, call, header, primitive)
-}
 
 /// Executes the method that was called.
 #[tactic(auto, using(st_frames::proofs::Doing::rows), unfolding(st_model::specs::Executing::execute, st_model::specs::Executing::execute_by, st_model::specs::Executing::respond_by_extension, crate::specs::Responding::by_flag))]

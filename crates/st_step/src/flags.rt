@@ -1,8 +1,5 @@
 ghost use Rattle.std.specs.Prelude.{◌≤◌, ◌+◌};
-ghost use Rattle.st_model.specs.Values.{word};
-ghost use Rattle.st_model.specs.Outcomes.{end_of};
-ghost use Rattle.st_model.specs.Deeds.{deed_of_end};
-ghost use Rattle.st_model.specs.Sends.{call_of};
+ghost use Rattle.st_model.specs.{Values.word, Outcomes.end_of, Deeds.deed_of_end, Sends.call_of};
 ghost use Rattle.st_model.specs.Executing.{execute_performed};
 ghost use Rattle.st_step.specs.Responding.{by_flag};
 ghost use Rattle.st_frames.specs.Rows.{RowLeaves, Takes, activation_changes, response_changes};

@@ -1,8 +1,7 @@
 ghost use Rattle.std.specs.Prelude.{◌≡◌, ◌<◌, ◌≤◌, ◌+◌};
-ghost use Rattle.st_model.specs.Outcomes.{end_of};
-ghost use Rattle.st_model.specs.Deeds.{deed_of_end};
-ghost use Rattle.st_model.specs.Executing.{executed_if_any};
-ghost use Rattle.st_model.specs.Bytecodes.{short_jump_on_false, long_jump_on_true, long_jump_on_false};
+ghost use Rattle.st_model.specs.{Outcomes.end_of, Deeds.deed_of_end, Executing.executed_if_any};
+ghost use Rattle.st_model.specs.Bytecodes.{short_jump_on_false};
+ghost use Rattle.st_step.specs.Jumping.{long_conditional_jump};
 ghost use Rattle.st_frames.specs.Rows.{RowLeaves, Takes, executed_jump_changes};
 
 use crate::execute::execute_if_any;
@@ -31,44 +30,24 @@ pub fn short_jump_on_false<O: Objects>(m: &mut O, r: &mut Registers, i: u8) -> R
     execute_if_any(m, r, call)
 }
 
-/// Pops, and jumps on true by i times 256 plus the next byte.
-#[tactic(auto, using(st_frames::proofs::Doing::rows), unfolding(st_model::specs::Bytecodes::long_jump_on_true, st_model::specs::Executing::executed_if_any))]
-pub fn long_jump_on_true<O: Objects>(m: &mut O, r: &mut Registers, i: u8) -> Result<StepEnd, Dead>
+/// Pops, and jumps on the wanted boolean by i times 256 plus the next byte.
+#[tactic(auto, using(st_frames::proofs::Doing::rows), unfolding(crate::specs::Jumping::long_conditional_jump, st_model::specs::Executing::executed_if_any))]
+pub fn long_conditional_jump<O: Objects>(
+    m: &mut O,
+    r: &mut Registers,
+    wanted: PageObject,
+    other: PageObject,
+    i: u8,
+) -> Result<StepEnd, Dead>
     requires number { i < 4 }
     requires room { executed_jump_changes ≤ O.room m.old }
-    ensures does { RowLeaves O.Objects.own (executed_if_any O.names (long_jump_on_true O.names i))
+    ensures does { RowLeaves O.Objects.own
+        (executed_if_any O.names (long_conditional_jump O.names wanted other i))
         end_of deed_of_end m.old r.old result m.new r.new }
     ensures takes { Takes O.Objects.own executed_jump_changes m.old m.new }
 {
     let byte = next_byte(m, r)?;
     let distance = u32::from(i) * 256 + u32::from(byte);
-    let call = jump_on(
-        m,
-        r,
-        PageObject::TrueObject,
-        PageObject::FalseObject,
-        distance,
-    )?;
-    execute_if_any(m, r, call)
-}
-
-/// Pops, and jumps on false by i times 256 plus the next byte.
-#[tactic(auto, using(st_frames::proofs::Doing::rows), unfolding(st_model::specs::Bytecodes::long_jump_on_false, st_model::specs::Executing::executed_if_any))]
-pub fn long_jump_on_false<O: Objects>(m: &mut O, r: &mut Registers, i: u8) -> Result<StepEnd, Dead>
-    requires number { i < 4 }
-    requires room { executed_jump_changes ≤ O.room m.old }
-    ensures does { RowLeaves O.Objects.own (executed_if_any O.names (long_jump_on_false O.names i))
-        end_of deed_of_end m.old r.old result m.new r.new }
-    ensures takes { Takes O.Objects.own executed_jump_changes m.old m.new }
-{
-    let byte = next_byte(m, r)?;
-    let distance = u32::from(i) * 256 + u32::from(byte);
-    let call = jump_on(
-        m,
-        r,
-        PageObject::FalseObject,
-        PageObject::TrueObject,
-        distance,
-    )?;
+    let call = jump_on(m, r, wanted, other, distance)?;
     execute_if_any(m, r, call)
 }

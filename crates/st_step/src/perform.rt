@@ -1,20 +1,16 @@
 ghost use Rattle.std.specs.Prelude.{◌≡◌, ◌<◌, ◌≤◌, ◌+◌, IfOk};
-ghost use Rattle.st_model.specs.Values.{word};
-ghost use Rattle.st_model.specs.Outcomes.{end_of};
-ghost use Rattle.st_model.specs.Deeds.{deed_of_end};
-ghost use Rattle.st_model.specs.Sends.{call_of};
-ghost use Rattle.st_model.specs.Executing.{takes, execute_found, drop_selector, spread_array, perform, primitive_perform, spreading, primitive_perform_with, perform_or_activate};
+ghost use Rattle.st_model.specs.{Values.word, Outcomes.end_of, Deeds.deed_of_end};
+ghost use Rattle.st_model.specs.Executing.{takes, execute_found, drop_selector, spread_array, spreading};
 ghost use Rattle.st_model.specs.Calls.{itself};
-ghost use Rattle.st_step.specs.Trying.{performs, performs_selector, performs_with, end_if_any, deed_if_any};
+ghost use Rattle.st_step.specs.Trying.{performs, performs_selector, performs_with, end_if_any, deed_if_any, number_changes};
 ghost use Rattle.st_lookup.specs.Places.{found_word};
 ghost use Rattle.st_frames.specs.Rows.{RowReads, RowDoes, RowLeaves, Takes, send_changes, response_changes, execution_changes};
 
 use crate::flags::execute_performed;
-use crate::respond::activated;
 use st_control::{find_method, not_understood};
 use st_frames::{Registers, check_class, drop_words, set_stack_pointer, top, under};
 use st_memory::Objects;
-use st_method::{Header, method_arguments};
+use st_method::method_arguments;
 use st_model::{Call, Dead, PageObject, StepEnd, Word};
 
 /// Whether the method takes n arguments, where one was found; where none was, whatever is given is taken.
@@ -77,58 +73,6 @@ fn drop_selector<O: Objects>(m: &mut O, r: &mut Registers, n: u32) -> Result<(),
     drop_words(m, r, 1)
 }
 
-/// The selector is performed with the n arguments above it.
-#[tactic(auto, using(st_frames::proofs::Doing::rows), unfolding(st_model::specs::Executing::perform, st_model::specs::Executing::perform_if))]
-fn perform_selector<O: Objects>(
-    m: &mut O,
-    r: &mut Registers,
-    call: Call,
-    header: Header,
-    receiver: Word,
-    selector: Word,
-    n: u32,
-) -> Result<StepEnd, Dead>
-    requires few { n < 16384 }
-    requires room { execution_changes ≤ O.room m.old }
-    ensures does { RowLeaves O.Objects.own
-        (perform O.names (call_of call) (word header.0) (word receiver) (word selector) n
-        (drop_selector O.names n))
-        end_of deed_of_end m.old r.old result m.new r.new }
-    ensures takes { Takes O.Objects.own execution_changes m.old m.new }
-{
-    let class = m.fetch_class(receiver)?;
-    let found = find_method(m, r, class, selector)?;
-    if takes(m, r, n, found)? {
-        drop_selector(m, r, n)?;
-        execute_found(m, r, class, selector, n, found)
-    } else {
-        activated(m, r, call, header)
-    }
-}
-
-/// Primitive 83: the first argument, a selector, is performed with the others.
-#[tactic(auto, using(crate::proofs::Performed::counts), unfolding(st_model::specs::Executing::primitive_perform))]
-pub fn perform_or_activate<O: Objects>(
-    m: &mut O,
-    r: &mut Registers,
-    call: Call,
-    header: Header,
-) -> Result<StepEnd, Dead>
-    requires room { execution_changes ≤ O.room m.old }
-    ensures does { RowLeaves O.Objects.own
-        (perform_or_activate O.names (call_of call) (word header.0) call.arguments)
-        end_of deed_of_end m.old r.old result m.new r.new }
-    ensures takes { Takes O.Objects.own execution_changes m.old m.new }
-{
-    if call.arguments == 0 {
-        return activated(m, r, call, header);
-    }
-    let n = call.arguments - 1;
-    let receiver = under(m, r, n + 1)?;
-    let selector = under(m, r, n)?;
-    perform_selector(m, r, call, header, receiver, selector, n)
-}
-
 /// How many fields an Array has, where the active context has room for them in place of selector and Array.
 #[tactic(auto, using(st_frames::proofs::Doing::checks), unfolding(st_model::specs::Executing::spreading))]
 fn spreading<O: Objects>(m: &O, r: &Registers, array: Word) -> Result<u32, Dead>
@@ -164,60 +108,6 @@ fn spread_array<O: Objects>(m: &mut O, r: &mut Registers, array: Word, n: u32) -
     Ok(())
 }
 
-/// The selector is performed with the n fields of an Array, which stands above it.
-#[tactic(auto, using(st_frames::proofs::Doing::rows), unfolding(st_model::specs::Executing::perform, st_model::specs::Executing::perform_if))]
-fn perform_with_array<O: Objects>(
-    m: &mut O,
-    r: &mut Registers,
-    call: Call,
-    header: Header,
-    receiver: Word,
-    selector: Word,
-    array: Word,
-    n: u32,
-) -> Result<StepEnd, Dead>
-    requires size { n ≤ 65533 }
-    requires above { 7 ≤ r.old.sp }
-    requires room { execution_changes ≤ O.room m.old }
-    ensures does { RowLeaves O.Objects.own
-        (perform O.names (call_of call) (word header.0) (word receiver) (word selector) n
-        (spread_array O.names (word array) n))
-        end_of deed_of_end m.old r.old result m.new r.new }
-    ensures takes { Takes O.Objects.own execution_changes m.old m.new }
-{
-    let class = m.fetch_class(receiver)?;
-    let found = find_method(m, r, class, selector)?;
-    if takes(m, r, n, found)? {
-        spread_array(m, r, array, n)?;
-        execute_found(m, r, class, selector, n, found)
-    } else {
-        activated(m, r, call, header)
-    }
-}
-
-/// Primitive 84: the first argument, a selector, is performed with the fields of the second, an Array.
-#[tactic(auto, using(st_frames::proofs::Doing::rows), unfolding(st_model::specs::Executing::primitive_perform_with))]
-pub fn primitive_perform_with<O: Objects>(
-    m: &mut O,
-    r: &mut Registers,
-    call: Call,
-    header: Header,
-) -> Result<StepEnd, Dead>
-    requires room { execution_changes ≤ O.room m.old }
-    ensures does { RowLeaves O.Objects.own
-        (primitive_perform_with O.names (call_of call) (word header.0))
-        end_of deed_of_end m.old r.old result m.new r.new }
-    ensures takes { Takes O.Objects.own execution_changes m.old m.new }
-{
-    let receiver = under(m, r, 2)?;
-    let selector = under(m, r, 1)?;
-    let array = top(m, r)?;
-    match spreading(m, r, array) {
-        Ok(n) => perform_with_array(m, r, call, header, receiver, selector, array, n),
-        Err(_) => activated(m, r, call, header),
-    }
-}
-
 /// The selector is performed with the n arguments above it; none says that its method doesn't take as many, so that the
 /// primitive fails.
 #[tactic(auto, using(st_frames::proofs::Doing::rows), unfolding(crate::specs::Trying::performs, crate::specs::Trying::perform_if_fits, crate::specs::Trying::succeeds))]
@@ -233,7 +123,7 @@ fn performs_above<O: Objects>(
     ensures does { RowLeaves O.Objects.own
         (performs O.names (word receiver) (word selector) n (drop_selector O.names n))
         end_if_any deed_if_any m.old r.old result m.new r.new }
-    ensures takes { Takes O.Objects.own execution_changes m.old m.new }
+    ensures takes { Takes O.Objects.own (number_changes execution_changes result) m.old m.new }
 {
     let class = m.fetch_class(receiver)?;
     let found = find_method(m, r, class, selector)?;
@@ -256,7 +146,7 @@ pub fn performs_selector<O: Objects>(
     requires room { execution_changes ≤ O.room m.old }
     ensures does { RowLeaves O.Objects.own (performs_selector O.names arguments)
         end_if_any deed_if_any m.old r.old result m.new r.new }
-    ensures takes { Takes O.Objects.own execution_changes m.old m.new }
+    ensures takes { Takes O.Objects.own (number_changes execution_changes result) m.old m.new }
 {
     if arguments == 0 {
         return Ok(None);
@@ -284,7 +174,7 @@ fn performs_fields<O: Objects>(
     ensures does { RowLeaves O.Objects.own
         (performs O.names (word receiver) (word selector) n (spread_array O.names (word array) n))
         end_if_any deed_if_any m.old r.old result m.new r.new }
-    ensures takes { Takes O.Objects.own execution_changes m.old m.new }
+    ensures takes { Takes O.Objects.own (number_changes execution_changes result) m.old m.new }
 {
     let class = m.fetch_class(receiver)?;
     let found = find_method(m, r, class, selector)?;
@@ -302,7 +192,7 @@ pub fn performs_with<O: Objects>(m: &mut O, r: &mut Registers) -> Result<Option<
     requires room { execution_changes ≤ O.room m.old }
     ensures does { RowLeaves O.Objects.own (performs_with O.names)
         end_if_any deed_if_any m.old r.old result m.new r.new }
-    ensures takes { Takes O.Objects.own execution_changes m.old m.new }
+    ensures takes { Takes O.Objects.own (number_changes execution_changes result) m.old m.new }
 {
     let receiver = under(m, r, 2)?;
     let selector = under(m, r, 1)?;

@@ -1,8 +1,5 @@
 ghost use Rattle.std.specs.Prelude.{◌≡◌, ◌≤◌, ◌+◌};
-ghost use Rattle.st_model.specs.Values.{word};
-ghost use Rattle.st_model.specs.Outcomes.{end_of};
-ghost use Rattle.st_model.specs.Deeds.{deed_of_end};
-ghost use Rattle.st_model.specs.Executing.{executed_if_any};
+ghost use Rattle.st_model.specs.{Values.word, Outcomes.end_of, Deeds.deed_of_end, Executing.executed_if_any};
 ghost use Rattle.st_model.specs.Bytecodes.{return_receiver, return_constant, return_top_to_sender, return_top_to_caller};
 ghost use Rattle.st_frames.specs.Rows.{RowLeaves, Takes, executed_return_changes};
 

@@ -1,12 +1,9 @@
 ghost use Rattle.std.specs.Prelude.{◌≡◌, ◌<◌, ◌≤◌, ◌+◌};
-ghost use Rattle.st_model.specs.Values.{word};
-ghost use Rattle.st_model.specs.Outcomes.{end_of};
-ghost use Rattle.st_model.specs.Deeds.{deed_of_end};
-ghost use Rattle.st_model.specs.Decoded.{IsNumbered};
+ghost use Rattle.st_model.specs.{Values.word, Outcomes.end_of, Deeds.deed_of_end, Decoded.IsNumbered};
 ghost use Rattle.st_model.specs.Bytecodes.{bytecode, step};
 ghost use Rattle.st_frames.specs.Rows.{RowLeaves, Takes, bytecode_changes};
 
-use crate::jump::{long_jump_on_false, long_jump_on_true, short_jump_on_false};
+use crate::jump::{long_conditional_jump, short_jump_on_false};
 use crate::returns::{
     return_constant, return_receiver, return_top_to_caller, return_top_to_sender,
 };
@@ -21,10 +18,10 @@ use st_control::{
 };
 use st_frames::{Registers, next_byte};
 use st_memory::Objects;
-use st_model::{Bytecode, Dead, Deed, StepEnd, decode};
+use st_model::{Bytecode, Dead, Deed, PageObject, StepEnd, decode};
 
 /// Does the row of a bytecode.
-#[tactic(auto, using(st_frames::proofs::Doing::rows), unfolding(st_model::specs::Bytecodes::bytecode, st_model::specs::Executing::goes_on))]
+#[tactic(auto, using(st_frames::proofs::Doing::rows), unfolding(st_model::specs::Bytecodes::bytecode, st_model::specs::Bytecodes::long_jump_on_true, st_model::specs::Bytecodes::long_jump_on_false, crate::specs::Jumping::long_conditional_jump, st_model::specs::Executing::goes_on))]
 fn bytecode<O: Objects>(m: &mut O, r: &mut Registers, code: Bytecode) -> Result<StepEnd, Dead>
     requires numbered { IsNumbered code }
     requires room { bytecode_changes ≤ O.room m.old }
@@ -55,8 +52,12 @@ fn bytecode<O: Objects>(m: &mut O, r: &mut Registers, code: Bytecode) -> Result<
         Bytecode::ShortUnconditionalJump(i) => short_unconditional_jump(m, r, i)?,
         Bytecode::ShortJumpOnFalse(i) => return short_jump_on_false(m, r, i),
         Bytecode::LongUnconditionalJump(i) => long_unconditional_jump(m, r, i)?,
-        Bytecode::LongJumpOnTrue(i) => return long_jump_on_true(m, r, i),
-        Bytecode::LongJumpOnFalse(i) => return long_jump_on_false(m, r, i),
+        Bytecode::LongJumpOnTrue(i) => {
+            return long_conditional_jump(m, r, PageObject::TrueObject, PageObject::FalseObject, i);
+        }
+        Bytecode::LongJumpOnFalse(i) => {
+            return long_conditional_jump(m, r, PageObject::FalseObject, PageObject::TrueObject, i);
+        }
         Bytecode::ArithmeticSend(k) => return arithmetic_send(m, r, u32::from(k)),
         Bytecode::SpecialSend(k) => return send_special_selector(m, r, u32::from(k)),
         Bytecode::PrimitiveSend(k) => return primitive_send(m, r, u32::from(k)),

@@ -1,10 +1,6 @@
 ghost use Rattle.std.specs.Prelude.{◌≡◌, IfOk};
-ghost use Rattle.st_model.specs.Outcomes.{end_of, outcome_of};
-ghost use Rattle.st_model.specs.Deeds.{deed_of_end};
-ghost use Rattle.st_model.specs.Machine.{used, Went};
-ghost use Rattle.st_model.specs.Table.{table, apart, bounded_table};
-ghost use Rattle.st_model.specs.Bytecodes.{step};
-ghost use Rattle.st_model.specs.Calls.{Does};
+ghost use Rattle.st_model.specs.{Outcomes.{end_of, outcome_of}, Deeds.deed_of_end, Machine.{used, Went}};
+ghost use Rattle.st_model.specs.{Table.{table, apart, bounded_table}, Bytecodes.step, Calls.Does};
 ghost use Rattle.st_frames.specs.Shown.{IsFrame, IsReady, shown};
 ghost use Rattle.st_control.specs.Foreseen.{IsForeseen};
 ghost use Rattle.st_step.specs.Planned.{HasTop, Plans, PlansBirths, TopSaid};

@@ -1,4 +1,4 @@
-ghost use Rattle.std.specs.Prelude.{◌≡◌, ◌<◌, ◌≤◌, ◌+◌, false, IfOk};
+ghost use Rattle.std.specs.Prelude.{◌≡◌, ◌<◌, ◌≤◌, ◌+◌, true, false, IfOk};
 ghost use Rattle.st_model.specs.Values.{word};
 ghost use Rattle.st_model.specs.Storage.{element_by, fetch_element, primitive_at, primitive_size, primitive_instance_variable_at};
 ghost use Rattle.st_model.specs.Deeds.{is_done, deed_of_trial, copies_pixels};
@@ -55,19 +55,21 @@ fn answer_element<O: Objects>(
     ensures does { RowLeaves O.Objects.own
         (succeed_by O.names 1 (fetch_element O.names (word v) place))
         is_done deed_of_trial m.old r.old result m.new r.new }
+    ensures done { IfOk result (λ t. is_done t ≡ true) }
     ensures takes { Takes O.Objects.own 2 m.old m.new }
 {
     let answer = fetch_element(m, r, v, place)?;
     succeed_leaving(m, r, 1, answer)
 }
 
-/// Primitive 60: the element of the receiver that the argument numbers, behind the fixed fields.
+/// Primitive 60: the element of the receiver that the argument numbers, behind the fixed fields. Where it fails nothing is changed.
 #[tactic(auto, using(st_frames::proofs::Tries::effects), unfolding(st_model::specs::Storage::primitive_at))]
 pub fn primitive_at<O: Objects>(m: &mut O, r: &mut Registers) -> Result<Tried, Dead>
     requires room { 2 ≤ O.room m.old }
     ensures does { RowLeaves O.Objects.own (primitive_at O.names)
         is_done deed_of_trial m.old r.old result m.new r.new }
     ensures takes { Takes O.Objects.own 2 m.old m.new }
+    ensures still { IfOk result (λ t. is_done t ≡ false → m.new ≡ m.old) }
 {
     let receiver = under(m, r, 1)?;
     let index = top(m, r)?;

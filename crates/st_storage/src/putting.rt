@@ -1,4 +1,4 @@
-ghost use Rattle.std.specs.Prelude.{◌≡◌, ◌<◌, ◌≤◌, ◌+◌, false, IfOk};
+ghost use Rattle.std.specs.Prelude.{◌≡◌, ◌<◌, ◌≤◌, ◌+◌, true, false, IfOk};
 ghost use Rattle.st_model.specs.Values.{word};
 ghost use Rattle.st_model.specs.Storage.{store_element, store_and_answer, primitive_at_put, primitive_string_at_put, primitive_instance_variable_at_put};
 ghost use Rattle.st_model.specs.Steps.{store_word, store_byte};
@@ -112,19 +112,22 @@ fn answer_stored<O: Objects>(
     ensures does { RowLeaves O.Objects.own
         (succeed_by O.names 2 (store_and_answer O.names (word v) (word x) (storing_in storing)))
         is_done deed_of_trial m.old r.old result m.new r.new }
+    ensures done { IfOk result (λ t. is_done t ≡ true) }
     ensures takes { Takes O.Objects.own 2 m.old m.new }
 {
     let answer = store_and_answer(m, r, v, x, storing)?;
     succeed_leaving(m, r, 2, answer)
 }
 
-/// Primitive 61: the second argument becomes the element of the receiver that the first one numbers, behind the fixed fields.
+/// Primitive 61: the second argument becomes the element of the receiver that the first one numbers, behind the fixed fields. Where
+/// it fails nothing is changed.
 #[tactic(auto, using(st_frames::proofs::Tries::effects), unfolding(st_model::specs::Storage::primitive_at_put))]
 pub fn primitive_at_put<O: Objects>(m: &mut O, r: &mut Registers) -> Result<Tried, Dead>
     requires room { 2 ≤ O.room m.old }
     ensures does { RowLeaves O.Objects.own (primitive_at_put O.names)
         is_done deed_of_trial m.old r.old result m.new r.new }
     ensures takes { Takes O.Objects.own 2 m.old m.new }
+    ensures still { IfOk result (λ t. is_done t ≡ false → m.new ≡ m.old) }
 {
     let receiver = under(m, r, 2)?;
     let index = under(m, r, 1)?;

@@ -9,14 +9,10 @@ loop-byte-init g c = push_none g.H.Host c.args.host.now (g.met.H.Host.only_now c
 
 pub returns-in_err-push_source_byte : goal.returns-in_err-push_source_byte
 returns-in_err-push_source_byte g c =
-    let xs = c.args.text.now in
-    let i = c.loop-byte.byte-index in
-    let below : i < length xs = omega arith in
-    push_stopped source_byte xs i c.from_residual.ensures.0 (slice_get-get_or xs i 0 below) c.loop-byte.invariant c.in_err-push_source_byte.ensures
+    let below : c.loop-byte.byte-index < length c.args.text.now = omega arith in
+    push_stopped source_byte c.args.text.now c.loop-byte.byte-index c.from_residual.ensures.0 (slice_get-get_or c.args.text.now c.loop-byte.byte-index 0 below) c.loop-byte.invariant c.in_err-push_source_byte.ensures
 
 pub loop-byte-preserved : goal.loop-byte-preserved
 loop-byte-preserved g c =
-    let xs = c.args.text.now in
-    let i = c.loop-byte.byte-index in
-    let below : i < length xs = omega arith in
-    push_next source_byte xs i (slice_get-get_or xs i 0 below) c.loop-byte.invariant c.in_ok-push_source_byte.ensures
+    let below : c.loop-byte.byte-index < length c.args.text.now = omega arith in
+    push_next source_byte c.args.text.now c.loop-byte.byte-index (slice_get-get_or c.args.text.now c.loop-byte.byte-index 0 below) c.loop-byte.invariant c.in_ok-push_source_byte.ensures

@@ -10,14 +10,10 @@ loop-n-init g c = push_none g.H.Host c.args.host.now (g.met.H.Host.only_now c.ar
 
 pub returns-in_err-push_number : goal.returns-in_err-push_number
 returns-in_err-push_number g c =
-    let xs = c.args.numbers.now in
-    let i = c.loop-n.n-index in
-    let below : i < length xs = omega arith in
-    push_stopped (λ n. codes " " ++ decimal n) xs i c.from_residual.ensures.0 (slice_get-get_or xs i 0 below) c.loop-n.invariant c.in_err-push_number.ensures
+    let below : c.loop-n.n-index < length c.args.numbers.now = omega arith in
+    push_stopped (λ n. codes " " ++ decimal n) c.args.numbers.now c.loop-n.n-index c.from_residual.ensures.0 (slice_get-get_or c.args.numbers.now c.loop-n.n-index 0 below) c.loop-n.invariant c.in_err-push_number.ensures
 
 pub loop-n-preserved : goal.loop-n-preserved
 loop-n-preserved g c =
-    let xs = c.args.numbers.now in
-    let i = c.loop-n.n-index in
-    let below : i < length xs = omega arith in
-    push_next (λ n. codes " " ++ decimal n) xs i (slice_get-get_or xs i 0 below) c.loop-n.invariant c.in_ok-push_number.ensures
+    let below : c.loop-n.n-index < length c.args.numbers.now = omega arith in
+    push_next (λ n. codes " " ++ decimal n) c.args.numbers.now c.loop-n.n-index (slice_get-get_or c.args.numbers.now c.loop-n.n-index 0 below) c.loop-n.invariant c.in_ok-push_number.ensures

@@ -10,14 +10,10 @@ loop-o-init g c = push_none g.H.Host c.args.host.now (g.met.H.Host.only_now c.ar
 
 pub returns-in_err-push_value : goal.returns-in_err-push_value
 returns-in_err-push_value g c =
-    let xs = c.args.values.now in
-    let i = c.loop-o.o-index in
-    let below : i < length xs = omega arith in
-    push_stopped (λ v. codes " " ++ value_text v) (map value xs) i c.from_residual.ensures.0 (mapped_at value xs i _ below) c.loop-o.invariant c.in_err-push_value.ensures
+    let below : c.loop-o.o-index < length c.args.values.now = omega arith in
+    push_stopped (λ v. codes " " ++ value_text v) (map value c.args.values.now) c.loop-o.o-index c.from_residual.ensures.0 (mapped_at value c.args.values.now c.loop-o.o-index _ below) c.loop-o.invariant c.in_err-push_value.ensures
 
 pub loop-o-preserved : goal.loop-o-preserved
 loop-o-preserved g c =
-    let xs = c.args.values.now in
-    let i = c.loop-o.o-index in
-    let below : i < length xs = omega arith in
-    push_next (λ v. codes " " ++ value_text v) (map value xs) i (mapped_at value xs i _ below) c.loop-o.invariant c.in_ok-push_value.ensures
+    let below : c.loop-o.o-index < length c.args.values.now = omega arith in
+    push_next (λ v. codes " " ++ value_text v) (map value c.args.values.now) c.loop-o.o-index (mapped_at value c.args.values.now c.loop-o.o-index _ below) c.loop-o.invariant c.in_ok-push_value.ensures

@@ -63,3 +63,10 @@ loop-done-preserved g c =
       shows = λ s h. calm_goes v f w (g.met.M.Memory.whole c.loop-done.near.memory.now) far.ready c.loop-done.done s c.do_calmly.new.left (shown u q w) c.requires.calm (far.shows s h)
           (subst (λ x. GoesCalmly (shown v f x) c.do_calmly.new.left (Ok None) (shown u q x)) far.world step);
     }
+
+pub returns-clause-goes : goal.returns-clause-goes
+returns-clause-goes g c = λ s h.
+    let f = c.loop-done.f in
+    let w = c.args.w.now in
+    subst (λ y. SoFar c.args.n s (shown (g.M.Memory.view y) f w)) (search rules)
+    (subst (λ k. SoFar k s (shown (g.M.Memory.view c.loop-done.near.memory.now) f w)) (search rules) (c.loop-done.invariant.shows s h))

@@ -93,14 +93,14 @@ returns-in-Err-clause-ends g c =
     let name = c.args.store.now in
     let opened = c.in-Err.ensures in
     let fault = c.in-Err.fault in
-    let line = c.refuse-in-Err.ensures in
-    let e = c.opening_status-status.result in
+    let line = c.refuse_opening.ensures in
+    let e = c.refuse_opening.result in
     let old = c.args.host.now in
     let mid = c.reopen.new.host in
-    let new = c.refuse-in-Err.new.host in
+    let new = c.refuse_opening.new.host in
     let script = g.S.Source.remaining c.args.script.now in
     let reads = Rose (g.S.Source.read_faults c.args.script.now) (g.S.Source.read_faults c.args.script.now) in
-    let is = c.opening_status-status.ensures in
+    let is = c.refuse_opening.ensures.status in
     record {
       over = λ told read. inl (record {
         fault = fault;
@@ -130,11 +130,11 @@ returns-in-Err-clause-cause g c =
     let name = c.args.store.now in
     let opened = c.in-Err.ensures in
     let fault = c.in-Err.fault in
-    let line = c.refuse-in-Err.ensures in
-    let e = c.opening_status-status.result in
+    let line = c.refuse_opening.ensures in
+    let e = c.refuse_opening.result in
     let old = c.args.host.now in
     let mid = c.reopen.new.host in
-    let new = c.refuse-in-Err.new.host in
+    let new = c.refuse_opening.new.host in
     let script = g.S.Source.remaining c.args.script.now in
     let reads = Rose (g.S.Source.read_faults c.args.script.now) (g.S.Source.read_faults c.args.script.now) in
-    subst (StatusHasCause host reads old new) (sym c.opening_status-status.ensures) (opening_cause host reads old mid new fault opened.kind opened.cause line.disk)
+    subst (StatusHasCause host reads old new) (sym c.refuse_opening.ensures.status) (opening_cause host reads old mid new fault opened.kind opened.cause line.disk)

@@ -69,12 +69,12 @@ returns-in-Err-clause-ends g c =
     let image = c.args.image.now in
     let opened = c.in-Err.ensures in
     let fault = c.in-Err.fault in
-    let line = c.refuse-in-Err.ensures in
-    let e = c.opening_status-status.result in
+    let line = c.refuse_opening.ensures in
+    let e = c.refuse_opening.result in
     let old = c.args.host.now in
     let mid = c.reopen.new.host in
-    let new = c.refuse-in-Err.new.host in
-    let is = c.opening_status-status.ensures in
+    let new = c.refuse_opening.new.host in
+    let is = c.refuse_opening.ensures.status in
     record {
       over = λ told. inl (record {
         fault = fault;
@@ -101,6 +101,6 @@ pub returns-in-Err-clause-cause : goal.returns-in-Err-clause-cause
 returns-in-Err-clause-cause g c =
     let host = g.H.Host in
     let opened = c.in-Err.ensures in
-    let line = c.refuse-in-Err.ensures in
-    subst (StatusHasCause host ⊥ c.args.host.now c.refuse-in-Err.new.host) (sym c.opening_status-status.ensures)
-    (opening_cause host ⊥ c.args.host.now c.reopen.new.host c.refuse-in-Err.new.host c.in-Err.fault opened.kind opened.cause line.disk)
+    let line = c.refuse_opening.ensures in
+    subst (StatusHasCause host ⊥ c.args.host.now c.refuse_opening.new.host) (sym c.refuse_opening.ensures.status)
+    (opening_cause host ⊥ c.args.host.now c.reopen.new.host c.refuse_opening.new.host c.in-Err.fault opened.kind opened.cause line.disk)

@@ -9,14 +9,10 @@ loop-each-init g c = push_none g.H.Host c.args.host.now (g.met.H.Host.only_now c
 
 pub returns-in_err-push_lost : goal.returns-in_err-push_lost
 returns-in_err-push_lost g c =
-    let xs = c.args.lost.now in
-    let i = c.loop-each.each-index in
-    let below : i < length xs = omega arith in
-    push_stopped lost_text (losses_of xs) i c.from_residual.ensures.0 (mapped_at loss_of xs i _ below) c.loop-each.invariant c.in_err-push_lost.ensures
+    let below : c.loop-each.each-index < length c.args.lost.now = omega arith in
+    push_stopped lost_text (losses_of c.args.lost.now) c.loop-each.each-index c.from_residual.ensures.0 (mapped_at loss_of c.args.lost.now c.loop-each.each-index _ below) c.loop-each.invariant c.in_err-push_lost.ensures
 
 pub loop-each-preserved : goal.loop-each-preserved
 loop-each-preserved g c =
-    let xs = c.args.lost.now in
-    let i = c.loop-each.each-index in
-    let below : i < length xs = omega arith in
-    push_next lost_text (losses_of xs) i (mapped_at loss_of xs i _ below) c.loop-each.invariant c.in_ok-push_lost.ensures
+    let below : c.loop-each.each-index < length c.args.lost.now = omega arith in
+    push_next lost_text (losses_of c.args.lost.now) c.loop-each.each-index (mapped_at loss_of c.args.lost.now c.loop-each.each-index _ below) c.loop-each.invariant c.in_ok-push_lost.ensures

@@ -1,4 +1,3 @@
-use Rattle.std.proofs.Common.{arith}
 use Rattle.st_frames.specs.Rows.{row_state}
 use Rattle.st_frames.proofs.Doing.{row-memory, row-active, row-sp}
 use Rattle.st_step.proofs.Performed.{spread-fits, spread-over}

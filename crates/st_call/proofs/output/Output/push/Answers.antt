@@ -7,10 +7,8 @@ loop-byte-init g c = push_none g.H.Host c.args.host.now (g.met.H.Host.only_now c
 
 pub returns-in_err-push_byte : goal.returns-in_err-push_byte
 returns-in_err-push_byte g c =
-    let xs = c.args.bytes.now in
-    let i = c.loop-byte.byte-index in
-    let below : i < length xs = omega arith in
-    push_as (push_then c.loop-byte.invariant (push_begun (drop (i + 1) xs) c.from_residual.ensures.0 c.in_err-push_byte.ensures)) (sym (bytes_left xs i below))
+    let below : c.loop-byte.byte-index < length c.args.bytes.now = omega arith in
+    push_as (push_then c.loop-byte.invariant (push_begun (drop (c.loop-byte.byte-index + 1) c.args.bytes.now) c.from_residual.ensures.0 c.in_err-push_byte.ensures)) (sym (bytes_left c.args.bytes.now c.loop-byte.byte-index below))
 
 pub loop-byte-preserved : goal.loop-byte-preserved
 loop-byte-preserved g c =

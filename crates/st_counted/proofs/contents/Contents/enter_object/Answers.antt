@@ -24,12 +24,12 @@ returns-then-live-clause-here c =
     let t = (counted_view m).objects in
     let k = c.args.k in
     let is = live_entry t (value c.pointer_of-o.result) k (place_value c.pointer_of-o.result.0 k c.pointer_of-o.ensures) (sym c.live.ensures ∙ c.if-live.true) in
-    ap (λ cs. count_at cs k) c.start.ensures
+    ap (λ cs. count_at cs k) c.start.ensures.counts
     ∙ get_or-set_same (numbers_of m) k (Some 0) None (subst (λ n. k < n) (sym m.counts.places) c.requires.place)
     ∙ ap (λ (x : Option Object). cond (is_some x) (Some 0) None) (sym is)
 
 pub returns-then-live-clause-others : goal.returns-then-live-clause-others
-returns-then-live-clause-others c = λ j ne. ap (λ cs. count_at cs j) c.start.ensures ∙ get_or-set_other (numbers_of c.args.self.now) c.args.k j (Some 0) None ne
+returns-then-live-clause-others c = λ j ne. ap (λ cs. count_at cs j) c.start.ensures.counts ∙ get_or-set_other (numbers_of c.args.self.now) c.args.k j (Some 0) None ne
 
 pub returns-else-live-clause-here : goal.returns-else-live-clause-here
 returns-else-live-clause-here c =

@@ -13,6 +13,7 @@ use Rattle.st_counted.specs.References.{all_roots, IsCounted}
 use Rattle.st_counted.specs.Counted.{counted_view, numbers_of, SameButLinks}
 use Rattle.st_counted.specs.Links.{IsListed}
 use Rattle.st_counted.proofs.Moved.{moved}
+use Rattle.st_counted.proofs.Placed.{all_stand}
 use Rattle.st_counted.proofs.Tallying.{hand_counted, hand_some}
 use Rattle.st_counted.proofs.Storing.{nil_is, lowered_to, dropped_all, taken_in_hand, nil_more, nils_counted, nils_few, without_nils}
 use Rattle.st_counted.proofs.contents.Contents.lower_fields.Goals as goal
@@ -25,14 +26,18 @@ next_first m l t o roots nils i x rest within is h =
     let there : slice_get (object_of (objects_of m.objects) o).fields i ≡ Some x = subst (λ (u : Table). slice_get (object_of u o).fields i ≡ Some x) rest.objects is in
     taken_in_hand t roots (numbers_of l) nils (object_of (objects_of m.objects) o).fields i x within there h
 
-pub field-v-requires-clause-live : goal.field-v-requires-clause-live
-field-v-requires-clause-live c = ap (λ (t : Table). is_live t (value c.args.o)) c.loop-i.invariant.rest.objects ∙ c.requires.live
+pub placed_field-v-requires-clause-live : goal.placed_field-v-requires-clause-live
+placed_field-v-requires-clause-live c = ap (λ (t : Table). is_live t (value c.args.o)) c.loop-i.invariant.rest.objects ∙ c.requires.live
 
-pub field-v-requires-clause-range : goal.field-v-requires-clause-range
-field-v-requires-clause-range c =
+pub placed_field-v-requires-clause-range : goal.placed_field-v-requires-clause-range
+placed_field-v-requires-clause-range c =
     let count = c.count_fields-i-end.ensures in
     let within : c.loop-i.i < length (object_of (counted_view c.args.self.now).objects (value c.args.o)).fields = omega (arith, count) in
     subst (λ (t : Table). c.loop-i.i < length (object_of t (value c.args.o)).fields) (sym c.loop-i.invariant.rest.objects) within
+
+-- where the object stands it stood
+pub placed_field-v-requires-clause-place : goal.placed_field-v-requires-clause-place
+placed_field-v-requires-clause-place c = all_stand c.args.self.now.objects c.loop-i.self.objects c.loop-i.invariant.places (value c.args.o) c.place_of-stand.result c.place_of-stand.ensures
 
 pub lower-requires-clause-counted : goal.lower-requires-clause-counted
 lower-requires-clause-counted c small =
@@ -41,8 +46,8 @@ lower-requires-clause-counted c small =
     let t = slice_set v.objects (place c.args.o) None in
     let i = c.loop-i.invariant in
     let count = c.count_fields-i-end.ensures in
-    hand_counted t (all_roots v) _ (numbers_of c.loop-i.self) c.field-v.result.0
-    (next_first m c.loop-i.self t (value c.args.o) (all_roots v) c.loop-i.nils c.loop-i.i (value c.field-v.result) i.rest (omega (arith, count)) c.field-v.ensures i.counted) small
+    hand_counted t (all_roots v) _ (numbers_of c.loop-i.self) c.placed_field-v.result.0
+    (next_first m c.loop-i.self t (value c.args.o) (all_roots v) c.loop-i.nils c.loop-i.i (value c.placed_field-v.result) i.rest (omega (arith, count)) c.placed_field-v.ensures i.counted) small
 
 pub lower-requires-clause-some : goal.lower-requires-clause-some
 lower-requires-clause-some c small =
@@ -51,8 +56,8 @@ lower-requires-clause-some c small =
     let t = slice_set v.objects (place c.args.o) None in
     let i = c.loop-i.invariant in
     let count = c.count_fields-i-end.ensures in
-    hand_some t (all_roots v) _ (numbers_of c.loop-i.self) c.field-v.result.0
-    (next_first m c.loop-i.self t (value c.args.o) (all_roots v) c.loop-i.nils c.loop-i.i (value c.field-v.result) i.rest (omega (arith, count)) c.field-v.ensures i.counted) small
+    hand_some t (all_roots v) _ (numbers_of c.loop-i.self) c.placed_field-v.result.0
+    (next_first m c.loop-i.self t (value c.args.o) (all_roots v) c.loop-i.nils c.loop-i.i (value c.placed_field-v.result) i.rest (omega (arith, count)) c.placed_field-v.ensures i.counted) small
 
 pub loop-i-init : goal.loop-i-init
 loop-i-init c = record { counted = c.requires.counted; few = omega arith; listed = c.requires.listed; rest = record { objects = refl; room = refl; roots = refl; head = refl }; places = λ k. refl }
@@ -66,11 +71,11 @@ loop-i-preserved c =
     let count = c.count_fields-i-end.ensures in
     let fields = (object_of v.objects (value c.args.o)).fields in
     let left = drop (c.loop-i.i + 1) fields in
-    let first = next_first m c.loop-i.self t (value c.args.o) (all_roots v) c.loop-i.nils c.loop-i.i (value c.field-v.result) i.rest (omega (arith, count)) c.field-v.ensures i.counted in
+    let first = next_first m c.loop-i.self t (value c.args.o) (all_roots v) c.loop-i.nils c.loop-i.i (value c.placed_field-v.result) i.rest (omega (arith, count)) c.placed_field-v.ensures i.counted in
     elim c.if-v.branch [
       | then-v w ↦
-          let met : value c.field-v.result ≡ nil = ap value_of w.if-v.true ∙ nil_is in
-          let more = nil_more t (all_roots v) (numbers_of c.loop-i.self) c.loop-i.nils left (value c.field-v.result) met first in
+          let met : value c.placed_field-v.result ≡ nil = ap value_of w.if-v.true ∙ nil_is in
+          let more = nil_more t (all_roots v) (numbers_of c.loop-i.self) c.loop-i.nils left (value c.placed_field-v.result) met first in
           record {
             counted = subst (λ (l : Contents). IsCounted t (all_roots v) (replicate c.if-v.nils nil ++ left) (numbers_of l)) (sym w.self-is)
                 (subst (λ n. IsCounted t (all_roots v) (replicate n nil ++ left) (numbers_of c.loop-i.self)) (sym w.nils-is) more);
@@ -80,7 +85,7 @@ loop-i-preserved c =
             places = subst (λ (l : Contents). SamePlaces m.objects.store l.objects.store) (sym w.self-is) i.places;
           }
       | else-v w ↦
-          let less = lowered_to t (all_roots v) (replicate c.loop-i.nils nil ++ left) (numbers_of c.loop-i.self) (counts_of w.lower.new.counts) (value c.field-v.result) first w.lower.ensures.counts in
+          let less = lowered_to t (all_roots v) (replicate c.loop-i.nils nil ++ left) (numbers_of c.loop-i.self) (counts_of w.lower.new.counts) (value c.placed_field-v.result) first w.lower.ensures.counts in
           record {
             counted = subst (λ n. IsCounted t (all_roots v) (replicate n nil ++ left) (numbers_of c.if-v.self)) (sym w.nils-is)
                 (subst (λ (l : Contents). IsCounted t (all_roots v) (replicate c.loop-i.nils nil ++ left) (numbers_of l)) (sym w.self-is) less);

@@ -17,5 +17,5 @@ invariant_of-self c =
     let is = counts_set s.counts.items k (record { number = 0; counted = true }) in
     record { places = as_many cs _ k (Some 0) is s.places; none_first = none_first_still cs _ k (Some 0) is s.none_first c.requires.some }
 
-pub returns : goal.returns
-returns c = counts_set c.args.self.now.counts.items c.args.k (record { number = 0; counted = true })
+pub returns-clause-counts : goal.returns-clause-counts
+returns-clause-counts c = counts_set c.args.self.now.counts.items c.args.k (record { number = 0; counted = true })

@@ -6,7 +6,7 @@ use Rattle.st_model.specs.Table.{bounded_table}
 use Rattle.st_model.specs.Calls.{itself}
 use Rattle.st_at_once.proofs.Keeping.{near_unless, transfer_stays}
 use Rattle.st_at_once.proofs.Placed.{placed_kept}
-use Rattle.st_at_once.proofs.objects.NearObjects.transfer.Goals as goal
+use Rattle.st_at_once.proofs.near.Near.transfer_elsewhere.Goals as goal
 
 pub invariant_of-self-else-is_err : goal.invariant_of-self-else-is_err
 invariant_of-self-else-is_err g c =
