@@ -143,15 +143,12 @@ listed_without o o' c c' w k x h unused none_left half is same unlinks =
     }
 
 -- one comes into it
-pub listed_with : (o o' : Objects) (c c' : Counts) (w k : ℕ) (x : Option ℕ) → IsListed o c → k < length (counts_of c) → is_some (entry (objects_of o) k) ≡ true → is_unused (counts_of c) k ≡ false → is_zero x ≡ true → w / 2 ≡ k → c'.first.0 ≡ w → counts_of c' ≡ set (counts_of c) k x → objects_of o' ≡ objects_of o
-    → ((p : ℕ → Bool) → Holds o.store (place c.first) p → p (w / 2) ≡ false → Holds o'.store (w / 2) (with_member (w / 2) p)) → IsListed o' c'
-listed_with o o' c c' w k x h within here used none_left half first is same links =
+pub listed_with : (o o' : Objects) (c c' : Counts) (k : ℕ) (x : Option ℕ) → IsListed o c → k < length (counts_of c) → is_some (entry (objects_of o) k) ≡ true → is_zero x ≡ true → counts_of c' ≡ set (counts_of c) k x → objects_of o' ≡ objects_of o
+    → Holds o'.store (place c'.first) (with_member k (is_unused (counts_of c))) → IsListed o' c'
+listed_with o o' c c' k x h within here none_left is same links =
     let cs = counts_of c in
     record {
-      list = subst (λ ns. Holds o'.store (place c'.first) (is_unused ns)) (sym is)
-          (relisted o'.store (place c'.first) cs k x true within none_left
-          (subst (λ v. Holds o'.store (v / 2) (with_member k (is_unused cs))) (sym first)
-          (subst (λ j. Holds o'.store (w / 2) (with_member j (is_unused cs))) half (links (is_unused cs) h.list (ap (is_unused cs) half ∙ used)))));
+      list = subst (λ ns. Holds o'.store (place c'.first) (is_unused ns)) (sym is) (relisted o'.store (place c'.first) cs k x true within none_left links);
       stored = subst (λ ns. AreStored o' (is_counted ns)) (sym is) (stored_set o o' cs k x same here h.stored);
     }
 

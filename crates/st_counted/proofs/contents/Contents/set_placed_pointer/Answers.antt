@@ -1,9 +1,9 @@
-use Rattle.std.proofs.Common.{◌/◌, [], ap, sym, ◌∙◌, subst, is_some, arith}
+use Rattle.std.proofs.Common.{◌/◌, [], refl, ap, sym, ◌∙◌, subst, is_some, arith}
 use Rattle.st_model.specs.Values.{value}
 use Rattle.st_model.specs.Table.{Table, entry}
 use Rattle.st_counted.specs.Contents.{counts_of}
 use Rattle.st_heap.specs.Tables.{objects_of}
-use Rattle.st_counted.specs.References.{all_roots, references, IsCounted}
+use Rattle.st_counted.specs.References.{all_roots, references, raised_by, IsCounted}
 use Rattle.st_counted.specs.Counted.{counted_view, numbers_of}
 use Rattle.st_counted.proofs.Tallying.{known_counted, hand_counted, hand_some}
 use Rattle.st_counted.proofs.Listing.{relinked, live_with}
@@ -59,3 +59,66 @@ returns-clause-room c = λ h. c.lower.ensures.room ∙ c.raise.ensures.room ∙ 
 
 pub returns-clause-places : goal.returns-clause-places
 returns-clause-places c = λ k. c.lower.ensures.places k ∙ c.raise.ensures.places k ∙ c.set_placed_field.ensures.places k
+
+-- the same where nothing referred to what is stored
+pub names_unused-requires : goal.names_unused-requires
+names_unused-requires c small =
+    let v = counted_view c.args.self.now in
+    known_counted v.objects (references v.objects (all_roots v) []) (numbers_of c.args.self.now) c.args.v.0 c.requires.counted.tallied c.requires.known small
+
+pub count_store-requires-clause-counted : goal.count_store-requires-clause-counted
+count_store-requires-clause-counted c small =
+    let v = counted_view c.args.self.now in
+    known_counted v.objects (references v.objects (all_roots v) []) (numbers_of c.args.self.now) c.args.v.0 c.requires.counted.tallied c.requires.known small
+
+pub count_store-requires-clause-room : goal.count_store-requires-clause-room
+count_store-requires-clause-room c =
+    let v = counted_view c.args.self.now in
+    let a = counted_few v [] (numbers_of c.args.self.now) (c.args.v.0 / 2) c.requires.whole c.requires.counted in omega (arith, a)
+
+pub count_store-requires-clause-listed : goal.count_store-requires-clause-listed
+count_store-requires-clause-listed c =
+    let m = c.args.self.now in
+    let e = c.set_placed_field.ensures in
+    relinked m.objects c.set_placed_field.new.self m.counts c.requires.listed e.links
+    (λ k counted. ap (λ (t : Table). is_some (entry t k)) e.objects ∙ live_with (objects_of m.objects) (value c.args.o) c.args.at (value c.args.v) k ∙ c.requires.listed.stored k counted)
+
+pub count_store-requires-clause-stood : goal.count_store-requires-clause-stood
+count_store-requires-clause-stood c small =
+    let m = c.args.self.now in
+    let v = counted_view m in
+    let t = objects_of c.set_placed_field.new.self in
+    let more = raised_by (numbers_of m) (value c.args.v) 1 in
+    hand_counted t (all_roots v) [] more c.placed_field-old.result.0
+    (stored v (numbers_of m) more t (value c.args.o) c.args.at (value c.args.v) (value c.placed_field-old.result)
+    c.requires.counted c.requires.known c.requires.live c.placed_field-old.ensures refl c.set_placed_field.ensures.objects) small
+
+pub count_store-requires-clause-some : goal.count_store-requires-clause-some
+count_store-requires-clause-some c small =
+    let m = c.args.self.now in
+    let v = counted_view m in
+    let t = objects_of c.set_placed_field.new.self in
+    let more = raised_by (numbers_of m) (value c.args.v) 1 in
+    hand_some t (all_roots v) [] more c.placed_field-old.result.0
+    (stored v (numbers_of m) more t (value c.args.o) c.args.at (value c.args.v) (value c.placed_field-old.result)
+    c.requires.counted c.requires.known c.requires.live c.placed_field-old.ensures refl c.set_placed_field.ensures.objects) small
+
+pub returns-then-names_unused-clause-counted : goal.returns-then-names_unused-clause-counted
+returns-then-names_unused-clause-counted c =
+    let m = c.args.self.now in
+    let v = counted_view m in
+    let t = objects_of c.set_placed_field.new.self in
+    let more = raised_by (numbers_of m) (value c.args.v) 1 in
+    subst (λ (u : Table). IsCounted u (all_roots v) [] (counts_of c.count_store.new.counts)) (sym c.count_store.ensures.objects)
+    (lowered_to t (all_roots v) [] more (counts_of c.count_store.new.counts) (value c.placed_field-old.result)
+    (stored v (numbers_of m) more t (value c.args.o) c.args.at (value c.args.v) (value c.placed_field-old.result)
+    c.requires.counted c.requires.known c.requires.live c.placed_field-old.ensures refl c.set_placed_field.ensures.objects) c.count_store.ensures.counts)
+
+pub returns-then-names_unused-clause-objects : goal.returns-then-names_unused-clause-objects
+returns-then-names_unused-clause-objects c = c.count_store.ensures.objects ∙ c.set_placed_field.ensures.objects
+
+pub returns-then-names_unused-clause-room : goal.returns-then-names_unused-clause-room
+returns-then-names_unused-clause-room c = λ h. c.count_store.ensures.room ∙ c.set_placed_field.ensures.room ∙ h
+
+pub returns-then-names_unused-clause-places : goal.returns-then-names_unused-clause-places
+returns-then-names_unused-clause-places c = λ k. c.count_store.ensures.places k ∙ c.set_placed_field.ensures.places k
