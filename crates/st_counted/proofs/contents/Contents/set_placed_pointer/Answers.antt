@@ -1,10 +1,15 @@
-use Rattle.std.proofs.Common.{◌/◌, [], refl, sym, ◌∙◌, subst, arith}
+use Rattle.std.proofs.Common.{◌≡◌, ℕ, true, ◌∷◌, ◌/◌, [], refl, sym, ◌∙◌, subst, arith}
+use Rattle.std.specs.Prelude.{Some, slice_get}
+use Rattle.st_model.specs.declared.oop.Oop.{Oop}
 use Rattle.st_model.specs.Values.{value}
+use Rattle.st_model.specs.View.{IsKnown, is_live, object_of, with_stored}
+use Rattle.st_heap.specs.declared.objects.Objects.{Objects}
+use Rattle.st_counted.specs.declared.contents.Contents.{Contents}
 use Rattle.st_model.specs.Table.{Table}
 use Rattle.st_counted.specs.Contents.{counts_of}
 use Rattle.st_heap.specs.Tables.{objects_of}
 use Rattle.st_counted.specs.References.{all_roots, raised_by, IsCounted}
-use Rattle.st_counted.specs.Counted.{counted_view, numbers_of}
+use Rattle.st_counted.specs.Counted.{counted_view, numbers_of, AllCounted}
 use Rattle.st_counted.proofs.Tallying.{hand_counted, hand_some}
 use Rattle.st_counted.proofs.Listing.{stored_listed}
 use Rattle.st_counted.proofs.Rooting.{counted_few}
@@ -69,36 +74,30 @@ pub count_store-requires-clause-listed : goal.count_store-requires-clause-listed
 count_store-requires-clause-listed c =
     let e = c.set_placed_field.ensures in stored_listed c.args.self.now.objects c.set_placed_field.new.self c.args.self.now.counts (value c.args.o) c.args.at (value c.args.v) c.requires.listed e.links e.objects
 
+-- what the field held is in hand once the new value is counted
+old_in_hand : (m : Contents) (now : Objects) (o y old : Oop) (i : ℕ) → AllCounted m → IsKnown (objects_of m.objects) (value y) → is_live (objects_of m.objects) (value o) ≡ true → slice_get (object_of (objects_of m.objects) (value o)).fields i ≡ Some (value old)
+    → objects_of now ≡ with_stored (objects_of m.objects) (value o) i (value y) → IsCounted (objects_of now) (all_roots (counted_view m)) (value old ∷ []) (raised_by (numbers_of m) (value y) 1)
+old_in_hand m now o y old i h known live there is = stored (counted_view m) (numbers_of m) (raised_by (numbers_of m) (value y) 1) (objects_of now) (value o) i (value y) (value old) h known live there refl is
+
 pub count_store-requires-clause-stood : goal.count_store-requires-clause-stood
 count_store-requires-clause-stood c small =
     let m = c.args.self.now in
-    let v = counted_view m in
-    let t = objects_of c.set_placed_field.new.self in
-    let more = raised_by (numbers_of m) (value c.args.v) 1 in
-    hand_counted t (all_roots v) [] more c.placed_field-old.result.0
-    (stored v (numbers_of m) more t (value c.args.o) c.args.at (value c.args.v) (value c.placed_field-old.result)
-    c.requires.counted c.requires.known c.requires.live c.placed_field-old.ensures refl c.set_placed_field.ensures.objects) small
+    let now = c.set_placed_field.new.self in
+    hand_counted (objects_of now) (all_roots (counted_view m)) [] (raised_by (numbers_of m) (value c.args.v) 1) c.placed_field-old.result.0 (old_in_hand m now c.args.o c.args.v c.placed_field-old.result c.args.at c.requires.counted c.requires.known c.requires.live c.placed_field-old.ensures c.set_placed_field.ensures.objects) small
 
 pub count_store-requires-clause-some : goal.count_store-requires-clause-some
 count_store-requires-clause-some c small =
     let m = c.args.self.now in
-    let v = counted_view m in
-    let t = objects_of c.set_placed_field.new.self in
-    let more = raised_by (numbers_of m) (value c.args.v) 1 in
-    hand_some t (all_roots v) [] more c.placed_field-old.result.0
-    (stored v (numbers_of m) more t (value c.args.o) c.args.at (value c.args.v) (value c.placed_field-old.result)
-    c.requires.counted c.requires.known c.requires.live c.placed_field-old.ensures refl c.set_placed_field.ensures.objects) small
+    let now = c.set_placed_field.new.self in
+    hand_some (objects_of now) (all_roots (counted_view m)) [] (raised_by (numbers_of m) (value c.args.v) 1) c.placed_field-old.result.0 (old_in_hand m now c.args.o c.args.v c.placed_field-old.result c.args.at c.requires.counted c.requires.known c.requires.live c.placed_field-old.ensures c.set_placed_field.ensures.objects) small
 
 pub returns-then-names_unused-clause-counted : goal.returns-then-names_unused-clause-counted
 returns-then-names_unused-clause-counted c =
     let m = c.args.self.now in
-    let v = counted_view m in
-    let t = objects_of c.set_placed_field.new.self in
-    let more = raised_by (numbers_of m) (value c.args.v) 1 in
-    subst (λ (u : Table). IsCounted u (all_roots v) [] (counts_of c.count_store.new.counts)) (sym c.count_store.ensures.objects)
-    (lowered_to t (all_roots v) [] more (counts_of c.count_store.new.counts) (value c.placed_field-old.result)
-    (stored v (numbers_of m) more t (value c.args.o) c.args.at (value c.args.v) (value c.placed_field-old.result)
-    c.requires.counted c.requires.known c.requires.live c.placed_field-old.ensures refl c.set_placed_field.ensures.objects) c.count_store.ensures.counts)
+    let now = c.set_placed_field.new.self in
+    let roots = all_roots (counted_view m) in
+    subst (λ (u : Table). IsCounted u roots [] (counts_of c.count_store.new.counts)) (sym c.count_store.ensures.objects)
+    (lowered_to (objects_of now) roots [] (raised_by (numbers_of m) (value c.args.v) 1) (counts_of c.count_store.new.counts) (value c.placed_field-old.result) (old_in_hand m now c.args.o c.args.v c.placed_field-old.result c.args.at c.requires.counted c.requires.known c.requires.live c.placed_field-old.ensures c.set_placed_field.ensures.objects) c.count_store.ensures.counts)
 
 pub returns-then-names_unused-clause-objects : goal.returns-then-names_unused-clause-objects
 returns-then-names_unused-clause-objects c = c.count_store.ensures.objects ∙ c.set_placed_field.ensures.objects
