@@ -10,11 +10,11 @@ use Rattle.st_model.specs.Machine.{State, Transition, Died, Went, is_there, root
 use Rattle.st_model.specs.Lookup.{find}
 use Rattle.st_model.specs.Show.{IsUsed, IsClosed}
 use Rattle.st_model.specs.Settled.{settled_set, reclaim}
-use Rattle.st_model.specs.Table.{Table, entry, table, bounded_table}
+use Rattle.st_model.specs.Table.{Table, entry, table}
 use Rattle.st_model.specs.View.{object_of, field_of}
 use Rattle.st_model.proofs.SettledLemmas.{settled-entry}
 use Rattle.st_model.proofs.Reclaiming.{reclaim_closed}
-use Rattle.st_install.specs.Gains.{SameAnswer, Gained, GainsStay}
+use Rattle.st_install.specs.Gains.{SameAnswer, GainsStay}
 use Rattle.st_install.proofs.Goes.{object_at, over}
 use Rattle.st_install.proofs.GoesReading.{IsField}
 use Rattle.st_install.proofs.GoesSeeking.{at_place, half_of}
