@@ -1,17 +1,16 @@
 -- Where the names that a method sees are answered, the symbol table has the form that an installation asks.
-use Rattle.std.proofs.Common.{◌++◌, Option, Some, None, Bool, Result, Ok, Err}
+use Rattle.std.proofs.Common.{◌++◌, Option, Some, None, Bool, Result}
 use Rattle.st_model.specs.Values.{Value}
 use Rattle.st_model.specs.Machine.{Head, State}
 use Rattle.st_model.specs.Table.{Table, table}
 use Rattle.st_scan.specs.Views.{MethodView}
 use Rattle.st_emit.specs.Names.{NamesView}
 use Rattle.st_scope.specs.declared.fault.InstallFault.{InstallFault}
-use Rattle.st_scope.specs.declared.fault.InstallFault.TheVariants.{Shape}
 use Rattle.st_scope.specs.Mentions.{mentioned_in}
 use Rattle.st_scope.specs.Shapes.{check_symbol_table, check_symbols}
-use Rattle.st_scope.specs.Calls.{or_fault, as_table, names_seen, names}
+use Rattle.st_scope.specs.Calls.{as_table, names_seen, names}
 use Rattle.st_install.proofs.GoesStoring.{HasFields}
-use Rattle.st_install.proofs.GoesReading.{Gives, gives_answer, gives_then, gives_next, gives_less, Any, IfAny, gives_tried, IsField, gives_field, IsSoundTable}
+use Rattle.st_install.proofs.GoesReading.{Gives, gives_answer, gives_then, gives_next, gives_less, Any, gives_tried, IsField, gives_field, IsSoundTable}
 use Rattle.st_install.proofs.GoesSymbols.{gives_checked}
 use Rattle.st_install.proofs.GoesPlanning.{gives_dictionary}
 use Rattle.st_install.proofs.GoesNames.{IfSeen, or_shape, lineage_reads, field_names_reads, pools_reads, all_shared_reads}
