@@ -20,7 +20,7 @@ use Rattle.st_install.proofs.GoesFilling.{AllShaped, IsFilled, FillsAll, fill_al
 use Rattle.st_install.proofs.GoesSeeking.{at_place, half_of, ending_for, bounded_reads, tells_seek, ending_within, NoneVacant, nowhere_full, none_counted}
 use Rattle.st_install.proofs.GoesRefilling.{get_set_other}
 use Rattle.st_install.proofs.GoesStoring.{can_store_kept, there_at}
-use Rattle.st_install.proofs.GoesInstalling.{IsSoundTarget, IsSoundPlan, IsGrown, shapes_of, are_blank, objects_there, name_at, not_made, filled_kept, stands_filled, part_filled, made_filled, stores_filled, somewhere, names_apart, refilling, all_nil}
+use Rattle.st_install.proofs.GoesInstalling.{IsSoundTarget, IsSoundPlan, IsGrown, shapes_of, are_blank, objects_there, name_at, not_made, filled_kept, stands_filled, part_filled, made_filled, stores_filled, old_stays, names_apart, refilling, all_nil}
 use Rattle.st_install.proofs.GoesReading.{IsField}
 use Rattle.st_install.proofs.GoesPlanning.{same_object}
 use Rattle.std.proofs.lemmas.Option.{slice_get-get_or, slice_get_within}
@@ -151,24 +151,25 @@ module _ (head : Head) (t : Table) (p : Plan) (sound : IsSoundPlan t p) (associa
         old_methods : (x : Value) → x ≢ sound.dictionary.methods → (o : Object) → object_at t x ≡ Some o → x ≢ methods
 
       stays_directs : IsSoundTarget t p.objects sound.dictionary.object.fields p.selector None → Directs None p.dictionary w
+      unfolding old_stays
       stays_directs h =
           let d = sound.dictionary in
-          let k = filled_kept t u p.objects vs m w f in
+          let r = old_stays head t p sound u vs m w f h in
           record {
-            dictionary = d.object;
-            is = stands_filled t u p.objects vs m w f p.dictionary d.object d.is;
-            pointers = d.pointers;
-            places = d.places;
-            tally = d.tally;
-            to_tally = d.to_tally;
-            tally_there = there_kept t w d.tally k (d.values 0 d.tally d.to_tally);
-            methods = d.methods;
-            to_methods = d.to_methods;
+            dictionary = r.object;
+            is = r.is;
+            pointers = r.pointers;
+            places = r.places;
+            tally = r.tally;
+            to_tally = r.to_tally;
+            tally_there = r.tally_there;
+            methods = r.methods;
+            to_methods = r.to_methods;
             array = d.array;
             array_is = stands_filled t u p.objects vs m w f d.methods d.array d.array_is;
             array_pointers = d.array_pointers;
             enough = d.enough;
-            somewhere_free = somewhere t u p.objects vs m w f d.object.fields p.selector sound.selector h;
+            somewhere_free = r.somewhere;
             kept = all_kept w;
             others = λ x o e. stands_filled t u p.objects vs m w f x o e;
             made_other = refl;

@@ -280,7 +280,7 @@ pub record IsTarget (w : Table) (selector : Value) (d : Value) (z : Table) : Typ
 
 module _ (head : Head) (t : Table) (p : Plan) (sound : IsSoundPlan t p) where
   module _ (u : Table) (vs : List Value) (m : Makes t p.objects vs u) (w : Table) (f : FillsAll vs vs p.objects u w) where
-    old_stays : IsSoundTarget t p.objects sound.dictionary.object.fields p.selector None → IsTarget w (part_value nil vs p.selector) p.dictionary w
+    unfoldable pub old_stays : IsSoundTarget t p.objects sound.dictionary.object.fields p.selector None → IsTarget w (part_value nil vs p.selector) p.dictionary w
     old_stays h =
         let d = sound.dictionary in
         let k = filled_kept t u p.objects vs m w f in
