@@ -17,7 +17,7 @@ use Rattle.st_install.proofs.GoesMaking.{IsShaped, blank_kind, HasRoom, Makes, m
 use Rattle.st_install.specs.Goes.{HasHeader}
 use Rattle.st_install.specs.Gains.{IsNoneOf}
 use Rattle.st_install.proofs.GoesFilling.{AllShaped, IsFilled, FillsAll, fill_all_goes}
-use Rattle.st_install.proofs.GoesSeeking.{at_place, half_of, ending_for, bounded_reads, tells_seek, ending_within, NoneVacant, nowhere_full, none_counted}
+use Rattle.st_install.proofs.GoesSeeking.{at_place, half_of, ending_for, bounded_reads, tells_seek, ending_within}
 use Rattle.st_install.proofs.GoesRefilling.{get_set_other}
 use Rattle.st_install.proofs.GoesStoring.{can_store_kept, there_at}
 use Rattle.st_install.proofs.GoesInstalling.{IsSoundTarget, IsSoundPlan, IsGrown, shapes_of, are_blank, objects_there, name_at, not_made, filled_kept, stands_filled, part_filled, made_filled, stores_filled, old_stays, new_takes, names_apart, refilling, all_nil}
