@@ -1,6 +1,5 @@
-use Rattle.std.proofs.Common.{◌≡◌, ◌≢◌, ℕ, List, refl, sym, ap, subst, arith}
+use Rattle.std.proofs.Common.{ap}
 use Rattle.std.specs.Prelude.{Err}
-use Rattle.st_host.specs.Runs.{Spares}
 use Rattle.st_store.specs.Names.{roots_file, changes_file, IsNoFileOf}
 use Rattle.st_changes.specs.Condensing.{turned}
 use Rattle.st_host.specs.declared.file_fault.FileFault.{FileFault}
