@@ -27,6 +27,7 @@ use st_method::Header;
 use st_model::{Bytecode, Constant, Dead, Deed, PageObject, Tried, Word, decode};
 
 /// Does the code 176 + k, where that is 198, 199, or one of the two that compute a block's value.
+#[inline(never)]
 #[tactic(auto, using(st_frames::proofs::Doing::rows, crate::proofs::Kept::keeps), unfolding(crate::specs::AtOnce::primitive_at_once, st_control::specs::AtOnce::at_once))]
 fn primitive_at_once<O: Objects>(
     m: &mut O,
@@ -72,6 +73,7 @@ fn short_jump_at_once<O: Objects>(m: &O, r: &mut Registers, i: u8) -> Result<boo
 }
 
 /// Pops, and jumps on false by i times 256 plus the next byte. Answers whether the word is a boolean.
+#[inline(never)]
 #[tactic(auto, using(st_frames::proofs::Doing::rows), unfolding(crate::specs::AtOnce::long_jump_at_once))]
 fn jump_on_false_at_once<O: Objects>(m: &O, r: &mut Registers, i: u8) -> Result<bool, Dead>
     requires number { i < 4 }
@@ -90,6 +92,7 @@ fn jump_on_false_at_once<O: Objects>(m: &O, r: &mut Registers, i: u8) -> Result<
 }
 
 /// Pops, and jumps on true by i times 256 plus the next byte. Answers whether the word is a boolean.
+#[inline(never)]
 #[tactic(auto, using(st_frames::proofs::Doing::rows), unfolding(crate::specs::AtOnce::long_jump_at_once))]
 fn jump_on_true_at_once<O: Objects>(m: &O, r: &mut Registers, i: u8) -> Result<bool, Dead>
     requires number { i < 4 }
@@ -108,6 +111,7 @@ fn jump_on_true_at_once<O: Objects>(m: &O, r: &mut Registers, i: u8) -> Result<b
 }
 
 /// Returns the receiver to the sender. Answers whether that is done at once.
+#[inline(never)]
 #[tactic(auto, using(st_frames::proofs::Doing::rows), unfolding(crate::specs::AtOnce::return_receiver_at_once))]
 fn return_receiver_at_once<O: Objects>(m: &mut O, r: &mut Registers) -> Result<bool, Dead>
     requires room { 3 ≤ O.room m.old }
@@ -120,6 +124,7 @@ fn return_receiver_at_once<O: Objects>(m: &mut O, r: &mut Registers) -> Result<b
 }
 
 /// Returns a constant to the sender. Answers whether that is done at once.
+#[inline(never)]
 #[tactic(auto, using(st_frames::proofs::Doing::rows), unfolding(crate::specs::AtOnce::return_constant_at_once))]
 fn return_constant_at_once<O: Objects>(
     m: &mut O,
@@ -137,6 +142,7 @@ fn return_constant_at_once<O: Objects>(
 }
 
 /// Pops, and returns the word to the sender. Answers whether that is done at once.
+#[inline(never)]
 #[tactic(auto, using(st_frames::proofs::Doing::rows), unfolding(crate::specs::AtOnce::return_top_to_sender_at_once))]
 fn return_top_to_sender_at_once<O: Objects>(m: &mut O, r: &mut Registers) -> Result<bool, Dead>
     requires room { 3 ≤ O.room m.old }
@@ -150,6 +156,7 @@ fn return_top_to_sender_at_once<O: Objects>(m: &mut O, r: &mut Registers) -> Res
 }
 
 /// Pops, and returns the word to the caller. Answers whether that is done at once.
+#[inline(never)]
 #[tactic(auto, using(st_frames::proofs::Doing::rows), unfolding(crate::specs::AtOnce::return_top_to_caller_at_once))]
 fn return_top_to_caller_at_once<O: Objects>(m: &mut O, r: &mut Registers) -> Result<bool, Dead>
     requires room { 3 ≤ O.room m.old }
