@@ -14,6 +14,7 @@ pub mod AlikeRows
 pub mod Linked
 pub mod OverMemory
 mod Keeping
+pub mod Kept
 mod TwoFields
 mod Placed
 mod Direct

@@ -1,5 +1,5 @@
 -- A step that was done at once, over a memory and its registers.
-use Rattle.std.proofs.Common.{◌≡◌, ◌≤◌, ℕ, arith, Bool, true, false, Ok, Err, refl, sym, ap, ◌∙◌, subst, ◌⊎◌, inl, inr}
+use Rattle.std.proofs.Common.{◌≡◌, ◌≢◌, ◌≤◌, ℕ, arith, Bool, true, false, Ok, Err, refl, sym, ap, ◌∙◌, subst}
 use Rattle.std.specs.Prelude.{Result, nat_lt, if◌then◌else◌}
 use Rattle.std.proofs.lemmas.Bool.Decides.{nat_tests}
 use Rattle.st_model.specs.declared.dead.Dead.{Dead}
@@ -7,7 +7,7 @@ use Rattle.st_model.specs.declared.deed.Deed.{Deed}
 use Rattle.st_model.specs.declared.word.Word.{Word}
 use Rattle.st_model.specs.Values.{word, IsLive}
 use Rattle.st_model.specs.Show.{IsUsed}
-use Rattle.st_model.specs.Deeds.{deed_done, with_deed}
+use Rattle.st_model.specs.Deeds.{deed_done, world_done, with_deed}
 use Rattle.st_simulation.proofs.Closed.{step_closed}
 use Rattle.st_simulation.proofs.Deeds.{deed_uses, deed_leaves_there}
 use Rattle.st_frames.specs.Narrow.{IsNarrow}
@@ -20,20 +20,22 @@ use Rattle.st_model.specs.Table.{Table, table, apart, bounded_table, total_used,
 use Rattle.st_memory.specs.Tabular.{bounded_tabular}
 use Rattle.st_model.specs.Calls.{transition_of}
 use Rattle.st_model.specs.Bytecodes.{step}
-use Rattle.st_model.specs.View.{View, IsWhole}
+use Rattle.st_model.specs.View.{View, Held, IsWhole}
 use Rattle.st_frames.specs.declared.frame.Frame.{Frame}
 use Rattle.st_frames.specs.declared.registers.Registers.{Registers as Words}
 use Rattle.st_frames.specs.Rows.{row_state, registers_in}
-use Rattle.st_frames.specs.Shown.{shown, registers_of, IsReady, StaysFrame}
+use Rattle.st_frames.specs.Shown.{shown, registers_of, IsFrame, IsReady, StaysFrame}
 use Rattle.st_control.specs.Foreseen.{IsForeseen}
 use Rattle.st_at_once.specs.declared.ending.RowEnd.{RowEnd}
-use Rattle.st_at_once.specs.declared.ending.RowEnd.TheVariants.{ToForesee, Stays, Done, Leaves}
-use Rattle.st_at_once.specs.AtOnce.{was_done, deed_left, GoesOn, IsDoneBut, step_at_once}
+use Rattle.st_at_once.specs.declared.ending.RowEnd.TheVariants.{Stays}
+use Rattle.st_at_once.specs.AtOnce.{NamesSame, kept, was_done, deed_left, GoesOn, step_at_once}
+use Rattle.st_at_once.proofs.Kept.{moved, kept_same, kept_frame}
 use Rattle.st_at_once.proofs.AtOnce.{As, step-as}
 use Rattle.st_at_once.proofs.Messages.{header_stays}
 use Rattle.st_at_once.proofs.AlikeRows.{same_at_once}
 use Rattle.st_at_once.proofs.Linked.{Linked, linked}
 use Rattle.st_frames.proofs.Closed.{is_closed}
+use Rattle.st_frames.proofs.Stored.{loaded}
 use Rattle.st_frames.proofs.There.{word_there, all_four}
 
 table_tabular : IsTabular table
@@ -110,26 +112,80 @@ quick_held v u f w r e q o h = λ i. record { memory = sym o i; registers = sym 
 pub quick_ready : (u v : View) (f g : Frame) (w : World) → IsReady u f w → StaysFrame u v g → IsReady v g w
 quick_ready u v f g w ready stays = record { frame = stays.frame; devices = stays.devices ∙ ready.devices }
 
--- a bytecode that was done, but for what it leaves
-done_but : (c d : State Table) (left : Deed) (end : RowEnd) → was_done end ≡ true → GoesOn c (with_deed (deed_left left end) d) → IsDoneBut c left (Ok end) d
-done_but c d left ToForesee b h = cc
-done_but c d left Stays b h = h
-done_but c d left Done b h = h
-done_but c d left Leaves b h = h
-
 -- a row that was done, whose registers are held, goes on as the bytecode does, but for what it leaves
 pub row_goes_on : (v u h : View) (f g : Frame) (w : World) (r : Words) (left : Deed) (end : RowEnd) → IsWhole v → IsReady v f w
     → (step_at_once bounded_table).run (shown v f w) ≡ transition_of was_done (Ok end) (with_deed (deed_left left end) (row_state u.objects u.head r)) → was_done end ≡ true
-    → IsWhole u → u.head ≡ v.head → r.world.now ≡ w → registers_of g ≡ registers_in r → h.objects ≡ u.objects → h.head ≡ u.head → IsDoneBut (shown v f w) left (Ok end) (shown h g w)
+    → IsWhole u → u.head ≡ v.head → r.world.now ≡ w → registers_of g ≡ registers_in r → h.objects ≡ u.objects → h.head ≡ u.head → GoesOn (shown v f w) (with_deed (deed_left left end) (shown h g w))
 row_goes_on v u h f g w r left end whole ready does b whole_then fixed world same objects head =
     let deed = deed_left left end in
-    let d = with_deed deed (row_state u.objects u.head r) in
-    done_but (shown v f w) (shown h g w) left end b (
+    let d = with_deed deed (row_state u.objects u.head r) in (
       quick_foreseen v f w whole ready (Ok end) d does u end refl b whole_then (left_uses u r deed) fixed,
       quick_done (shown v f w) (Ok end) d does end refl b ∙ ap (λ s. Went outcome.Went (with_deed deed s)) (quick_held u h g w r same world objects head),
     )
 
--- a row that may have left its context was done
-pub was_moved : (end : RowEnd) → (end ≡ Done) ⊎ (end ≡ Leaves) → was_done end ≡ true
-was_moved end (inl e) = ap was_done e
-was_moved end (inr e) = ap was_done e
+-- nothing was changed
+pub still_shown : (v u : View) (f g : Frame) (w : World) → u.objects ≡ v.objects → u.head ≡ v.head → g ≡ f → shown u g w ≡ shown v f w
+still_shown v u f g w objects head frame = λ i. record { memory = objects i; registers = registers_of (frame i); world = w; head = head i }
+
+-- the frame is held as before where what is held is the same
+frame_held : (v u : View) (f : Frame) → u.held ≡ v.held → IsFrame v f → IsFrame u f
+frame_held v u f e h = record {
+  active = h.active ∙ sym (ap (λ (x : Held). x.active) e);
+  home = h.home ∙ sym (ap (λ (x : Held). x.home) e);
+  method = h.method ∙ sym (ap (λ (x : Held). x.method) e);
+  receiver = h.receiver ∙ sym (ap (λ (x : Held). x.receiver) e);
+  ip_low = h.ip_low;
+  ip_high = h.ip_high;
+  sp_low = h.sp_low;
+  sp_high = h.sp_high;
+}
+
+pub still_ready : (v u : View) (f g : Frame) (w : World) → u.held ≡ v.held → g ≡ f → IsReady v f w → IsReady u g w
+still_ready v u f g w held frame ready =
+    subst (λ x. IsReady u x w) (sym frame) (record { frame = frame_held v u f held ready.frame; devices = ap (λ (x : Held). x.devices) held ∙ ready.devices })
+
+-- what a row leaves that was done from a frame's registers: they are there; where it stayed in its context the frame has them, and else
+-- it is as it was, until they are held
+pub record Left (c : State Table) (left : Deed) (end : RowEnd) (h : View) (q : Frame) (w : World) (r : Words) : Type 0 where
+  pub goes : GoesOn c (with_deed (deed_left left end) (shown h q w))
+  pub ready : IsReady h q w
+  pub same : registers_in r ≡ registers_of q
+
+module _ (v u : View) (f g : Frame) (w : World) (start r : Words) (left : Deed) (end : RowEnd) (whole : IsWhole v) (ready : IsReady v f w)
+    (same : registers_in start ≡ registers_of f) (before : start.world.now ≡ w)
+    (does : (step_at_once bounded_table).run (row_state v.objects v.head start) ≡ transition_of was_done (Ok end) (with_deed (deed_left left end) (row_state u.objects u.head r)))
+    (world : r.world.now ≡ start.world.now) (head : u.head ≡ v.head) (held : u.held ≡ v.held) (frame : g ≡ kept (Ok end) f r) where
+  from_shown : (step_at_once bounded_table).run (shown v f w) ≡ transition_of was_done (Ok end) (with_deed (deed_left left end) (row_state u.objects u.head r))
+  from_shown = ap (λ (s : State Table). (step_at_once bounded_table).run s) (sym (loaded v f w start same before)) ∙ does
+
+  pub left_there : was_done end ≡ true → are_there table u.objects (registers_in r) ≡ true
+  left_there done =
+      quick_there v f w u.objects u.head r (deed_left left end) whole ready
+      (quick_done (shown v f w) (Ok end) (with_deed (deed_left left end) (row_state u.objects u.head r)) from_shown end refl done)
+
+  pub left_ready : end ≢ Stays → IsReady u g w
+  left_ready moves = still_ready v u f g w held (frame ∙ sym (moved end f r moves)) ready
+
+  pub left_held : (h : View) (q : Frame) → end ≢ Stays → was_done end ≡ true → IsWhole u → registers_of q ≡ registers_in r → h.objects ≡ u.objects → h.head ≡ u.head → StaysFrame u h q
+      → Left (shown v f w) left end h q w r
+  left_held h q moves done whole_then holds objects heads stays = record {
+    goes = row_goes_on v u h f q w r left end whole ready from_shown done whole_then head (world ∙ before) holds objects heads;
+    ready = quick_ready u h g q w (left_ready moves) stays;
+    same = sym holds;
+  }
+
+  pub left_kept : end ≡ Stays → IsWhole u → (end ≡ Stays → NamesSame (registers_in start) (registers_in r)) → Left (shown v f w) left end u g w r
+  left_kept stays whole_then names =
+      let k : g ≡ kept (Ok Stays) f r = subst (λ y. g ≡ kept (Ok y) f r) stays frame in
+      let named : NamesSame (registers_of f) (registers_in r) = subst (λ q. NamesSame q (registers_in r)) same (names stays) in
+      let holds : registers_of g ≡ registers_in r = subst (λ y. registers_of y ≡ registers_in r) (sym k) (kept_same f r named) in
+      record {
+        goes = row_goes_on v u u f g w r left end whole ready from_shown (ap was_done stays) whole_then head (world ∙ before) holds refl refl;
+        ready = subst (λ y. IsReady u y w) (sym k)
+            (record { frame = kept_frame u f r (frame_held v u f held ready.frame); devices = ap (λ (x : Held). x.devices) held ∙ ready.devices });
+        same = sym holds;
+      }
+
+-- the deed that is left is done
+pub left_shown : (u z : View) (f : Frame) (w x : World) (d : Deed) → z.objects ≡ deed_done d u.objects → z.head ≡ u.head → x ≡ world_done d u.objects w → with_deed d (shown u f w) ≡ shown z f x
+left_shown u z f w x d objects head changed = λ i. record { memory = sym objects i; registers = registers_of f; world = sym changed i; head = sym head i }

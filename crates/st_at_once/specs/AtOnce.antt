@@ -31,10 +31,11 @@ use Rattle.st_model.specs.Arithmetic.{integer_under, arithmetic_number, equivale
 use Rattle.st_model.specs.Blocks.{primitive_value}
 use Rattle.st_model.specs.Storage.{primitive_at, primitive_at_put, primitive_new, primitive_new_with}
 use Rattle.st_model.specs.Processes.{processes}
-use Rattle.st_model.specs.Deeds.{with_deed}
 use Rattle.st_model.specs.Bytecodes.{fetch_literal_constant, push_operand, store_and_pop, push_receiver, push_constant, constant_value, extended_push, extended_store, extended_store_and_pop, pop_stack, duplicate_top, push_active_context, short_unconditional_jump, long_unconditional_jump, step}
 use Rattle.st_model.specs.Table.{Table, apart, bounded_table}
 use Rattle.st_frames.specs.Rows.{send_changes, activation_changes}
+use Rattle.st_frames.specs.declared.frame.Frame.{Frame}
+use Rattle.st_frames.specs.declared.registers.Registers.{Registers as Words}
 use Rattle.st_control.specs.Foreseen.{IsForeseen}
 use Rattle.st_at_once.specs.declared.ending.RowEnd.{RowEnd}
 use Rattle.st_at_once.specs.declared.ending.RowEnd.TheVariants.{ToForesee, Stays, Done, Leaves}
@@ -286,6 +287,14 @@ deed_left left Leaves = left
 abbrev pub StaysInContext : Result RowEnd Dead → Registers → Registers → Type 0
 StaysInContext result old new = result ≡ Ok Stays → NamesSame old new
 
+-- what is kept in the frame: the instruction and the stack pointer of a row that stays in its context; of another nothing
+abbrev pub kept : Result RowEnd Dead → Frame → Words → Frame
+kept (Ok Stays) f r = record f { ip = r.ip; sp = r.sp }
+kept (Ok ToForesee) f r = f
+kept (Ok Done) f r = f
+kept (Ok Leaves) f r = f
+kept (Err cause) f r = f
+
 -- where it is to be foreseen, the objects are as they were
 abbrev pub StillToForesee : {M : Type 0} → Ghosts M → M → Result RowEnd Dead → M → Type 0
 StillToForesee o old result new = IfOk result (λ end. was_done end ≡ false → AreStill o old new)
@@ -295,15 +304,7 @@ abbrev pub GoesOn : State Table → State Table → Type 0
 GoesOn c d = IsForeseen c × ((step bounded_table).run c ≡ Went outcome.Went d)
 
 -- What the next bytecode comes to that was tried at once: the machine dies of this cause, as it would be foreseen; or it is to
--- be foreseen, and nothing was changed; or it was done, perhaps but for the deed that is left.
-abbrev pub IsDoneBut : State Table → Deed → Result RowEnd Dead → State Table → Type 0
-IsDoneBut c left (Err cause) d = (step apart).run c ≡ Died cause
-IsDoneBut c left (Ok ToForesee) d = d ≡ c
-IsDoneBut c left (Ok Stays) d = GoesOn c d
-IsDoneBut c left (Ok Done) d = GoesOn c d
-IsDoneBut c left (Ok Leaves) d = GoesOn c (with_deed left d)
-
--- the same once the deed is done, where one is left
+-- be foreseen, and nothing was changed; or it was done, with the deed that it left.
 abbrev pub IsDoneAtOnce : State Table → Result Bool Dead → State Table → Type 0
 IsDoneAtOnce c (Err cause) d = (step apart).run c ≡ Died cause
 IsDoneAtOnce c (Ok false) d = d ≡ c

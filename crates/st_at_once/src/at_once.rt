@@ -4,13 +4,14 @@ ghost use Rattle.st_model.specs.declared.bytecode.Bytecode.TheVariants.{Primitiv
 ghost use Rattle.st_model.specs.declared.page.PageObject.TheVariants.{FalseObject, TrueObject};
 ghost use Rattle.st_model.specs.Methods.{flag_of};
 ghost use Rattle.st_control.specs.AtOnce.{IsStill, at_once, jump_at_once};
-ghost use Rattle.st_at_once.specs.AtOnce.{was_done, deed_left, StaysInContext, StillToForesee, respond_at_once, execute_at_once_by, execute_at_once, found_at_once, send_from_at_once, send_at_once, literal_send_at_once, primitive_at_once, long_jump_at_once, return_receiver_at_once, return_constant_at_once, return_top_to_sender_at_once, return_top_to_caller_at_once, bytecode_at_once, may_leave, step_at_once, changes_at_once, not_understood_at_once};
+ghost use Rattle.st_at_once.specs.AtOnce.{was_done, deed_left, StaysInContext, StillToForesee, respond_at_once, execute_at_once_by, execute_at_once, found_at_once, send_from_at_once, send_at_once, literal_send_at_once, primitive_at_once, long_jump_at_once, return_receiver_at_once, return_constant_at_once, return_top_to_sender_at_once, return_top_to_caller_at_once, bytecode_at_once, kept, may_leave, step_at_once, changes_at_once, not_understood_at_once};
 ghost use Rattle.st_at_once.specs.declared.ending.RowEnd.TheVariants.{Stays, Leaves};
 ghost use Rattle.st_lookup.specs.Places.{found_word};
 ghost use Rattle.st_frames.specs.Rows.{RowMoves, RowDoes, RowLeaves, Takes, registers_in, activation_changes};
 
 use crate::arithmetic::arithmetic_at_once;
-use crate::ending::{RowEnd, done_if, stays_if};
+use crate::ending::{RowEnd, done_if};
+use crate::holding::keep;
 use crate::making::try_at_once;
 use crate::unanswered::not_understood_at_once;
 use st_control::{
@@ -20,18 +21,25 @@ use st_control::{
     push_operand, push_receiver, receiver_class, return_to_caller_at_once,
     return_to_sender_at_once, short_unconditional_jump, store_and_pop, value_at_once,
 };
-use st_frames::{Registers, next_byte, pop, under};
+use st_frames::{Frame, Registers, next_byte, pop, under};
 use st_memory::Objects;
 use st_method::Header;
 use st_model::{Bytecode, Constant, Dead, Deed, PageObject, Tried, Word, decode};
 
 /// Does the code 176 + k, where that is 198, 199, or one of the two that compute a block's value.
-#[tactic(auto, using(st_frames::proofs::Doing::rows), unfolding(crate::specs::AtOnce::primitive_at_once, st_control::specs::AtOnce::at_once))]
-fn primitive_at_once<O: Objects>(m: &mut O, r: &mut Registers, k: u32) -> Result<RowEnd, Dead>
+#[inline(never)]
+#[tactic(auto, using(st_frames::proofs::Doing::rows, crate::proofs::Kept::keeps), unfolding(crate::specs::AtOnce::primitive_at_once, st_control::specs::AtOnce::at_once))]
+fn primitive_at_once<O: Objects>(
+    m: &mut O,
+    f: &mut Frame,
+    r: &mut Registers,
+    k: u32,
+) -> Result<RowEnd, Dead>
     requires number { k < 32 }
     requires room { 6 ≤ O.room m.old }
     ensures does { RowDoes O.Objects.own (primitive_at_once O.names k)
         was_done m.old r.old result m.new r.new }
+    ensures frame { f.new ≡ kept result f.old r.new }
     ensures stays { result ≡ Ok Stays → may_leave (PrimitiveSend k) ≡ false }
     ensures leaves { result ≢ Ok Leaves }
     ensures takes { Takes O.Objects.own 6 m.old m.new }
@@ -43,6 +51,7 @@ fn primitive_at_once<O: Objects>(m: &mut O, r: &mut Registers, k: u32) -> Result
         24 => return Ok(RowEnd::ToForesee),
         _ => return Ok(done_if(value_at_once(m, r, k.saturating_sub(25))?)),
     }
+    keep(f, r);
     Ok(RowEnd::Stays)
 }
 
@@ -64,6 +73,7 @@ fn short_jump_at_once<O: Objects>(m: &O, r: &mut Registers, i: u8) -> Result<boo
 }
 
 /// Pops, and jumps on false by i times 256 plus the next byte. Answers whether the word is a boolean.
+#[inline(never)]
 #[tactic(auto, using(st_frames::proofs::Doing::rows), unfolding(crate::specs::AtOnce::long_jump_at_once))]
 fn jump_on_false_at_once<O: Objects>(m: &O, r: &mut Registers, i: u8) -> Result<bool, Dead>
     requires number { i < 4 }
@@ -82,6 +92,7 @@ fn jump_on_false_at_once<O: Objects>(m: &O, r: &mut Registers, i: u8) -> Result<
 }
 
 /// Pops, and jumps on true by i times 256 plus the next byte. Answers whether the word is a boolean.
+#[inline(never)]
 #[tactic(auto, using(st_frames::proofs::Doing::rows), unfolding(crate::specs::AtOnce::long_jump_at_once))]
 fn jump_on_true_at_once<O: Objects>(m: &O, r: &mut Registers, i: u8) -> Result<bool, Dead>
     requires number { i < 4 }
@@ -100,6 +111,7 @@ fn jump_on_true_at_once<O: Objects>(m: &O, r: &mut Registers, i: u8) -> Result<b
 }
 
 /// Returns the receiver to the sender. Answers whether that is done at once.
+#[inline(never)]
 #[tactic(auto, using(st_frames::proofs::Doing::rows), unfolding(crate::specs::AtOnce::return_receiver_at_once))]
 fn return_receiver_at_once<O: Objects>(m: &mut O, r: &mut Registers) -> Result<bool, Dead>
     requires room { 3 ≤ O.room m.old }
@@ -112,6 +124,7 @@ fn return_receiver_at_once<O: Objects>(m: &mut O, r: &mut Registers) -> Result<b
 }
 
 /// Returns a constant to the sender. Answers whether that is done at once.
+#[inline(never)]
 #[tactic(auto, using(st_frames::proofs::Doing::rows), unfolding(crate::specs::AtOnce::return_constant_at_once))]
 fn return_constant_at_once<O: Objects>(
     m: &mut O,
@@ -129,6 +142,7 @@ fn return_constant_at_once<O: Objects>(
 }
 
 /// Pops, and returns the word to the sender. Answers whether that is done at once.
+#[inline(never)]
 #[tactic(auto, using(st_frames::proofs::Doing::rows), unfolding(crate::specs::AtOnce::return_top_to_sender_at_once))]
 fn return_top_to_sender_at_once<O: Objects>(m: &mut O, r: &mut Registers) -> Result<bool, Dead>
     requires room { 3 ≤ O.room m.old }
@@ -142,6 +156,7 @@ fn return_top_to_sender_at_once<O: Objects>(m: &mut O, r: &mut Registers) -> Res
 }
 
 /// Pops, and returns the word to the caller. Answers whether that is done at once.
+#[inline(never)]
 #[tactic(auto, using(st_frames::proofs::Doing::rows), unfolding(crate::specs::AtOnce::return_top_to_caller_at_once))]
 fn return_top_to_caller_at_once<O: Objects>(m: &mut O, r: &mut Registers) -> Result<bool, Dead>
     requires room { 3 ≤ O.room m.old }
@@ -302,6 +317,7 @@ fn send_at_once<O: Objects>(
 }
 
 /// Sends literal i with n arguments.
+#[inline(never)]
 #[tactic(auto, using(st_frames::proofs::Doing::rows), unfolding(crate::specs::AtOnce::literal_send_at_once))]
 fn literal_send_at_once<O: Objects>(
     m: &mut O,
@@ -322,11 +338,12 @@ fn literal_send_at_once<O: Objects>(
     send_at_once(m, r, selector, n, left)
 }
 
-/// Does the row of a bytecode, where that is done at once.
+/// Does the row of a bytecode, where that is done at once. The frame keeps the registers of a row that stays in its context.
 #[inline(always)]
-#[tactic(auto, using(st_frames::proofs::Doing::rows), unfolding(crate::specs::AtOnce::bytecode_at_once, st_control::specs::AtOnce::at_once))]
+#[tactic(auto, using(st_frames::proofs::Doing::rows, crate::proofs::Kept::keeps), unfolding(crate::specs::AtOnce::bytecode_at_once, st_control::specs::AtOnce::at_once))]
 fn bytecode_at_once<O: Objects>(
     m: &mut O,
+    f: &mut Frame,
     r: &mut Registers,
     code: Bytecode,
     left: &mut Deed,
@@ -335,6 +352,7 @@ fn bytecode_at_once<O: Objects>(
     requires room { changes_at_once ≤ O.room m.old }
     ensures does { RowLeaves O.Objects.own (bytecode_at_once O.names code)
         was_done (deed_left left.new) m.old r.old result m.new r.new }
+    ensures frame { f.new ≡ kept result f.old r.new }
     ensures stays { result ≡ Ok Stays → may_leave code ≡ false }
     ensures takes { Takes O.Objects.own changes_at_once m.old m.new }
     ensures still { StillToForesee O.Objects.own m.old result m.new }
@@ -352,15 +370,31 @@ fn bytecode_at_once<O: Objects>(
         Bytecode::PushActiveContext => push_active_context(m, r)?,
         Bytecode::ShortUnconditionalJump(i) => short_unconditional_jump(m, r, i)?,
         Bytecode::LongUnconditionalJump(i) => long_unconditional_jump(m, r, i)?,
-        Bytecode::ShortJumpOnFalse(i) => return Ok(stays_if(short_jump_at_once(m, r, i)?)),
-        Bytecode::LongJumpOnFalse(i) => return Ok(stays_if(jump_on_false_at_once(m, r, i)?)),
-        Bytecode::LongJumpOnTrue(i) => return Ok(stays_if(jump_on_true_at_once(m, r, i)?)),
-        Bytecode::ArithmeticSend(k) => return Ok(stays_if(arithmetic_at_once(m, r, u32::from(k))?)),
+        Bytecode::ShortJumpOnFalse(i) => {
+            if !short_jump_at_once(m, r, i)? {
+                return Ok(RowEnd::ToForesee);
+            }
+        }
+        Bytecode::LongJumpOnFalse(i) => {
+            if !jump_on_false_at_once(m, r, i)? {
+                return Ok(RowEnd::ToForesee);
+            }
+        }
+        Bytecode::LongJumpOnTrue(i) => {
+            if !jump_on_true_at_once(m, r, i)? {
+                return Ok(RowEnd::ToForesee);
+            }
+        }
+        Bytecode::ArithmeticSend(k) => {
+            if !arithmetic_at_once(m, r, u32::from(k))? {
+                return Ok(RowEnd::ToForesee);
+            }
+        }
         Bytecode::ReturnReceiver => return Ok(done_if(return_receiver_at_once(m, r)?)),
         Bytecode::ReturnConstant(c) => return Ok(done_if(return_constant_at_once(m, r, c)?)),
         Bytecode::ReturnTopToSender => return Ok(done_if(return_top_to_sender_at_once(m, r)?)),
         Bytecode::ReturnTopToCaller => return Ok(done_if(return_top_to_caller_at_once(m, r)?)),
-        Bytecode::PrimitiveSend(k) => return primitive_at_once(m, r, u32::from(k)),
+        Bytecode::PrimitiveSend(k) => return primitive_at_once(m, f, r, u32::from(k)),
         Bytecode::LiteralSend { literal, arguments } => {
             return literal_send_at_once(m, r, u32::from(literal), u32::from(arguments), left);
         }
@@ -371,24 +405,27 @@ fn bytecode_at_once<O: Objects>(
         | Bytecode::DoubleExtendedSuperSend
         | Bytecode::SpecialSend(_) => return Ok(RowEnd::ToForesee),
     }
+    keep(f, r);
     Ok(RowEnd::Stays)
 }
 
-/// Does the next bytecode, where that is done at once.
+/// Does the next bytecode, where that is done at once. The frame keeps the registers of a row that stays in its context.
 #[inline(always)]
 #[tactic(auto, using(st_frames::proofs::Doing::rows), unfolding(crate::specs::AtOnce::step_at_once))]
 pub fn row_at_once<O: Objects>(
     m: &mut O,
+    f: &mut Frame,
     r: &mut Registers,
     left: &mut Deed,
 ) -> Result<RowEnd, Dead>
     requires room { changes_at_once ≤ O.room m.old }
     ensures does { RowLeaves O.Objects.own (step_at_once O.names)
         was_done (deed_left left.new) m.old r.old result m.new r.new }
+    ensures frame { f.new ≡ kept result f.old r.new }
     ensures stays { StaysInContext result (registers_in r.old) (registers_in r.new) }
     ensures takes { Takes O.Objects.own changes_at_once m.old m.new }
     ensures still { StillToForesee O.Objects.own m.old result m.new }
 {
     let byte = next_byte(m, r)?;
-    bytecode_at_once(m, r, decode(byte), left)
+    bytecode_at_once(m, f, r, decode(byte), left)
 }

@@ -1,4 +1,4 @@
-ghost use Rattle.std.specs.Prelude.{◌≡◌, if◌then◌else◌};
+ghost use Rattle.std.specs.Prelude.{◌≡◌, ◌≢◌, if◌then◌else◌};
 ghost use Rattle.st_at_once.specs.declared.ending.RowEnd.TheVariants.{ToForesee, Stays, Done};
 
 /// How a bytecode came out that was tried at once. The deed itself stands elsewhere, since few bytecodes leave one.
@@ -14,22 +14,11 @@ pub enum RowEnd {
     Leaves,
 }
 
-/// The end of a row that stays in its context, by whether it was done.
-#[inline(always)]
-pub(crate) fn stays_if(done: bool) -> RowEnd
-    ensures { result ≡ (if done then Stays else ToForesee) }
-{
-    if done {
-        RowEnd::Stays
-    } else {
-        RowEnd::ToForesee
-    }
-}
-
 /// The end of a row that may leave its context, by whether it was done.
 #[inline(always)]
 pub(crate) fn done_if(done: bool) -> RowEnd
-    ensures { result ≡ (if done then Done else ToForesee) }
+    ensures end { result ≡ (if done then Done else ToForesee) }
+    ensures moves { result ≢ Stays }
 {
     if done {
         RowEnd::Done

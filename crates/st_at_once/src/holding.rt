@@ -31,23 +31,20 @@ fn names_same(r: &Registers, f: &Frame) -> bool
         && is_pointer(r.receiver, f.receiver)
 }
 
-impl<'a, M: Memory> Near<'a, M> {
-    /// Keeps the registers of a row that stays in its context. What they name is held already.
-    #[inline(always)]
-    pub(crate) fn stay(&self, f: &mut Frame, r: &Registers)
-        requires stays { NamesSame (registers_of f.old) (registers_in r.now) }
-        requires frame { IsFrame (M.view self.now.memory.now) f.old }
-        ensures same { registers_of f.new ≡ registers_in r.now }
-        ensures frame { StaysFrame (M.view self.now.memory.now) (M.view self.now.memory.now) f.new }
-    {
-        f.ip = r.ip;
-        f.sp = r.sp;
-    }
+/// Keeps the instruction and the stack pointer in the frame.
+#[inline(always)]
+pub(crate) fn keep(f: &mut Frame, r: &Registers)
+    ensures { f.new ≡ record f.old { ip = r.now.ip; sp = r.now.sp } }
+{
+    f.ip = r.ip;
+    f.sp = r.sp;
+}
 
+impl<'a, M: Memory> Near<'a, M> {
     /// Keeps the registers that a row leaves, all of which are there. Where they name what they named, that is held already; else
     /// they are held at their places, and what is known is looked at anew.
     #[inline(never)]
-    pub(crate) fn hold_moved(&mut self, f: &mut Frame, r: &Registers)
+    pub fn hold_moved(&mut self, f: &mut Frame, r: &Registers)
         requires there { are_there table (M.view self.old.memory.now).objects (registers_in r.now) ≡ true }
         requires frame { IsFrame (M.view self.old.memory.now) f.old }
         ensures same { registers_of f.new ≡ registers_in r.now }
@@ -57,7 +54,7 @@ impl<'a, M: Memory> Near<'a, M> {
         ensures same_memory { self.new.memory.ghost_name ≡ self.old.memory.ghost_name }
     {
         if names_same(r, f) {
-            self.stay(f, r);
+            keep(f, r);
         } else {
             *f = hold(self.memory, r);
             self.known = look(self.memory, f, self.known.code);

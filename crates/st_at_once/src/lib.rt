@@ -18,6 +18,7 @@ mod passing;
 mod quick;
 mod unanswered;
 
+pub use at_once::row_at_once;
 pub use ending::RowEnd;
 pub use near::Near;
-pub use quick::{step_at_once, step_from};
+pub use quick::step_at_once;

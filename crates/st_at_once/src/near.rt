@@ -90,6 +90,19 @@ impl<'a, M: Memory> Near<'a, M> {
         }
     }
 
+    /// The active or home context, or the object that was made last, where this is its word and it has field i.
+    #[inline(always)]
+    pub(crate) fn find_place(&self, o: Word, i: u32) -> Option<Body>
+        ensures same { IfSome result (λ b. value b.object ≡ word o) }
+        ensures has { IfSome result (λ b. Has (M.view self.now.memory.now).objects (value b.object) i 1) }
+        ensures place { IfSome result (λ b. M.stands self.now.memory.now (value b.object) b.place) }
+    {
+        match self.find_context(o, i) {
+            Some(context) => Some(context),
+            None => self.find_made(o, i),
+        }
+    }
+
     /// How many fields the active or home context has, where this is its word.
     #[inline(always)]
     pub(crate) fn find_number(&self, o: Word) -> Option<u32>
@@ -172,7 +185,7 @@ impl<'a, M: Memory> Near<'a, M> {
     /// Stores x in field i of an object that isn't near at hand. Nothing is known any more where it dies.
     #[inline(never)]
     #[tactic(auto, using(crate::proofs::Keeping::near_nothing, crate::proofs::Placed::placed_nothing))]
-    fn store_elsewhere(&mut self, o: Word, i: u32, x: Word) -> Result<(), Dead>
+    pub(crate) fn store_elsewhere(&mut self, o: Word, i: u32, x: Word) -> Result<(), Dead>
         ensures stores { Changes (store_field bounded_table (word o) i (word x)) itself
             (M.view self.old.memory.now).objects (M.view self.old.memory.now).head
             result (M.view self.new.memory.now).objects }
@@ -186,21 +199,7 @@ impl<'a, M: Memory> Near<'a, M> {
         }
         done
     }
-    /// Stores x in field i of an object that is neither the active nor the home context: at its place where it was made last.
-    #[inline(always)]
-    pub(crate) fn store_outside(&mut self, o: Word, i: u32, x: Word) -> Result<(), Dead>
-        ensures stores { Changes (store_field bounded_table (word o) i (word x)) itself
-            (M.view self.old.memory.now).objects (M.view self.old.memory.now).head
-            result (M.view self.new.memory.now).objects }
-        ensures held { (M.view self.new.memory.now).held ≡ (M.view self.old.memory.now).held }
-        ensures head { (M.view self.new.memory.now).head ≡ (M.view self.old.memory.now).head }
-        ensures same_memory { self.new.memory.ghost_name ≡ self.old.memory.ghost_name }
-    {
-        match self.find_made(o, i) {
-            Some(made) => self.store_near(made, i, x),
-            None => self.store_elsewhere(o, i, x),
-        }
-    }
+
     /// Stores n fields of one object in fields of another, once all of them are fetched, without asking whether they are near at hand.
     /// Nothing is known any more where it dies.
     #[inline(never)]

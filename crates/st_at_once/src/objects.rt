@@ -126,9 +126,9 @@ impl<'a, M: Memory> Objects for Near<'a, M> {
 
     #[inline(always)]
     fn store_field(&mut self, o: Word, i: u32, x: Word) -> Result<(), Dead> {
-        match self.find_context(o, i) {
-            Some(context) => self.store_near(context, i, x),
-            None => self.store_outside(o, i, x),
+        match self.find_place(o, i) {
+            Some(object) => self.store_near(object, i, x),
+            None => self.store_elsewhere(o, i, x),
         }
     }
 

@@ -1,30 +1,13 @@
-ghost use Rattle.std.specs.Prelude.{◌≡◌, ◌<◌, ◌≤◌, ◌+◌, Ok};
+ghost use Rattle.std.specs.Prelude.{◌≡◌, ◌≤◌, ◌+◌, Ok};
 ghost use Rattle.st_model.specs.Values.{word};
 ghost use Rattle.st_model.specs.Decoded.{IsNumberedOperand};
-ghost use Rattle.st_model.specs.Bytecodes.{fetch_receiver_variable, fetch_temporary_variable, fetch_literal_constant, fetch_literal_variable, fetch_operand, store_receiver_variable, store_temporary_variable, store_literal_variable, store_operand, constant_value};
+ghost use Rattle.st_model.specs.Bytecodes.{fetch_literal_constant, fetch_operand, store_operand, constant_value};
 ghost use Rattle.st_model.specs.Calls.{itself};
 ghost use Rattle.st_frames.specs.Rows.{RowReads, RowMoves, RowDoes, Takes, send_changes, jump_changes, return_changes};
 
 use st_frames::{Registers, page, small};
 use st_memory::Objects;
 use st_model::{Constant, Dead, Operand, PageObject, Word};
-
-/// Field i of the receiver.
-#[tactic(auto, using(st_frames::proofs::Doing::rows), unfolding(st_model::specs::Bytecodes::fetch_receiver_variable))]
-fn fetch_receiver_variable<O: Objects>(m: &O, r: &Registers, i: u32) -> Result<Word, Dead>
-    ensures does { RowReads O.Objects.own (fetch_receiver_variable O.names i) word m.now r.now result }
-{
-    m.fetch_field(r.receiver, i)
-}
-
-/// Temporary variable i of the home context.
-#[tactic(auto, using(st_frames::proofs::Doing::rows), unfolding(st_model::specs::Bytecodes::fetch_temporary_variable))]
-fn fetch_temporary_variable<O: Objects>(m: &O, r: &Registers, i: u32) -> Result<Word, Dead>
-    requires number { i < 64 }
-    ensures does { RowReads O.Objects.own (fetch_temporary_variable O.names i) word m.now r.now result }
-{
-    m.fetch_field(r.home, 6 + i)
-}
 
 /// Literal i of the method.
 #[tactic(auto, using(st_frames::proofs::Doing::rows), unfolding(st_model::specs::Bytecodes::fetch_literal_constant))]
@@ -34,79 +17,25 @@ pub fn fetch_literal_constant<O: Objects>(m: &O, r: &Registers, i: u32) -> Resul
     m.literal(r.method, i)
 }
 
-/// The value of the association that is literal i of the method.
-#[tactic(auto, using(st_frames::proofs::Doing::rows), unfolding(st_model::specs::Bytecodes::fetch_literal_variable))]
-fn fetch_literal_variable<O: Objects>(m: &O, r: &Registers, i: u32) -> Result<Word, Dead>
-    ensures does { RowReads O.Objects.own (fetch_literal_variable O.names i) word m.now r.now result }
-{
-    let association = fetch_literal_constant(m, r, i)?;
-    m.fetch_field(association, 1)
-}
-
 /// What an operand names.
 #[inline(always)]
-#[tactic(auto, using(st_frames::proofs::Doing::rows), unfolding(st_model::specs::Bytecodes::fetch_operand))]
+#[tactic(auto, using(st_frames::proofs::Doing::rows), unfolding(st_model::specs::Bytecodes::fetch_operand, st_model::specs::Bytecodes::fetch_receiver_variable, st_model::specs::Bytecodes::fetch_temporary_variable, st_model::specs::Bytecodes::fetch_literal_variable))]
 pub fn fetch_operand<O: Objects>(m: &O, r: &Registers, operand: Operand) -> Result<Word, Dead>
     requires numbered { IsNumberedOperand operand }
     ensures does { RowReads O.Objects.own (fetch_operand O.names operand) word m.now r.now result }
 {
-    match operand {
-        Operand::ReceiverVariable(i) => fetch_receiver_variable(m, r, u32::from(i)),
-        Operand::TemporaryVariable(i) => fetch_temporary_variable(m, r, u32::from(i)),
-        Operand::LiteralConstant(i) => fetch_literal_constant(m, r, u32::from(i)),
-        Operand::LiteralVariable(i) => fetch_literal_variable(m, r, u32::from(i)),
-    }
-}
-
-/// Stores x in field i of the receiver.
-#[tactic(auto, using(st_frames::proofs::Doing::rows), unfolding(st_model::specs::Bytecodes::store_receiver_variable))]
-fn store_receiver_variable<O: Objects>(
-    m: &mut O,
-    r: &Registers,
-    i: u32,
-    x: Word,
-) -> Result<(), Dead>
-    requires room { 1 ≤ O.room m.old }
-    ensures does { RowDoes O.Objects.own (store_receiver_variable O.names i (word x))
-        itself m.old r.now result m.new r.now }
-    ensures takes { Takes O.Objects.own 1 m.old m.new }
-{
-    m.store_field(r.receiver, i, x)
-}
-
-/// Stores x in temporary variable i of the home context.
-#[inline(always)]
-#[tactic(auto, using(st_frames::proofs::Doing::rows), unfolding(st_model::specs::Bytecodes::store_temporary_variable))]
-fn store_temporary_variable<O: Objects>(
-    m: &mut O,
-    r: &Registers,
-    i: u32,
-    x: Word,
-) -> Result<(), Dead>
-    requires number { i < 64 }
-    requires room { 1 ≤ O.room m.old }
-    ensures does { RowDoes O.Objects.own (store_temporary_variable O.names i (word x))
-        itself m.old r.now result m.new r.now }
-    ensures takes { Takes O.Objects.own 1 m.old m.new }
-{
-    m.store_field(r.home, 6 + i, x)
-}
-
-/// Stores x as the value of the association that is literal i of the method.
-#[tactic(auto, using(st_frames::proofs::Doing::rows), unfolding(st_model::specs::Bytecodes::store_literal_variable))]
-fn store_literal_variable<O: Objects>(m: &mut O, r: &Registers, i: u32, x: Word) -> Result<(), Dead>
-    requires room { 1 ≤ O.room m.old }
-    ensures does { RowDoes O.Objects.own (store_literal_variable O.names i (word x))
-        itself m.old r.now result m.new r.now }
-    ensures takes { Takes O.Objects.own 1 m.old m.new }
-{
-    let association = fetch_literal_constant(m, r, i)?;
-    m.store_field(association, 1, x)
+    let (object, field) = match operand {
+        Operand::ReceiverVariable(i) => (r.receiver, u32::from(i)),
+        Operand::TemporaryVariable(i) => (r.home, 6 + u32::from(i)),
+        Operand::LiteralConstant(i) => return fetch_literal_constant(m, r, u32::from(i)),
+        Operand::LiteralVariable(i) => (fetch_literal_constant(m, r, u32::from(i))?, 1),
+    };
+    m.fetch_field(object, field)
 }
 
 /// Stores x in what an operand names. Dead of an unused code where that is a literal constant.
 #[inline(always)]
-#[tactic(auto, using(st_frames::proofs::Doing::rows), unfolding(st_model::specs::Bytecodes::store_operand))]
+#[tactic(auto, using(st_frames::proofs::Doing::rows), unfolding(st_model::specs::Bytecodes::store_operand, st_model::specs::Bytecodes::store_receiver_variable, st_model::specs::Bytecodes::store_temporary_variable, st_model::specs::Bytecodes::store_literal_variable))]
 pub fn store_operand<O: Objects>(
     m: &mut O,
     r: &Registers,
@@ -119,12 +48,13 @@ pub fn store_operand<O: Objects>(
         itself m.old r.now result m.new r.now }
     ensures takes { Takes O.Objects.own 1 m.old m.new }
 {
-    match operand {
-        Operand::ReceiverVariable(i) => store_receiver_variable(m, r, u32::from(i), x),
-        Operand::TemporaryVariable(i) => store_temporary_variable(m, r, u32::from(i), x),
-        Operand::LiteralConstant(_) => Err(Dead::Code),
-        Operand::LiteralVariable(i) => store_literal_variable(m, r, u32::from(i), x),
-    }
+    let (object, field) = match operand {
+        Operand::ReceiverVariable(i) => (r.receiver, u32::from(i)),
+        Operand::TemporaryVariable(i) => (r.home, 6 + u32::from(i)),
+        Operand::LiteralConstant(_) => return Err(Dead::Code),
+        Operand::LiteralVariable(i) => (fetch_literal_constant(m, r, u32::from(i))?, 1),
+    };
+    m.store_field(object, field, x)
 }
 
 /// The word of a constant.

@@ -1,8 +1,10 @@
 -- Which objects are instances of a class.
-use Rattle.std.proofs.Common.{◌≡◌, ◌≢◌, ℕ, ◌/◌, Bool, true, false, ap, sym, ◌∙◌, arith, refl}
+use Rattle.std.proofs.Common.{◌≡◌, ◌≢◌, ℕ, ◌/◌, ◌<◌, ◌≤◌, Bool, true, false, ap, sym, ◌∙◌, subst, inl, inr, arith, refl}
 use Rattle.std.specs.Prelude.{◌&&◌, ◌==◌}
+use Rattle.std.proofs.lemmas.Bool.{cases_lt, cases_eq}
 use Rattle.std.proofs.lemmas.Bool.Decides.{nat_tests}
-use Rattle.st_model.specs.Values.{Value, Small, Ref, value_of, is_small}
+use Rattle.st_model.specs.declared.oop.Oop.{Oop}
+use Rattle.st_model.specs.Values.{Value, Small, Ref, value, value_of, is_small}
 use Rattle.st_model.specs.Table.{Table}
 use Rattle.st_model.specs.View.{is_live, object_of, is_instance}
 use Rattle.st_model.proofs.Pointers.{value_of-even, even_word}
@@ -47,3 +49,30 @@ same_word w u n p q =
   where
     halves : {x y z : ℕ} → Ref x ≡ Ref z → Ref y ≡ Ref z → x ≡ y
     halves e f = cc
+
+-- of a live object that follows the last one that was looked at, and of what is below it
+module _ (t : Table) (class : Value) (start after : ℕ) (before : (q : Oop) → start < q.0 → q.0 ≤ after → is_instance t class (value q) ≡ false) where
+  -- none is below it
+  pub none_below : (o p : Oop) → ((q : Oop) → after < q.0 → q.0 < o.0 → is_live t (value q) ≡ false) → start < p.0 → p.0 < o.0 → is_instance t class (value p) ≡ false
+  none_below o p least low high = elim (cases_lt after p.0) [
+    | inl above ↦ gone_instance t class (value p) (least p above high)
+    | inr within ↦ before p low within
+  ]
+
+  -- nor up to it, where it is of another class
+  pub none_through : (o p : Oop) → ((q : Oop) → after < q.0 → q.0 < o.0 → is_live t (value q) ≡ false) → is_instance t class (value o) ≡ false → start < p.0 → p.0 ≤ o.0 → is_instance t class (value p) ≡ false
+  none_through o p least other low high = elim (cases_eq p.0 o.0) [
+    | inl e ↦ subst (λ w. is_instance t class (value_of w) ≡ false) (sym e) other
+    | inr d ↦ none_below o p least low (omega (arith, high, d))
+  ]
+
+  -- nor anywhere, where none is live
+  pub none_left : (p : Oop) → ((q : Oop) → after < q.0 → is_live t (value q) ≡ false) → start < p.0 → is_instance t class (value p) ≡ false
+  none_left p none low = elim (cases_lt after p.0) [
+    | inl above ↦ gone_instance t class (value p) (none p above)
+    | inr within ↦ before p low within
+  ]
+
+-- an object whose class another word names is none of the class
+pub other_class : (t : Table) (found class : ℕ) (v : Value) → value_of found ≡ Ref (object_of t v).class → found ≢ class → is_instance t (value_of class) v ≡ false
+other_class t found class v is differ = other_instance t (value_of class) (value_of found) v is (λ q. differ (same_word found class (object_of t v).class is (sym q ∙ is)))

@@ -12,6 +12,7 @@ mod Tallying
 pub mod Beginning
 mod Holding
 pub mod Instances
+mod Kept
 mod Nothing
 mod Placed
 mod InBlocks
@@ -21,3 +22,4 @@ mod Listing
 mod Moved
 mod Below
 mod Slots
+pub mod Units

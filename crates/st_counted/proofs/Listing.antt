@@ -83,12 +83,6 @@ unused_stored o cs k stored unused = stored k (zero_counted (count_at cs k) unus
 pub first_end : (o : Objects) (first : ℕ) (cs : List (Option ℕ)) → Holds o.store first (is_unused cs) → AreStored o (is_counted cs) → IsEnd o first
 first_end o first cs h stored = λ ne. unused_stored o cs first stored (first_passes o.store first (is_unused cs) h ne)
 
-pub next_end : (o : Objects) (first k : ℕ) (cs : List (Option ℕ)) → Holds o.store first (is_unused cs) → AreStored o (is_counted cs) → is_unused cs k ≡ true → IsEnd o (next_of o.store k)
-next_end o first k cs h stored unused = λ ne. unused_stored o cs (next_of o.store k) stored (next_passes o.store first (is_unused cs) k h unused ne)
-
-pub before_end : (o : Objects) (first k : ℕ) (cs : List (Option ℕ)) → Holds o.store first (is_unused cs) → AreStored o (is_counted cs) → is_unused cs k ≡ true → IsEnd o (before_of o.store k)
-before_end o first k cs h stored unused = λ ne. unused_stored o cs (before_of o.store k) stored (before_passes o.store first (is_unused cs) k h unused ne)
-
 pub live_place : (t : Table) (k : ℕ) → is_some (entry t k) ≡ true → is_live t (Ref k) ≡ true
 unfolding is_live
 live_place t k h = h
@@ -129,6 +123,17 @@ same_end o o' k same h = λ ne. ap (λ (t : Table). is_some (entry t k)) same �
 pub half_of : (w k : ℕ) → w ≡ 2 * k → w / 2 ≡ k
 half_of w k e = omega (arith, e)
 
+-- what follows the object of a word in the list, and what stands before it, is an object or none
+pub next_end : (o : Objects) (c : Counts) (w k : ℕ) → w ≡ 2 * k → IsListed o c → is_unused (counts_of c) k ≡ true → IsEnd o (next_of o.store (w / 2))
+next_end o c w k two h unused =
+    let p = is_unused (counts_of c) in
+    subst (λ j. IsEnd o (next_of o.store j)) (sym (half_of w k two)) (λ ne. unused_stored o (counts_of c) (next_of o.store k) h.stored (next_passes o.store (place c.first) p k h.list unused ne))
+
+pub before_end : (o : Objects) (c : Counts) (w k : ℕ) → w ≡ 2 * k → IsListed o c → is_unused (counts_of c) k ≡ true → IsEnd o (before_of o.store (w / 2))
+before_end o c w k two h unused =
+    let p = is_unused (counts_of c) in
+    subst (λ j. IsEnd o (before_of o.store j)) (sym (half_of w k two)) (λ ne. unused_stored o (counts_of c) (before_of o.store k) h.stored (before_passes o.store (place c.first) p k h.list unused ne))
+
 -- one object leaves the list, and its count is another one
 pub listed_without : (o o' : Objects) (c c' : Counts) (w k : ℕ) (x : Option ℕ) → IsListed o c → is_unused (counts_of c) k ≡ true → is_zero x ≡ false → w / 2 ≡ k → counts_of c' ≡ set (counts_of c) k x → objects_of o' ≡ objects_of o
     → ((p : ℕ → Bool) → Holds o.store (place c.first) p → p (w / 2) ≡ true → Holds o'.store (place c'.first) (without_member (w / 2) p)) → IsListed o' c'
@@ -143,15 +148,12 @@ listed_without o o' c c' w k x h unused none_left half is same unlinks =
     }
 
 -- one comes into it
-pub listed_with : (o o' : Objects) (c c' : Counts) (w k : ℕ) (x : Option ℕ) → IsListed o c → k < length (counts_of c) → is_some (entry (objects_of o) k) ≡ true → is_unused (counts_of c) k ≡ false → is_zero x ≡ true → w / 2 ≡ k → c'.first.0 ≡ w → counts_of c' ≡ set (counts_of c) k x → objects_of o' ≡ objects_of o
-    → ((p : ℕ → Bool) → Holds o.store (place c.first) p → p (w / 2) ≡ false → Holds o'.store (w / 2) (with_member (w / 2) p)) → IsListed o' c'
-listed_with o o' c c' w k x h within here used none_left half first is same links =
+pub listed_with : (o o' : Objects) (c c' : Counts) (k : ℕ) (x : Option ℕ) → IsListed o c → k < length (counts_of c) → is_some (entry (objects_of o) k) ≡ true → is_zero x ≡ true → counts_of c' ≡ set (counts_of c) k x → objects_of o' ≡ objects_of o
+    → Holds o'.store (place c'.first) (with_member k (is_unused (counts_of c))) → IsListed o' c'
+listed_with o o' c c' k x h within here none_left is same links =
     let cs = counts_of c in
     record {
-      list = subst (λ ns. Holds o'.store (place c'.first) (is_unused ns)) (sym is)
-          (relisted o'.store (place c'.first) cs k x true within none_left
-          (subst (λ v. Holds o'.store (v / 2) (with_member k (is_unused cs))) (sym first)
-          (subst (λ j. Holds o'.store (w / 2) (with_member j (is_unused cs))) half (links (is_unused cs) h.list (ap (is_unused cs) half ∙ used)))));
+      list = subst (λ ns. Holds o'.store (place c'.first) (is_unused ns)) (sym is) (relisted o'.store (place c'.first) cs k x true within none_left links);
       stored = subst (λ ns. AreStored o' (is_counted ns)) (sym is) (stored_set o o' cs k x same here h.stored);
     }
 
@@ -169,6 +171,10 @@ pub live_with : (t : Table) (o : Value) (i : ℕ) (x : Value) (k : ℕ) → is_s
 unfolding with_stored
 live_with t (Small n) i x k = refl
 live_with t (Ref n) i x k = live_changed t n k (with_field (object_of t (Ref n)) i x)
+
+-- the list stands where a field is stored
+pub stored_listed : (o o' : Objects) (c : Counts) (x : Value) (i : ℕ) (y : Value) → IsListed o c → SameLinks o.store o'.store → objects_of o' ≡ with_stored (objects_of o) x i y → IsListed o' c
+stored_listed o o' c x i y h same is = relinked o o' c h same (λ k counted. ap (λ (t : Table). is_some (entry t k)) is ∙ live_with (objects_of o) x i y k ∙ h.stored k counted)
 
 -- the object that went has no count
 pub gone_unused : (t : Table) (f : ℕ → ℕ) (cs : List (Option ℕ)) (k : ℕ) → IsTallied (slice_set t k None) f cs → is_unused cs k ≡ false

@@ -1,5 +1,5 @@
 -- Where objects stand while others go.
-use Rattle.std.proofs.Common.{◌≡◌, ◌≢◌, ℕ, zero, suc, true, false, [], ◌∷◌, set, is_some, refl, sym, ap, ◌∙◌, subst}
+use Rattle.std.proofs.Common.{◌≡◌, ◌≢◌, ℕ, zero, suc, true, [], ◌∷◌, set, is_some, refl, sym, ap, ◌∙◌, subst}
 use Rattle.std.specs.Prelude.{None, slice_set}
 use Rattle.std.proofs.lemmas.Bool.{false≢true}
 use Rattle.st_model.specs.Values.{Value, Small, Ref}

@@ -5,7 +5,7 @@ use Rattle.std.proofs.lemmas.List.{map-set, get_or-map}
 use Rattle.st_counted.specs.declared.counts.Slot.{Slot}
 use Rattle.st_counted.specs.Counts.{count_at, is_counted, number_at, is_zero, is_unused}
 use Rattle.st_counted.specs.Slots.{no_count, count_in, counts_in}
-use Rattle.st_counted.proofs.ZeroList.{counted_within, none_still}
+use Rattle.st_counted.proofs.ZeroList.{counted_within, none_still, not_here}
 
 pub length_counts : (ss : List Slot) → length (counts_in ss) ≡ length ss
 unfolding counts_in
@@ -73,3 +73,7 @@ as_many cs cs' k x is long = ap length is ∙ length-set cs k x ∙ long
 
 pub none_first_still : (cs cs' : List (Option ℕ)) (k : ℕ) (x : Option ℕ) → cs' ≡ set cs k x → count_at cs 0 ≡ None → k ≢ 0 → count_at cs' 0 ≡ None
 none_first_still cs cs' k x is none some = ap (λ (ns : List (Option ℕ)). count_at ns 0) is ∙ none_still cs k x none some
+
+-- so it is where a place that is counted changes
+pub counts_still : (cs cs' : List (Option ℕ)) (k : ℕ) (x : Option ℕ) → cs' ≡ set cs k x → length cs ≡ 32768 → count_at cs 0 ≡ None → is_counted cs k ≡ true → record { places : length cs' ≡ 32768; none_first : count_at cs' 0 ≡ None }
+counts_still cs cs' k x is long none counted = record { places = as_many cs cs' k x is long; none_first = none_first_still cs cs' k x is none (not_here cs k none counted) }

@@ -5,17 +5,24 @@ use Rattle.std.proofs.lemmas.Option.{get_or_from_slice_get}
 use Rattle.st_model.specs.declared.kind.Kind.{Kind}
 use Rattle.st_model.specs.declared.kind.Kind.TheVariants as kind
 use Rattle.std.proofs.lemmas.List.{length-replicate}
-use Rattle.st_model.specs.Values.{Value, Small, Ref, value_of, is_small}
+use Rattle.st_model.specs.declared.oop.Oop.{Oop}
+use Rattle.st_model.specs.declared.place.RootPlace.{RootPlace}
+use Rattle.st_model.specs.Values.{Value, Small, Ref, value, value_of, is_small}
 use Rattle.st_model.specs.Objects.{nil}
 use Rattle.st_model.specs.Formed.{fresh, IsMakeable}
 use Rattle.st_model.specs.Settled.{names}
 use Rattle.st_model.specs.Table.{Table, entry, first_free, placed}
-use Rattle.st_model.specs.View.{View, is_live, object_of, with_stored, IsKnown}
+use Rattle.st_model.specs.View.{View, is_live, object_of, with_stored, with_held, held_at, IsKnown, IsPlace}
 use Rattle.st_model.proofs.Pointers.{value_of-even}
 use Rattle.st_model.proofs.TableLemmas.{first_free-none}
 use Rattle.st_counted.specs.Counts.{is_counted, number_at, raised, lowered}
+use Rattle.st_heap.specs.Tables.{objects_of}
+use Rattle.st_counted.specs.declared.contents.Contents.{Contents}
+use Rattle.st_counted.specs.Counted.{counted_view, numbers_of, AllCounted}
 use Rattle.st_counted.specs.References.{all_roots, nils_of, references, IsCounted, raised_by, lowered_by}
-use Rattle.st_counted.proofs.Tallying.{test_same, test_other, times_replicate, hand_known, live_known, counted_raised, counted_lowered, counted_less, counted_alike, tally_entered, tally_number}
+use Rattle.st_counted.proofs.Linked.{test_same, test_other}
+use Rattle.st_counted.proofs.Tallying.{known_counted, times_replicate, hand_known, live_known, counted_raised, counted_lowered, counted_less, counted_alike, tally_entered, tally_number}
+use Rattle.st_counted.proofs.Rooting.{counted_held}
 use Rattle.st_counted.proofs.Referring.{counted_stored, counted_placed, uses_fresh}
 
 pub nil_is : value_of 2 ≡ nil
@@ -38,6 +45,16 @@ raised_to t roots hand cs cs1 v n h known e = subst (λ ns. IsCounted t roots (r
 
 pub lowered_to : (t : Table) (roots hand : List Value) (cs cs1 : List (Option ℕ)) (v : Value) → IsCounted t roots (v ∷ hand) cs → cs1 ≡ lowered_by cs v → IsCounted t roots hand cs1
 lowered_to t roots hand cs cs1 v h e = subst (λ ns. IsCounted t roots hand ns) (sym e) (counted_lowered t roots hand cs v h)
+
+-- what is stored or held is counted
+pub name_counted : (m : Contents) (o : Oop) → AllCounted m → IsKnown (objects_of m.objects) (value o) → is_small (value o) ≡ false → is_counted (numbers_of m) (o.0 / 2) ≡ true
+name_counted m o h = let v = counted_view m in known_counted v.objects (references v.objects (all_roots v) []) (numbers_of m) o.0 h.tallied
+
+-- what a place held is in hand
+pub held : (v w : View) (cs cs1 : List (Option ℕ)) (p : RootPlace) (x old : Value) → IsCounted v.objects (all_roots v) [] cs → IsKnown v.objects x → IsPlace p → length v.held.devices.pending ≡ 4096
+    → cs1 ≡ raised_by cs x 1 → w.objects ≡ v.objects → w.held ≡ with_held v.held p x → w.head ≡ v.head → old ≡ held_at v.held p → IsCounted w.objects (all_roots w) (old ∷ []) cs1
+held v w cs cs1 p x old h known is long raise objects place head was =
+    subst (λ (y : Value). IsCounted w.objects (all_roots w) (y ∷ []) cs1) (sym was) (counted_held v w [] cs1 p x (raised_to v.objects (all_roots v) [] cs cs1 x 1 h known raise) is long objects place head)
 
 -- the old value of a field is in hand
 pub stored : (v : View) (cs cs1 : List (Option ℕ)) (t1 : Table) (o : Value) (i : ℕ) (x old : Value) → IsCounted v.objects (all_roots v) [] cs → IsKnown v.objects x → is_live v.objects o ≡ true

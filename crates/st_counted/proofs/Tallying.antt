@@ -8,23 +8,12 @@ use Rattle.st_model.specs.Settled.{names}
 use Rattle.st_model.specs.View.{is_live, IsKnown}
 use Rattle.st_model.proofs.Pointers.{value_of-even}
 use Rattle.st_counted.specs.Counts.{count_at, is_counted, number_at, raised, lowered}
+use Rattle.st_counted.proofs.Linked.{test_other, test_same, same_test, other_test}
 use Rattle.st_counted.proofs.ZeroList.{counted_within}
 use Rattle.st_counted.specs.References.{times, IsTallied, references, IsCounted, IsEntered, raised_by, lowered_by}
 
 abbrev pub one_if : Bool → ℕ
 one_if b = cond b 1 0
-
-pub test_other : (a b : ℕ) → a ≢ b → (a == b) ≡ false
-test_other a b h = grind arith
-
-pub test_same : (a : ℕ) → (a == a) ≡ true
-test_same a = grind arith
-
-pub same_test : (a b : ℕ) → (a == b) ≡ true → a ≡ b
-same_test a b h = grind arith
-
-pub other_test : (a b : ℕ) → (a == b) ≡ false → a ≢ b
-other_test a b h e = grind arith
 
 -- the same numbers
 pub tally_same : (t : Table) (f g : ℕ → ℕ) (cs : List (Option ℕ)) → IsTallied t f cs → ((j : ℕ) → g j ≡ f j) → IsTallied t g cs

@@ -7,8 +7,8 @@ use Rattle.std.proofs.lemmas.List.{get_or-set_same, get_or-set_other}
 use Rattle.st_heap.specs.declared.store.Store.{Store}
 use Rattle.st_heap.specs.Links.{next_of, before_of}
 use Rattle.st_counted.specs.Links.{times, IsLinked, Listed, Holds}
-use Rattle.st_counted.specs.Counts.{count_at, is_counted, is_zero, is_unused}
-use Rattle.st_counted.proofs.Linked.{same_test, other_test, begins}
+use Rattle.st_counted.specs.Counts.{count_at, number_at, is_counted, is_zero, is_unused}
+use Rattle.st_counted.proofs.Linked.{same_test, other_test, test_other, begins}
 
 -- the same places pass
 pub holds_alike : (s : Store) (first : ℕ) (p q : ℕ → Bool) → Holds s first p → ((o : ℕ) → q o ≡ p o) → Holds s first q
@@ -93,3 +93,14 @@ holds_nothing s first p e none = record { list = []; chain = e; exact = λ k. ap
 
 pub test_of : (a b : ℕ) → a ≡ b → (a == b) ≡ true
 test_of a b e = grind arith
+
+-- a place that is counted is unused where its number is 0, and used where it is another
+pub zero_unused : (cs : List (Option ℕ)) (k n : ℕ) → is_counted cs k ≡ true → n ≡ number_at cs k → n ≡ 0 → is_unused cs k ≡ true
+zero_unused cs k n counted is none = number_zero (count_at cs k) counted ∙ test_of (number_at cs k) 0 (sym is ∙ none)
+
+pub some_used : (cs : List (Option ℕ)) (k : ℕ) → is_counted cs k ≡ true → number_at cs k ≢ 0 → is_unused cs k ≡ false
+some_used cs k counted some = number_zero (count_at cs k) counted ∙ test_other (number_at cs k) 0 some
+
+-- so it is used where its number can be lowered
+pub lowered_used : (cs : List (Option ℕ)) (k by : ℕ) → is_counted cs k ≡ true → 0 < by → by ≤ number_at cs k → is_unused cs k ≡ false
+lowered_used cs k by counted some most = some_used cs k counted (λ q. absurd (omega (arith, q, some, most)))

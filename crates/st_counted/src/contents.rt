@@ -11,7 +11,7 @@ ghost use Rattle.st_counted.specs.Links.{IsListed};
 ghost use Rattle.st_counted.specs.Contents.{counts_of};
 ghost use Rattle.st_counted.specs.References.{all_roots, nils_of, IsCounted};
 
-use crate::counting::{lower, raise};
+use crate::counting::{count_store, lower, names_unused, raise};
 use crate::counts::Counts;
 use crate::links::pointer_of;
 use crate::roots::Roots;
@@ -110,6 +110,10 @@ impl Contents {
     {
         let old = self.objects.placed_field(o, stand, at);
         self.objects.set_placed_field(o, stand, at, v);
+        if names_unused(&self.counts, v) {
+            count_store(&mut self.counts, &mut self.objects, v, old);
+            return;
+        }
         raise(&mut self.counts, &mut self.objects, v, 1);
         lower(&mut self.counts, &mut self.objects, old);
     }

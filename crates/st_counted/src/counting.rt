@@ -1,7 +1,7 @@
-ghost use Rattle.std.specs.Prelude.{◌≡◌, ◌≢◌, ◌<◌, ◌+◌, ◌/◌, ℕ, true, false};
+ghost use Rattle.std.specs.Prelude.{◌≡◌, ◌≢◌, ◌<◌, ◌+◌, ◌/◌, ℕ, true, false, if◌then◌else◌};
 ghost use Rattle.st_model.specs.Values.{value, is_small};
 ghost use Rattle.st_table.specs.Entries.{place};
-ghost use Rattle.st_counted.specs.Counts.{is_counted, number_at};
+ghost use Rattle.st_counted.specs.Counts.{is_counted, number_at, is_unused};
 ghost use Rattle.st_heap.specs.Places.{SamePlaces};
 ghost use Rattle.st_heap.specs.Tables.{objects_of, room_of};
 ghost use Rattle.st_counted.specs.Links.{IsListed};
@@ -42,6 +42,16 @@ pub fn raise(counts: &mut Counts, objects: &mut Objects, v: Oop, by: u32)
     }
 }
 
+/// Whether a word names an object to which nothing refers; a SmallInteger names nothing.
+#[inline(always)]
+pub fn names_unused(counts: &Counts, v: Oop) -> bool
+    requires { is_small (value v) ≡ false → is_counted (counts_of counts.now) (place v) ≡ true }
+    ensures { let unused = is_unused (counts_of counts.now) (place v) in
+        result ≡ (if is_small (value v) then false else unused) }
+{
+    !v.is_small() && counts.count(usize::from(v.0 / 2)) == 0
+}
+
 /// Counts one reference less to what a word names; a SmallInteger names nothing.
 #[inline(always)]
 pub fn lower(counts: &mut Counts, objects: &mut Objects, v: Oop)
@@ -57,4 +67,26 @@ pub fn lower(counts: &mut Counts, objects: &mut Objects, v: Oop)
     if !v.is_small() {
         counts.lower(objects, usize::from(v.0 / 2), 1);
     }
+}
+
+/// Counts what a store changes: one reference more to what it stores, and then one less to what stood there. It stands apart for
+/// objects to which nothing referred, so that a store of any other one calls nothing.
+#[inline(never)]
+pub fn count_store(counts: &mut Counts, objects: &mut Objects, new: Oop, old: Oop)
+    requires counted { is_small (value new) ≡ false → is_counted (counts_of counts.old) (place new) ≡ true }
+    requires room { number_at (counts_of counts.old) (place new) + 1 < 4294967296 }
+    requires listed { IsListed objects.old counts.old }
+    requires stood { let more = raised_by (counts_of counts.old) (value new) 1 in
+        is_small (value old) ≡ false → is_counted more (place old) ≡ true }
+    requires some { let more = raised_by (counts_of counts.old) (value new) 1 in
+        is_small (value old) ≡ false → number_at more (place old) ≢ 0 }
+    ensures listed { IsListed objects.new counts.new }
+    ensures objects { objects_of objects.new ≡ objects_of objects.old }
+    ensures room { room_of objects.new ≡ room_of objects.old }
+    ensures places { SamePlaces objects.old.store objects.new.store }
+    ensures counts { let more = raised_by (counts_of counts.old) (value new) 1 in
+        counts_of counts.new ≡ lowered_by more (value old) }
+{
+    raise(counts, objects, new, 1);
+    lower(counts, objects, old);
 }

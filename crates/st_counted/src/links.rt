@@ -20,7 +20,6 @@ pub fn pointer_of(k: usize) -> Oop
 }
 
 /// Puts an object that is not in the list at its head, and answers the head.
-#[inline(never)]
 pub fn link(objects: &mut Objects, first: Oop, o: Oop) -> Oop
     requires stored { is_some (entry (objects_of objects.old) (place o)) ≡ true }
     requires head { IsEnd objects.old (place first) }

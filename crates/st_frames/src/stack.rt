@@ -1,16 +1,28 @@
-ghost use Rattle.std.specs.Prelude.{◌≡◌, ◌<◌, ◌≤◌, ◌+◌, ◌≤ℤ◌, pos, negsuc, OnOk};
-ghost use Rattle.st_model.specs.Values.{word};
+ghost use Rattle.std.specs.Prelude.{◌≡◌, ℕ, Err, ◌<◌, ◌≤◌, ◌+◌, ◌≤ℤ◌, pos, negsuc, OnOk};
+ghost use Rattle.st_model.specs.Values.{Value, word};
 ghost use Rattle.st_model.specs.Steps.{put, push, top, pop, under, look_at_words, drop_words, jump, set_sp};
-ghost use Rattle.st_model.specs.Calls.{itself};
+ghost use Rattle.st_model.specs.Calls.{Reads, itself};
 ghost use Rattle.st_frames.specs.Rows.{RowReads, RowMoves, RowDoes, Takes};
 
 use crate::registers::Registers;
 use st_memory::Objects;
 use st_model::{Dead, Word};
 
+/// Why nothing is put in a place above 16388: the cause of which a count of the fields dies, else the place.
+#[inline(never)]
+fn fault_above<O: Objects>(m: &O, context: Word) -> Dead
+    ensures { (at : ℕ) (x : Value) → 16388 < at → Reads (put O.names (word context) at x) itself
+        (O.table m.now) (Err result) }
+{
+    match m.count_fields(context) {
+        Ok(_) => Dead::Sp,
+        Err(cause) => cause,
+    }
+}
+
 /// Puts x in a place of a context's stack: within its fields, and at most 16388.
 #[inline(always)]
-#[tactic(auto, using(crate::proofs::Doing::checks), unfolding(st_model::specs::Steps::put))]
+#[tactic(auto, using(crate::proofs::Doing::rows, crate::proofs::Putting::puts))]
 fn put<O: Objects>(m: &mut O, r: &Registers, context: Word, at: u32, x: Word) -> Result<(), Dead>
     requires room { 1 ≤ O.room m.old }
     ensures does { RowDoes O.Objects.own (put O.names (word context) at (word x))
@@ -18,14 +30,13 @@ fn put<O: Objects>(m: &mut O, r: &Registers, context: Word, at: u32, x: Word) ->
     ensures high { OnOk result (at ≤ 16388) }
     ensures takes { Takes O.Objects.own 1 m.old m.new }
 {
-    let fields = m.count_fields(context)?;
-    if fields <= at {
-        return Err(Dead::Sp);
-    }
     if 16388 < at {
-        return Err(Dead::Sp);
+        return Err(fault_above(m, context));
     }
-    m.store_field(context, at, x)
+    match m.store_field(context, at, x) {
+        Err(Dead::Field) => Err(Dead::Sp),
+        done => done,
+    }
 }
 
 /// Moves the top of the stack to a place of the active context.

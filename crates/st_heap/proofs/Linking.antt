@@ -1,15 +1,20 @@
 -- The links of entries, where entries change.
-use Rattle.std.proofs.Common.{◌≡◌, ◌≢◌, ℕ, zero, suc, ◌<◌, Bool, true, false, List, [], ◌∷◌, Option, Some, None, length, get_or, set, is_some, refl, sym, ap, ◌∙◌, arith, length-set}
+use Rattle.std.proofs.Common.{◌≡◌, ◌≢◌, ℕ, zero, suc, ◌<◌, Bool, true, false, List, [], ◌∷◌, Option, Some, None, length, get_or, set, is_some, refl, sym, ap, ◌∙◌, subst, arith, length-set}
 use Rattle.std.specs.Prelude.{◌==◌}
+use Rattle.std.specs.Option.{option_map}
 use Rattle.std.proofs.lemmas.List.{get_or-set_same, get_or-set_other}
 use Rattle.st_model.specs.declared.oop.Oop.{Oop}
 use Rattle.st_table.specs.declared.entry.Entry.{Entry}
 use Rattle.st_table.specs.Entries.{place, with_next, with_before}
 use Rattle.st_heap.specs.declared.block.Block.{Block}
 use Rattle.st_heap.specs.Blocks.{moved_entry, IsTied}
-use Rattle.st_heap.specs.Stored.{stored_all, slot}
+use Rattle.st_heap.specs.declared.store.Store.{Store}
+use Rattle.st_heap.specs.Heaps.{words_of, blocks_of}
+use Rattle.st_heap.specs.Places.{place_in}
+use Rattle.st_heap.specs.Stored.{stored_at, stored_all, slot, used_of, AreTied}
+use Rattle.st_heap.specs.Stores.{stored_of}
 use Rattle.st_heap.specs.Links.{next_in, before_in}
-use Rattle.st_heap.proofs.Tying.{tied_entry}
+use Rattle.st_heap.proofs.Tying.{tied_entry, tied_of, are_tied}
 
 pub next_moved : (x : Option Entry) (at : ℕ) → next_in (moved_entry x at) ≡ next_in x
 next_moved None at = refl
@@ -41,40 +46,18 @@ set_twice read es a b u v x y ina inb first second j = by_second (j == b) refl
     by_second true q = ap (λ k. read (get_or (set (set one a x) b y) k None)) (same_place j b q) ∙ ap read (get_or-set_same (set one a x) b y None (rw (length-set, length-set, length-set) inb)) ∙ second ∙ ap (λ k. read (get_or es k None)) (sym (same_place j b q))
     by_second false q = ap read (get_or-set_other (set one a x) b j y None (other_place j b q)) ∙ by_first (j == a) refl (other_place j b q)
 
--- another entry with the same parts is set
-module _ (with : Option Entry → Option Entry) (none : with None ≡ None) where
-  pub stored_alike : (ws : List ℕ) (bs : List Block) (es : List (Option Entry)) (k : ℕ) → ((x : Option Entry) → stored_all ws bs (with x ∷ []) ≡ stored_all ws bs (x ∷ [])) → stored_all ws bs (set es k (with (get_or es k None))) ≡ stored_all ws bs es
-  stored_alike ws bs [] k same = refl
-  stored_alike ws bs (x ∷ es) zero same = ap (λ l. get_or l 0 None ∷ stored_all ws bs es) (same x)
-  stored_alike ws bs (x ∷ es) (suc k) same = ap (λ l. get_or (stored_all ws bs (x ∷ [])) 0 None ∷ l) (stored_alike ws bs es k same)
+-- what an entry becomes that has other links, and keeps its place, its kind and its mark
+pub record Relinks (with : Option Entry → Option Entry) : Type 0 where
+  pub next : Entry → Oop
+  pub before : Entry → Oop
+  pub none : with None ≡ None
+  pub some : (e : Entry) → with (Some e) ≡ Some (record { at = e.at; kind = e.kind; odd = e.odd; next = next e; before = before e })
 
-pub stored_next : (ws : List ℕ) (bs : List Block) (es : List (Option Entry)) (k : ℕ) (o : Oop) → stored_all ws bs (set es k (with_next (get_or es k None) o)) ≡ stored_all ws bs es
-stored_next ws bs es k o = stored_alike (λ x. with_next x o) refl ws bs es k (λ x. alike x)
-  where
-    alike : (x : Option Entry) → stored_all ws bs (with_next x o ∷ []) ≡ stored_all ws bs (x ∷ [])
-    alike None = refl
-    alike (Some e) = refl
+pub next_relinks : (o : Oop) → Relinks (λ x. with_next x o)
+next_relinks o = record { next = λ e. o; before = λ e. e.before; none = refl; some = λ e. refl }
 
-pub stored_before : (ws : List ℕ) (bs : List Block) (es : List (Option Entry)) (k : ℕ) (o : Oop) → stored_all ws bs (set es k (with_before (get_or es k None) o)) ≡ stored_all ws bs es
-stored_before ws bs es k o = stored_alike (λ x. with_before x o) refl ws bs es k (λ x. alike x)
-  where
-    alike : (x : Option Entry) → stored_all ws bs (with_before x o ∷ []) ≡ stored_all ws bs (x ∷ [])
-    alike None = refl
-    alike (Some e) = refl
-
-pub tied_next : (es : List (Option Entry)) (bs : List Block) (k : ℕ) (o : Oop) → IsTied es bs → is_some (get_or es k None) ≡ true → IsTied (set es k (with_next (get_or es k None) o)) bs
-tied_next es bs k o tied there = by_entry (get_or es k None) refl there
-  where
-    by_entry : (x : Option Entry) → get_or es k None ≡ x → is_some x ≡ true → IsTied (set es k (with_next x o)) bs
-    by_entry None is h = cc
-    by_entry (Some e) is h = tied_entry es bs k e _ tied is refl
-
-pub tied_before : (es : List (Option Entry)) (bs : List Block) (k : ℕ) (o : Oop) → IsTied es bs → is_some (get_or es k None) ≡ true → IsTied (set es k (with_before (get_or es k None) o)) bs
-tied_before es bs k o tied there = by_entry (get_or es k None) refl there
-  where
-    by_entry : (x : Option Entry) → get_or es k None ≡ x → is_some x ≡ true → IsTied (set es k (with_before x o)) bs
-    by_entry None is h = cc
-    by_entry (Some e) is h = tied_entry es bs k e _ tied is refl
+pub before_relinks : (o : Oop) → Relinks (λ x. with_before x o)
+before_relinks o = record { next = λ e. e.next; before = λ e. o; none = refl; some = λ e. refl }
 
 pub next_here : (x : Option Entry) (o : Oop) → is_some x ≡ true → next_in (with_next x o) ≡ place o
 next_here None o h = cc
@@ -93,7 +76,7 @@ next_beside None o = refl
 next_beside (Some e) o = refl
 
 -- what is read of entries stands where one is set of which it is read alike
-pub set_alike : (read : Option Entry → ℕ) (es : List (Option Entry)) (k : ℕ) (x : Option Entry) → read x ≡ read (get_or es k None) → (j : ℕ) → read (get_or (set es k x) j None) ≡ read (get_or es j None)
+set_alike : {A : Type 0} (read : Option Entry → A) (es : List (Option Entry)) (k : ℕ) (x : Option Entry) → read x ≡ read (get_or es k None) → (j : ℕ) → read (get_or (set es k x) j None) ≡ read (get_or es j None)
 set_alike read [] k x same j = refl
 set_alike read (y ∷ es) zero x same zero = same
 set_alike read (y ∷ es) zero x same (suc j) = refl
@@ -111,3 +94,53 @@ pub entered_inside : (es : List (Option Entry)) (k : ℕ) → is_some (get_or es
 entered_inside [] k h = cc
 entered_inside (x ∷ es) zero h = omega arith
 entered_inside (x ∷ es) (suc k) h = let s = entered_inside es k h in omega (arith, s)
+
+-- what a store says of itself with other entries
+pub record StaysWith (s : Store) (es : List (Option Entry)) : Type 0 where
+  pub tied : AreTied es (blocks_of s.heap)
+  pub places : length es ≡ 32768
+  pub counted : s.used ≡ used_of (stored_all (words_of s.heap) (blocks_of s.heap) es)
+
+-- a store in which the entry at a place has other links
+module _ (with : Option Entry → Option Entry) (relinks : Relinks with) (s : Store) (k : ℕ) (es : List (Option Entry)) (is : es ≡ set s.table k (with (get_or s.table k None))) (there : is_some (slot (stored_of s) k) ≡ true) where
+  pub has_entry : is_some (get_or s.table k None) ≡ true
+  has_entry = stored_entered (words_of s.heap) (blocks_of s.heap) s.table k there
+
+  pub relinked_stored : stored_all (words_of s.heap) (blocks_of s.heap) es ≡ stored_of s
+  relinked_stored = ap (λ l. stored_all (words_of s.heap) (blocks_of s.heap) l) is ∙ by_list s.table k
+    where
+      same : (x : Option Entry) → option_map (stored_at (words_of s.heap) (blocks_of s.heap)) (with x) ≡ option_map (stored_at (words_of s.heap) (blocks_of s.heap)) x
+      same None = ap (option_map (stored_at (words_of s.heap) (blocks_of s.heap))) relinks.none
+      same (Some e) = ap (option_map (stored_at (words_of s.heap) (blocks_of s.heap))) (relinks.some e)
+
+      by_list : (l : List (Option Entry)) (n : ℕ) → stored_all (words_of s.heap) (blocks_of s.heap) (set l n (with (get_or l n None))) ≡ stored_all (words_of s.heap) (blocks_of s.heap) l
+      by_list [] n = refl
+      by_list (x ∷ l) zero = ap (λ y. y ∷ stored_all (words_of s.heap) (blocks_of s.heap) l) (same x)
+      by_list (x ∷ l) (suc n) = ap (λ r. option_map (stored_at (words_of s.heap) (blocks_of s.heap)) x ∷ r) (by_list l n)
+
+  pub relinked_stays : StaysWith s es
+  relinked_stays = record {
+    tied = are_tied es (blocks_of s.heap) (subst (λ (l : List (Option Entry)). IsTied l (blocks_of s.heap)) (sym is) (by_entry (get_or s.table k None) refl has_entry));
+    places = ap (λ (l : List (Option Entry)). length l) is ∙ length-set s.table k (with (get_or s.table k None)) ∙ s.places;
+    counted = s.counted ∙ sym (ap used_of relinked_stored);
+  }
+    where
+      by_entry : (x : Option Entry) → get_or s.table k None ≡ x → is_some x ≡ true → IsTied (set s.table k (with x)) (blocks_of s.heap)
+      by_entry None at h = cc
+      by_entry (Some e) at h = subst (λ (y : Option Entry). IsTied (set s.table k y) (blocks_of s.heap)) (sym (relinks.some e)) (tied_entry s.table (blocks_of s.heap) k e _ (tied_of s.table (blocks_of s.heap) s.tied) at refl)
+
+  pub relinked_here : (read : Option Entry → ℕ) → read (get_or es k None) ≡ read (with (get_or s.table k None))
+  relinked_here read = ap (λ (l : List (Option Entry)). read (get_or l k None)) is ∙ ap read (get_or-set_same s.table k (with (get_or s.table k None)) None (entered_inside s.table k has_entry))
+
+  pub relinked_other : (read : Option Entry → ℕ) (j : ℕ) → j ≢ k → read (get_or es j None) ≡ read (get_or s.table j None)
+  relinked_other read j ne = ap (λ (l : List (Option Entry)). read (get_or l j None)) is ∙ ap read (get_or-set_other s.table k j (with (get_or s.table k None)) None ne)
+
+  pub relinked_beside : {A : Type 0} (read : Option Entry → A) → ((x : Option Entry) → read (with x) ≡ read x) → (j : ℕ) → read (get_or es j None) ≡ read (get_or s.table j None)
+  relinked_beside read same j = ap (λ (l : List (Option Entry)). read (get_or l j None)) is ∙ set_alike read s.table k (with (get_or s.table k None)) (same (get_or s.table k None)) j
+
+  pub relinked_places : (j : ℕ) → place_in (get_or es j None) ≡ place_in (get_or s.table j None)
+  relinked_places = relinked_beside place_in same
+    where
+      same : (x : Option Entry) → place_in (with x) ≡ place_in x
+      same None = ap place_in relinks.none
+      same (Some e) = ap place_in (relinks.some e)

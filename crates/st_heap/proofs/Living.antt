@@ -108,11 +108,8 @@ count_bytes s odd bytes is =
     length-units s ∙ ap (λ b. if b then length s.cells - (2 + field_count s) else 2 * (length s.cells - (2 + field_count s)) - (if s.odd then 1 else 0)) bytes
     ∙ ap (λ b. 2 * (length s.cells - (2 + field_count s)) - (if b then 1 else 0)) is
 
--- the word that a unit is in is within
-pub word_within : (s : Stored) (at : ℕ) → IsSound s → is_words s.kind ≡ true → at < length (object_from s).units → 2 + field_count s + at < length s.cells
-word_within s at sound words l = let count = count_words s words in let f = sound.fields in omega (arith, l, count, f)
-
-pub byte_within : (s : Stored) (at : ℕ) → IsSound s → is_words s.kind ≡ false → at < length (object_from s).units → 2 + field_count s + at / 2 < length s.cells
+-- the word that a byte is in is within
+byte_within : (s : Stored) (at : ℕ) → IsSound s → is_words s.kind ≡ false → at < length (object_from s).units → 2 + field_count s + at / 2 < length s.cells
 byte_within s at sound bytes l =
     let odd : ℕ = if s.odd then 1 else 0 in
     let count : length (object_from s).units ≡ 2 * (length s.cells - (2 + field_count s)) - odd = count_bytes s s.odd bytes refl in

@@ -1,10 +1,12 @@
 -- A block that moves down to where the blocks before it end.
-use Rattle.std.proofs.Common.{◌≡◌, ◌≢◌, ℕ, ◌+◌, ◌-◌, ◌*◌, ◌/◌, ◌%◌, ◌<◌, ◌≤◌, Bool, true, false, List, zero, suc, Option, Some, None, length, get_or, set, drop, refl, sym, ap, ◌∙◌, arith, length-set}
+use Rattle.std.proofs.Common.{◌≡◌, ◌≢◌, ℕ, ◌+◌, ◌-◌, ◌*◌, ◌/◌, ◌%◌, ◌<◌, ◌≤◌, Bool, true, false, List, zero, suc, Option, Some, None, length, get_or, set, drop, refl, sym, ap, ◌∙◌, subst, arith, length-set}
 use Rattle.std.specs.Prelude.{◌==◌, nat_lt}
 use Rattle.std.proofs.lemmas.List.{get_or-set_same, get_or-set_other, drop-set-lt}
 use Rattle.st_table.specs.declared.entry.Entry.{Entry}
 use Rattle.st_cells.specs.Words.{slid}
 use Rattle.st_heap.specs.declared.block.Block.{Block}
+use Rattle.st_heap.specs.declared.heap.Heap.{Heap}
+use Rattle.st_heap.specs.Heaps.{words_of, blocks_of}
 use Rattle.st_heap.specs.Blocks.{none, block, block_at, with_place, moved, taken, held, IsLaid, IsTied, IsClosedBelow, IsAbove, KeepsBlocks, entry_at, moved_entry}
 use Rattle.st_heap.proofs.Laying.{by_set, taken_unowned, taken_owned, held_set, FitsAt, laid_set, none_fits, entered_owner, entry_inside, same_entry}
 
@@ -265,3 +267,23 @@ module _ (ws : List ℕ) (bs : List Block) (end free k to : ℕ) (laid : IsLaid 
         word q f i is' under false m =
             let ne : q ≢ b.owner.0 / 2 = λ z. grind (arith, m, z) in
             ap (λ j. get_or v (j + i) 0) (other_entry q f ne is') ∙ slid_outside v (f.at + i) slide (outside q f i is' under ne)
+
+-- the same where a block that was read is moved
+module _ (h : Heap) (k to : ℕ) (within : k < length (blocks_of h)) (closed : IsClosedBelow (blocks_of h) k to) (above : IsAbove (blocks_of h) k to) (b : Block) (is : b ≡ block (blocks_of h) k) (some : b.owner.0 ≢ 0) (new : List Block) (moves : new ≡ moved (blocks_of h) k to) where
+  owned : (block (blocks_of h) k).owner.0 ≢ 0
+  owned z = some (ap (λ (c : Block). c.owner.0) is ∙ z)
+
+  down : to ≤ (block (blocks_of h) k).at
+  down = above k (omega arith) (h.laid.owned k owned)
+
+  pub read_closed : IsClosedBelow new (k + 1) (to + b.len)
+  read_closed =
+      let P : List Block → Type 0 = λ bs. IsClosedBelow bs (k + 1) (to + b.len) in
+      let Q : Block → Type 0 = λ c. IsClosedBelow (moved (blocks_of h) k to) (k + 1) (to + c.len) in
+      subst P (sym moves) (subst Q (sym is) (closed_moved (words_of h) (blocks_of h) h.end h.free k to h.laid within owned down closed))
+
+  pub read_above : IsAbove new (k + 1) (to + b.len)
+  read_above =
+      let P : List Block → Type 0 = λ bs. IsAbove bs (k + 1) (to + b.len) in
+      let Q : Block → Type 0 = λ c. IsAbove (moved (blocks_of h) k to) (k + 1) (to + c.len) in
+      subst P (sym moves) (subst Q (sym is) (above_moved (words_of h) (blocks_of h) h.end h.free k to h.laid within owned down closed))

@@ -1,8 +1,7 @@
 -- What is read and written at the place of a block.
-use Rattle.std.proofs.Common.{◌≡◌, ◌≢◌, ℕ, zero, suc, ◌/◌, ◌%◌, List, [], ◌∷◌, Option, Some, None, get_or, set, refl, sym, ap, ◌∙◌, subst}
+use Rattle.std.proofs.Common.{◌≡◌, ◌≢◌, ℕ, ◌/◌, List, Option, Some, None, get_or, set, refl, sym, ap, ◌∙◌, subst}
 use Rattle.std.proofs.lemmas.List.{get_or-set_other}
 use Rattle.st_table.specs.declared.entry.Entry.{Entry}
-use Rattle.st_table.specs.Entries.{with_next, with_before}
 use Rattle.st_model.specs.declared.oop.Oop.{Oop}
 use Rattle.st_model.specs.Values.{Value, value}
 use Rattle.st_heap.specs.declared.objects.Objects.{Objects}
@@ -24,28 +23,6 @@ entered (Some e) at q = record { entry = e; is = refl; same = cc }
 -- an entry that goes is no other one's place
 pub places_without : (es es' : List (Option Entry)) (n k : ℕ) → es' ≡ set es n None → k ≢ n → place_in (get_or es' k None) ≡ place_in (get_or es k None)
 places_without es es' n k is other = ap place_in (ap (λ (xs : List (Option Entry)). get_or xs k None) is ∙ get_or-set_other es n k None None other)
-
--- an entry with the same place is set
-places_alike : (with : Option Entry → Option Entry) → ((x : Option Entry) → place_in (with x) ≡ place_in x) → (es : List (Option Entry)) (k j : ℕ) → place_in (get_or (set es k (with (get_or es k None))) j None) ≡ place_in (get_or es j None)
-places_alike with same [] k j = refl
-places_alike with same (x ∷ es) zero zero = same x
-places_alike with same (x ∷ es) zero (suc j) = refl
-places_alike with same (x ∷ es) (suc k) zero = refl
-places_alike with same (x ∷ es) (suc k) (suc j) = places_alike with same es k j
-
-pub places_next : (es es' : List (Option Entry)) (k : ℕ) (o : Oop) → es' ≡ set es k (with_next (get_or es k None) o) → (j : ℕ) → place_in (get_or es' j None) ≡ place_in (get_or es j None)
-places_next es es' k o is j = ap (λ (xs : List (Option Entry)). place_in (get_or xs j None)) is ∙ places_alike (λ x. with_next x o) same es k j
-  where
-    same : (x : Option Entry) → place_in (with_next x o) ≡ place_in x
-    same None = refl
-    same (Some e) = refl
-
-pub places_before : (es es' : List (Option Entry)) (k : ℕ) (o : Oop) → es' ≡ set es k (with_before (get_or es k None) o) → (j : ℕ) → place_in (get_or es' j None) ≡ place_in (get_or es j None)
-places_before es es' k o is j = ap (λ (xs : List (Option Entry)). place_in (get_or xs j None)) is ∙ places_alike (λ x. with_before x o) same es k j
-  where
-    same : (x : Option Entry) → place_in (with_before x o) ≡ place_in x
-    same None = refl
-    same (Some e) = refl
 
 -- the place of an object is that of what is stored under its pointer
 pub stands_stored : (o : Objects) (p : Oop) (at : ℕ) → HasStored (stored_of o.store) p → Stands o (value p) at → place_at o.store (p.0 / 2) ≡ Some at

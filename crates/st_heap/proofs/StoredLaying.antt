@@ -1,13 +1,14 @@
 -- The words of a new object that has nothing but fields are written at once.
-use Rattle.std.proofs.Common.{◌≡◌, ◌≢◌, ℕ, ◌+◌, ◌*◌, ◌<◌, ◌≤◌, Bool, true, false, List, ◌++◌, length, take, drop, get_or, set, replicate, refl, sym, ap, ◌∙◌, arith, length-set}
-use Rattle.std.specs.Prelude.{◌==◌, ◌&&◌, nat_lt, if◌then◌else◌}
+use Rattle.std.proofs.Common.{◌≡◌, ◌≢◌, ℕ, ◌+◌, ◌*◌, ◌<◌, ◌≤◌, Bool, true, false, List, Option, Some, None, ◌++◌, length, take, get_or, set, replicate, refl, sym, ap, ◌∙◌, arith, length-set}
+use Rattle.std.specs.Prelude.{◌==◌, ◌&&◌, nat_lt, if◌then◌else◌, unwrap_or}
 use Rattle.std.proofs.Math.ListN.{drop_of_length-le}
 use Rattle.std.proofs.lemmas.List.{append-nil, length-replicate, length-take-le, ext_get_or, get_or-take, get_or-replicate, get_or-set_same, get_or-set_other}
+use Rattle.st_model.specs.declared.kind.Kind.{Kind}
 use Rattle.st_model.specs.Objects.{is_method}
 use Rattle.st_cells.specs.Words.{with_run}
 use Rattle.st_cells.proofs.Written.{run_is}
 use Rattle.st_heap.specs.declared.adding.Form.{Form}
-use Rattle.st_heap.specs.Stored.{run}
+use Rattle.st_heap.specs.Stored.{Stored, run, slot, stored, nothing_stored, Takes}
 use Rattle.st_heap.specs.Fresh.{new_cell}
 use Rattle.st_heap.proofs.Runs.{length-run, get_or-run}
 
@@ -53,3 +54,14 @@ module _ (f : Form) (plain : is_method f.kind ≡ false) (fields : f.words ≡ 2
       ext_get_or 0 (take f.words laid) (run (new_cell f) f.words) (taken ∙ sym (length-run (new_cell f) f.words)) (λ i l.
       let l' : i < f.words = omega (arith, l, taken) in
       get_or-take f.words laid i 0 l' ∙ laid_word i l' ∙ sym (get_or-run (new_cell f) f.words i 0 l'))
+
+-- what is stored once so many words were taken
+module _ (all all' : List (Option Stored)) (k : ℕ) (kind : Kind) (odd : Bool) (n : ℕ) (t : Takes all all' k kind odd n) (last : k < length all) where
+  pub slot_taken : slot all' k ≡ Some (record { kind = kind; odd = odd; cells = t.cells })
+  slot_taken = ap (λ xs. slot xs k) t.is ∙ get_or-set_same all k (Some (record { kind = kind; odd = odd; cells = t.cells })) None last
+
+  pub stored_taken : stored all' k ≡ record { kind = kind; odd = odd; cells = t.cells }
+  stored_taken = ap (λ x. unwrap_or x nothing_stored) slot_taken
+
+  pub length_taken : length (stored all' k).cells ≡ n
+  length_taken = ap (λ (s : Stored). length s.cells) stored_taken ∙ t.long

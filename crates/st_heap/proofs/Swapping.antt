@@ -5,10 +5,14 @@ use Rattle.std.proofs.lemmas.List.{set-set, set_comm, get_or-set_same, get_or-se
 use Rattle.st_model.specs.declared.oop.Oop.{Oop}
 use Rattle.st_table.specs.declared.entry.Entry.{Entry}
 use Rattle.st_heap.specs.declared.block.Block.{Block}
+use Rattle.st_heap.specs.declared.heap.Heap.{Heap}
+use Rattle.st_heap.specs.declared.store.Store.{Store}
+use Rattle.st_heap.specs.Heaps.{words_of, blocks_of}
+use Rattle.st_heap.specs.Stores.{stored_of}
 use Rattle.st_heap.specs.Blocks.{block, block_at, entry_at, moved_entry, with_owner, exchanged_entries, exchanged_blocks}
 use Rattle.st_heap.proofs.Laying.{entry_inside}
 use Rattle.st_heap.specs.Stored.{stored_at, stored_all, exchanged_stored}
-use Rattle.st_heap.proofs.Storing.{slot_entry, lengths_all, set_all}
+use Rattle.st_heap.proofs.Storing.{slot_entry, lengths_all, set_all, same_all}
 
 -- two places that are set twice
 pub set_twice : {A : Type 0} (l : List A) (a b : ℕ) (p q x y : A) → set (set (set (set l a p) b q) a x) b y ≡ set (set l a x) b y
@@ -114,3 +118,18 @@ exchanged_all ws bs es a b e f x y is_e is_f first second =
     ∙ ap (λ l. set l (b.0 / 2) (Some (stored_at ws bs y))) (set_all ws bs es (a.0 / 2) (Some x))
     ∙ (λ i. set (set (stored_all ws bs es) (a.0 / 2) (Some (first i))) (b.0 / 2) (Some (second i)))
     ∙ (λ i. set (set (stored_all ws bs es) (a.0 / 2) (sym (slot_entry ws bs es (b.0 / 2) f is_f) i)) (b.0 / 2) (sym (slot_entry ws bs es (a.0 / 2) e is_e) i))
+
+-- an entry with the links of the first and the block of the second
+abbrev pub crossed : Entry → Entry → Entry
+crossed e f = record { at = f.at; kind = f.kind; odd = f.odd; next = e.next; before = e.before }
+
+-- a store whose heap has exchanged two blocks, once the entries have their own links again
+module _ (s : Store) (a b : Oop) (e f : Entry) (first second third : List (Option Entry)) (exchanged : first ≡ exchanged_entries s.table a b) (once : second ≡ set first (a.0 / 2) (Some (crossed e f))) (twice : third ≡ set second (b.0 / 2) (Some (crossed f e))) where
+  pub entries_crossed : third ≡ set (set (exchanged_entries s.table a b) (a.0 / 2) (Some (crossed e f))) (b.0 / 2) (Some (crossed f e))
+  entries_crossed = twice ∙ ap (λ es. set es (b.0 / 2) (Some (crossed f e))) (once ∙ ap (λ es. set es (a.0 / 2) (Some (crossed e f))) exchanged)
+
+  pub stored_crossed : (h : Heap) → get_or s.table (a.0 / 2) None ≡ Some e → get_or s.table (b.0 / 2) None ≡ Some f → words_of h ≡ words_of s.heap → blocks_of h ≡ exchanged_blocks (blocks_of s.heap) s.table a b
+      → stored_all (words_of h) (blocks_of h) third ≡ exchanged_stored (stored_of s) (a.0 / 2) (b.0 / 2)
+  stored_crossed h is_e is_f words blocks =
+      same_all (words_of s.heap) (words_of h) (exchanged_blocks (blocks_of s.heap) s.table a b) (blocks_of h) (set (set (exchanged_entries s.table a b) (a.0 / 2) (Some (crossed e f))) (b.0 / 2) (Some (crossed f e))) third words blocks entries_crossed
+      ∙ exchanged_all (words_of s.heap) (blocks_of s.heap) s.table a b e f (crossed e f) (crossed f e) is_e is_f refl refl

@@ -1,5 +1,5 @@
 -- A block that is new, over whole heaps.
-use Rattle.std.proofs.Common.{◌≡◌, ◌≢◌, ℕ, ◌+◌, ◌*◌, ◌/◌, ◌%◌, ◌<◌, ◌≤◌, Bool, true, false, List, Option, Some, None, length, get_or, set, replicate, refl, sym, ap, ◌∙◌, subst, arith}
+use Rattle.std.proofs.Common.{◌≡◌, ◌≢◌, ℕ, ◌+◌, ◌-◌, ◌*◌, ◌/◌, ◌%◌, ◌<◌, ◌≤◌, Bool, true, false, List, Option, Some, None, length, get_or, set, replicate, refl, sym, ap, ◌∙◌, subst, arith}
 use Rattle.std.specs.Prelude.{◌==◌, nat_lt}
 use Rattle.std.proofs.lemmas.List.{get_or-set_same, get_or-set_other, get_or-replicate, length-replicate, get_or_past}
 use Rattle.st_model.specs.declared.oop.Oop.{Oop}
@@ -8,8 +8,8 @@ use Rattle.st_table.specs.Entries.{IsFree}
 use Rattle.st_heap.specs.declared.block.Block.{Block}
 use Rattle.st_heap.specs.declared.heap.Heap.{Heap}
 use Rattle.st_heap.specs.Blocks.{none, block, block_at, with_owner, held, IsLaid, IsTied, KeepsBlocks, entry_at, moved_entry}
-use Rattle.st_heap.specs.Heaps.{words_of, blocks_of, Keeps, Takes}
-use Rattle.st_heap.proofs.Laying.{by_set, entered_owner, entry_inside, owned_inside, taken_unowned, taken_owned, held_set, keeps_set, tied_taken}
+use Rattle.st_heap.specs.Heaps.{words_of, blocks_of, Fits, Keeps, Takes}
+use Rattle.st_heap.proofs.Laying.{by_set, entered_owner, entry_inside, owned_inside, taken_unowned, taken_owned, held_set, keeps_set, laid_owner, tied_taken}
 
 pub taken_tied : (h h' : Heap) (o : Oop) (at n : ℕ) (es : List (Option Entry)) → Takes h h' o at n → IsTied es (blocks_of h) → IsFree es o → (e : Entry) → e.at ≡ at → IsTied (set es (o.0 / 2) (Some e)) (blocks_of h')
 taken_tied h h' o at n es takes tied free e place =
@@ -44,8 +44,34 @@ free_kept h h' es es' o keeps free =
     }
 
 -- a hole of the list that becomes a block
-pub reused : (bs : List Block) (k : ℕ) (o : Oop) (b : Block) (n : ℕ) → b ≡ block bs k → b.len ≡ n → b.at / 2 ≡ k → set bs k (record { owner = o; at = b.at; len = b.len }) ≡ set bs (b.at / 2) (record { owner = o; at = b.at; len = n })
+reused : (bs : List Block) (k : ℕ) (o : Oop) (b : Block) (n : ℕ) → b ≡ block bs k → b.len ≡ n → b.at / 2 ≡ k → set bs k (record { owner = o; at = b.at; len = b.len }) ≡ set bs (b.at / 2) (record { owner = o; at = b.at; len = n })
 reused bs k o b n is long half = ap (λ (len : ℕ). set bs k (record { owner = o; at = b.at; len = len })) long ∙ ap (λ i. set bs i (record { owner = o; at = b.at; len = n })) (sym half)
+
+module _ (h : Heap) (o : Oop) (k n : ℕ) (b : Block) (within : k < length (blocks_of h)) (is : b ≡ block (blocks_of h) k) (hole : b.owner.0 ≡ 0) (long : b.len ≡ n) (many : 2 ≤ n) where
+  same_len : (block (blocks_of h) k).len ≡ n
+  same_len = sym (ap (λ (c : Block). c.len) is) ∙ long
+
+  half : b.at / 2 ≡ k
+  half = let some : 0 < (block (blocks_of h) k).len = let same = same_len in omega (arith, same, many) in ap (λ (c : Block). c.at / 2) is ∙ h.laid.half k some
+
+  pub hole_free : (block_at (blocks_of h) b.at).owner.0 ≡ 0
+  hole_free = ap (λ i. (block (blocks_of h) i).owner.0) half ∙ sym (ap (λ (c : Block). c.owner.0) is) ∙ hole
+
+  pub hole_within : b.at / 2 < length (blocks_of h)
+  hole_within = let there = half in omega (arith, there, within)
+
+  pub hole_set : set (blocks_of h) k (record { owner = o; at = b.at; len = b.len }) ≡ set (blocks_of h) (b.at / 2) (record { owner = o; at = b.at; len = n })
+  hole_set = reused (blocks_of h) k o b n is long half
+
+  pub hole_laid : o.0 ≢ 0 → Fits h n → IsLaid (words_of h) (set (blocks_of h) k (record { owner = o; at = b.at; len = b.len })) h.end (h.free - n)
+  hole_laid owner fits =
+      let c = block (blocks_of h) k in
+      let same = same_len in
+      let before = taken_unowned c (sym (ap (λ (d : Block). d.owner.0) is) ∙ hole) in
+      let after = taken_owned (record { owner = o; at = c.at; len = c.len }) owner in
+      let sum = h.laid.sum in
+      let P : Block → Type 0 = λ d. IsLaid (words_of h) (set (blocks_of h) k (record { owner = o; at = d.at; len = d.len })) h.end (h.free - n) in
+      subst P (sym is) (laid_owner (words_of h) (blocks_of h) h.end h.free k o (h.free - n) h.laid within (omega (arith, same, many)) (omega (arith, sum, fits, before, after, same)))
 
 -- without blocks and entries all is tied
 pub tied_new : (n m : ℕ) → IsTied (replicate n None) (replicate m none)

@@ -1,20 +1,25 @@
 -- An installation that is ready is carried out.
 use Rattle.std.proofs.Common.{◌≡◌, ◌≤◌, List, [], ◌∷◌, length, true, Ok, refl, sym, subst}
 use Rattle.std.specs.List.{AllByRecursion}
+use Rattle.st_model.specs.declared.oop.Oop.{Oop}
 use Rattle.st_model.specs.declared.page.PageObject.TheVariants.{NilObject}
-use Rattle.st_model.specs.Values.{Value}
+use Rattle.st_model.specs.Values.{Value, value}
 use Rattle.st_model.specs.Objects.{nil}
 use Rattle.st_model.specs.Machine.{Step, ◌>>=◌}
 use Rattle.st_model.specs.Steps.{of_page}
 use Rattle.st_model.specs.Table.{Table, table, bounded_table}
 use Rattle.st_model.specs.Calls.{Reads, itself}
 use Rattle.st_model.specs.View.{View, IsWhole, fits}
+use Rattle.st_install.specs.declared.plan.NewObject.{NewObject as CodeObject}
+use Rattle.st_install.specs.declared.plan.Ready.{Ready}
 use Rattle.st_install.specs.declared.storing.Placing.{Placing as CodePlacing}
 use Rattle.st_install.specs.Plans.{NewObject, Plan, words_of_new, words_of_all, demand_of_all}
 use Rattle.st_install.specs.Goes.{IsReadyFor, IsOfKind}
 use Rattle.st_install.specs.Carried.{HasGone, Goes, Becomes, IsPlannable}
 use Rattle.st_install.specs.Installing.{part_value, make_all, fill_all, target, Placing, find_place, store_planned, fill_and_store, install}
 use Rattle.st_install.specs.Placings.{placing_of}
+use Rattle.st_scope.specs.Meanings.{values}
+use Rattle.st_install.specs.Readies.{part_of, objects_of, plan_of}
 use Rattle.st_install.proofs.Going.{goes-first, goes-after, goes-read, goes-then, becomes-after, becomes-read, becomes-then}
 use Rattle.st_install.proofs.Unbounded.{fill_and_store-same}
 use Rattle.st_install.proofs.GoesLaw.{ready_installs, ready_objects, plan_room}
@@ -74,6 +79,28 @@ module _ (vs : List Value) (p : Plan) (v : View) (h : Goes (fill_and_store table
             (becomes-after dictionary_found dictionary_then w tt x d u c
             (becomes-read (place_found d) stored u tt x placing_of k e f)))
 
+-- the same of the code's plan, whose objects and selector are read first
+module _ (vs : List Value) (r : Ready) (v : View) (h : Goes (fill_and_store table nil vs (plan_of r)) v) (os : List CodeObject) (o : os ≡ r.objects.items) (w : View) (b : Becomes (fill_all table nil vs vs (objects_of os)) v tt w) where
+  all_filled : Becomes (fill_all table nil vs vs (objects_of r.objects.items)) v tt w
+  all_filled = subst (λ (ns : List CodeObject). Becomes (fill_all table nil vs vs (objects_of ns)) v tt w) o b
+
+  pub dictionary_goes : Goes (target table nil vs (value r.dictionary) r.grown) w
+  dictionary_goes = target_goes vs (plan_of r) v h w all_filled
+
+  module _ (d : Value) (u : View) (c : Becomes (target table nil vs (value r.dictionary) r.grown) w d u) (s : Value) (q : s ≡ part_value nil vs (part_of r.selector)) where
+    pub selector_goes : Goes (find_place table d s) u
+    selector_goes = subst (λ (x : Value). Goes (find_place table d x) u) (sym q) (place_goes vs (plan_of r) v h w all_filled d u c)
+
+    module _ (k : CodePlacing) (e : Reads (find_place table d s) placing_of u.objects (Ok k)) where
+      selector_placed : Reads (find_place table d (part_value nil vs (part_of r.selector))) placing_of u.objects (Ok k)
+      selector_placed = subst (λ (x : Value). Reads (find_place table d x) placing_of u.objects (Ok k)) q e
+
+      pub planned_go : Goes (store_planned table nil vs (plan_of r) (placing_of k)) u
+      planned_go = stores_go vs (plan_of r) v h w all_filled d u c k selector_placed
+
+      pub planned_done : (x : View) → Becomes (store_planned table nil vs (plan_of r) (placing_of k)) u tt x → Becomes (fill_and_store table nil vs (plan_of r)) v tt x
+      planned_done = all_done vs (plan_of r) v h w all_filled d u c k selector_placed
+
 -- MADE FIRST
 
 page_read : (t : Table) → Reads (of_page bounded_table NilObject) itself t (Ok nil)
@@ -121,3 +148,15 @@ ready_plannable p v whole h b = plannable p.objects (ready_objects v p whole h) 
 
 pub ready_room : (p : Plan) (v : View) → IsWhole v → IsReadyFor v p → fits v (demand_of_all p.objects) ≡ true
 ready_room p v whole h = let r = plan_room v p whole h in fits_if v (length p.objects) (words_of_all p.objects) r.entries r.words
+
+-- the same of the code's plan, whose objects are read first, and whose pointers are written
+module _ (r : Ready) (v : View) (whole : IsWhole v) (h : IsReadyFor v (plan_of r)) (os : List CodeObject) (o : os ≡ r.objects.items) (made : List Oop) (w : View) (b : Becomes (make_all bounded_table (objects_of os)) v (values made) w)
+    (written : List Oop) (q : written ≡ made) where
+  all_made : Becomes (make_all bounded_table (objects_of r.objects.items)) v (values made) w
+  all_made = subst (λ (ns : List CodeObject). Becomes (make_all bounded_table (objects_of ns)) v (values made) w) o b
+
+  pub made_rest_goes : Goes (fill_and_store table nil (values written) (plan_of r)) w
+  made_rest_goes = subst (λ (xs : List Oop). Goes (fill_and_store table nil (values xs) (plan_of r)) w) (sym q) (rest_goes (plan_of r) v (ready_goes (plan_of r) v whole h) (values made) w all_made)
+
+  pub made_installed : (u : View) → Becomes (fill_and_store table nil (values written) (plan_of r)) w tt u → Becomes (install bounded_table (plan_of r)) v tt u
+  made_installed u c = installed (plan_of r) v (ready_goes (plan_of r) v whole h) (values made) w all_made u (subst (λ (xs : List Oop). Becomes (fill_and_store table nil (values xs) (plan_of r)) w tt u) q c)

@@ -9,7 +9,7 @@ use Rattle.st_model.specs.Values.{Value, value, is_small}
 use Rattle.st_model.specs.Objects.{nil}
 use Rattle.st_model.specs.Formed.{literals_of}
 use Rattle.st_model.specs.Machine.{Step, answer, ◌>>◌}
-use Rattle.st_model.specs.Steps.{store_field, store_fields, store_byte, store_bytes, store_method_field}
+use Rattle.st_model.specs.Steps.{store_fields, store_byte, store_bytes}
 use Rattle.st_model.specs.Table.{Table, table}
 use Rattle.st_model.specs.View.{View}
 use Rattle.st_install.specs.declared.plan.Part.{Part as CodePart}
@@ -21,7 +21,8 @@ use Rattle.st_install.specs.Readies.{object_of as planned_of}
 use Rattle.st_install.specs.Carried.{Goes, Becomes, KeepsFields, IsPlannable, IsShaped, AreShaped}
 use Rattle.st_install.specs.Goes.{HasHeader}
 use Rattle.st_install.specs.Installing.{part_value, part_values, store_method_fields, fill_method, fill_by, fill_all}
-use Rattle.st_install.proofs.Going.{goes-first, goes-after, goes-then, becomes-after, becomes-then}
+use Rattle.st_install.proofs.InTurn.{InTurn}
+use Rattle.st_install.proofs.Going.{goes-first, goes-after, goes-then, becomes-after, becomes-then, Left, left_goes, left_next, left_done}
 
 -- LISTS
 
@@ -50,44 +51,33 @@ no_part (o ∷ os) (suc k) l = no_part os k (omega (arith, l))
 
 -- FIELDS
 
-module _ (vs : List Value) (x : Value) (ps : List CodePart) where
+module _ (one : ℕ → Value → Step Table Unit) (all : ℕ → List Value → Step Table Unit) (turn : InTurn Table one all) (vs : List Value) (ps : List CodePart) where
   abbrev pub fields_from : ℕ → Step Table Unit
-  fields_from i = store_fields table x i (part_values nil vs (parts_of (drop i ps)))
+  fields_from i = all i (part_values nil vs (parts_of (drop i ps)))
 
-  one_field : (i : ℕ) (p : CodePart) (qs : List CodePart) → store_fields table x i (part_values nil vs (parts_of (p ∷ qs))) ≡ (store_field table x i (part_value nil vs (part_of p)) >> store_fields table x (suc i) (part_values nil vs (parts_of qs)))
-  unfolding store_fields
-  one_field i p qs = refl
-
-  pub fields_turn : (i : ℕ) (d : CodePart) → i < length ps → fields_from i ≡ (store_field table x i (part_value nil vs (part_of (slice_index_or ps i d))) >> fields_from (i + 1))
+  fields_turn : (i : ℕ) (d : CodePart) → i < length ps → fields_from i ≡ (one i (part_value nil vs (part_of (slice_index_or ps i d))) >> fields_from (i + 1))
   fields_turn i d l =
       let p = slice_index_or ps i d in
       let next : suc i ≡ i + 1 = omega arith in
-      ap (λ (qs : List CodePart). store_fields table x i (part_values nil vs (parts_of qs))) (drop_next ps i d l)
-      ∙ (one_field i p (drop (i + 1) ps)
-      ∙ ap (λ j. store_field table x i (part_value nil vs (part_of p)) >> store_fields table x j (part_values nil vs (parts_of (drop (i + 1) ps)))) next)
+      ap (λ (qs : List CodePart). all i (part_values nil vs (parts_of qs))) (drop_next ps i d l)
+      ∙ (turn.more i (part_value nil vs (part_of p)) (part_values nil vs (parts_of (drop (i + 1) ps)))
+      ∙ ap (λ j. one i (part_value nil vs (part_of p)) >> all j (part_values nil vs (parts_of (drop (i + 1) ps)))) next)
 
-  pub fields_end : (i : ℕ) → length ps ≤ i → fields_from i ≡ answer tt
-  unfolding store_fields
-  fields_end i l = ap (λ (qs : List CodePart). store_fields table x i (part_values nil vs (parts_of qs))) (drop_past ps i l)
+  fields_end : (i : ℕ) → length ps ≤ i → fields_from i ≡ answer tt
+  fields_end i l = ap (λ (qs : List CodePart). all i (part_values nil vs (parts_of qs))) (drop_past ps i l) ∙ turn.none i
 
-  abbrev pub method_from : ℕ → Step Table Unit
-  method_from i = store_method_fields table x i (part_values nil vs (parts_of (drop i ps)))
+  module _ (v w : View) (i : ℕ) (h : Left (fields_from 0) (fields_from i) v w) where
+    module _ (d : CodePart) (l : i < length ps) (y : Value) (q : y ≡ part_value nil vs (part_of (slice_index_or ps i d))) where
+      pub next_goes : Goes (fields_from 0) v → Goes (one i y) w
+      next_goes g =
+          subst (λ (x : Value). Goes (one i x) w) (sym q) (left_goes (fields_from 0) (fields_from i) v w h (one i (part_value nil vs (part_of (slice_index_or ps i d)))) (fields_from (i + 1)) (fields_turn i d l) g)
 
-  one_method_field : (i : ℕ) (p : CodePart) (qs : List CodePart) → store_method_fields table x i (part_values nil vs (parts_of (p ∷ qs))) ≡ (store_method_field table x i (part_value nil vs (part_of p)) >> store_method_fields table x (suc i) (part_values nil vs (parts_of qs)))
-  unfolding store_method_fields
-  one_method_field i p qs = refl
+      pub next_left : (u : View) → Becomes (one i y) w tt u → KeepsFields w.objects u.objects → Left (fields_from 0) (fields_from (i + 1)) v u
+      next_left u b k =
+          left_next (fields_from 0) (fields_from i) v w h (one i (part_value nil vs (part_of (slice_index_or ps i d)))) (fields_from (i + 1)) u (fields_turn i d l) (subst (λ (x : Value). Becomes (one i x) w tt u) q b) k
 
-  pub method_turn : (i : ℕ) (d : CodePart) → i < length ps → method_from i ≡ (store_method_field table x i (part_value nil vs (part_of (slice_index_or ps i d))) >> method_from (i + 1))
-  method_turn i d l =
-      let p = slice_index_or ps i d in
-      let next : suc i ≡ i + 1 = omega arith in
-      ap (λ (qs : List CodePart). store_method_fields table x i (part_values nil vs (parts_of qs))) (drop_next ps i d l)
-      ∙ (one_method_field i p (drop (i + 1) ps)
-      ∙ ap (λ j. store_method_field table x i (part_value nil vs (part_of p)) >> store_method_fields table x j (part_values nil vs (parts_of (drop (i + 1) ps)))) next)
-
-  pub method_end : (i : ℕ) → length ps ≤ i → method_from i ≡ answer tt
-  unfolding store_method_fields
-  method_end i l = ap (λ (qs : List CodePart). store_method_fields table x i (part_values nil vs (parts_of qs))) (drop_past ps i l)
+    pub fields_done : length ps ≤ i → Becomes (fields_from 0) v tt w
+    fields_done l = left_done (fields_from 0) (fields_from i) v w h (fields_end i l)
 
 length_parts : (ps : List CodePart) → length (parts_of ps) ≡ length ps
 length_parts [] = refl
@@ -190,18 +180,28 @@ module _ (x : Value) (vs : List Value) (ps : List CodePart) (bs : List ℕ) (v :
 
 -- BY KIND
 
-module _ (x : Value) (fs : List Value) (bs : List ℕ) (k : Kind) where
-  pub fills_pointers : k ≡ kind.Pointers → fill_by table x fs bs k ≡ store_fields table x 0 fs
-  unfolding fill_by
-  fills_pointers e = ap (fill_by table x fs bs) e
+module _ (x : Value) (vs : List Value) (p : CodeObject) where
+  abbrev fields : List CodePart → List Value
+  fields ps = part_values nil vs (parts_of ps)
 
-  pub fills_bytes : k ≡ kind.Bytes → fill_by table x fs bs k ≡ store_bytes table x 0 bs
-  unfolding fill_by
-  fills_bytes e = ap (fill_by table x fs bs) e
+  -- an object is filled with these fields and bytes as its kind says
+  abbrev pub filled : Step Table Unit
+  filled = fill_by table x (part_values nil vs (parts_of p.fields.items)) p.bytes.items p.kind
 
-  pub fills_method : k ≡ kind.Method → fill_by table x fs bs k ≡ fill_method table x fs bs
+  by_kind : (k : Kind) → p.kind ≡ k → filled ≡ fill_by table x (fields p.fields.items) p.bytes.items k
+  by_kind k e = ap (fill_by table x (fields p.fields.items) p.bytes.items) e
+
+  pub fills_pointers : (ps : List CodePart) → ps ≡ p.fields.items → p.kind ≡ kind.Pointers → filled ≡ store_fields table x 0 (part_values nil vs (parts_of ps))
   unfolding fill_by
-  fills_method e = ap (fill_by table x fs bs) e
+  fills_pointers ps a e = by_kind kind.Pointers e ∙ ap (λ (qs : List CodePart). store_fields table x 0 (fields qs)) (sym a)
+
+  pub fills_bytes : (bs : List ℕ) → bs ≡ p.bytes.items → p.kind ≡ kind.Bytes → filled ≡ store_bytes table x 0 bs
+  unfolding fill_by
+  fills_bytes bs a e = by_kind kind.Bytes e ∙ ap (store_bytes table x 0) (sym a)
+
+  pub fills_method : (ps : List CodePart) (bs : List ℕ) → ps ≡ p.fields.items → bs ≡ p.bytes.items → p.kind ≡ kind.Method → filled ≡ fill_method table x (part_values nil vs (parts_of ps)) bs
+  unfolding fill_by
+  fills_method ps bs a b e = by_kind kind.Method e ∙ (λ i. fill_method table x (fields (sym a i)) (sym b i))
 
 -- EACH OF THEM
 

@@ -1,17 +1,17 @@
 -- Searches for what no dictionary of a class holds: it isn't found, wherever the search begins.
-use Rattle.std.proofs.Common.{◌≡◌, ℕ, zero, suc, ◌+◌, ◌<◌, List, [], ◌∷◌, length, Bool, Option, Some, None, true, false, refl, sym, ap, ◌∙◌, subst, arith}
+use Rattle.std.proofs.Common.{◌≡◌, ℕ, zero, suc, ◌<◌, List, [], ◌∷◌, length, Bool, Some, None, true, false, refl, sym, ◌∙◌, subst, arith}
 use Rattle.std.specs.Prelude.{◌-◌, nat_lt, if◌then◌else◌}
 use Rattle.std.specs.List.{AllByRecursion}
 use Rattle.std.proofs.lemmas.Bool.Decides.{nat_tests}
 use Rattle.st_model.specs.declared.dead.Dead.TheVariants as dead
 use Rattle.st_model.specs.Values.{Value}
 use Rattle.st_model.specs.Objects.{Object, nil, is_pointers}
-use Rattle.st_model.specs.Steps.{object, check, same_value, fetch_field, count_fields}
+use Rattle.st_model.specs.Steps.{object, check, same_value, count_fields}
 use Rattle.st_model.specs.Lookup.{search_dictionary, method_in_class, find}
 use Rattle.st_model.specs.Table.{Table, table}
 use Rattle.st_model.specs.View.{field_of}
 use Rattle.st_install.specs.Gains.{superclasses, superclass_list}
-use Rattle.st_install.proofs.Goes.{object_at, over}
+use Rattle.st_install.proofs.Goes.{object_at}
 use Rattle.st_install.proofs.GoesReading.{IsField}
 use Rattle.st_install.proofs.GainsPlaces.{IsAbsent}
 use Rattle.st_install.proofs.GainsFinding.{Alike, Free, alike_then, alike_next, alike_answer, alike_told, alike_check, alike_object, alike_field, SameClass, find_alike}

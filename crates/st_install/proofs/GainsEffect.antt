@@ -17,10 +17,10 @@ use Rattle.st_install.proofs.GoesMaking.{IsShaped, blank_kind, HasRoom, Makes, m
 use Rattle.st_install.specs.Goes.{HasHeader}
 use Rattle.st_install.specs.Gains.{IsNoneOf}
 use Rattle.st_install.proofs.GoesFilling.{AllShaped, IsFilled, FillsAll, fill_all_goes}
-use Rattle.st_install.proofs.GoesSeeking.{at_place, half_of, ending_for, bounded_reads, tells_seek, ending_within, NoneVacant, nowhere_full, none_counted}
+use Rattle.st_install.proofs.GoesSeeking.{at_place, half_of, ending_for, bounded_reads, tells_seek, ending_within}
 use Rattle.st_install.proofs.GoesRefilling.{get_set_other}
 use Rattle.st_install.proofs.GoesStoring.{can_store_kept, there_at}
-use Rattle.st_install.proofs.GoesInstalling.{IsSoundTarget, IsSoundPlan, IsGrown, shapes_of, are_blank, objects_there, name_at, not_made, filled_kept, stands_filled, part_filled, made_filled, stores_filled, somewhere, names_apart, refilling, all_nil}
+use Rattle.st_install.proofs.GoesInstalling.{IsSoundTarget, IsSoundPlan, IsGrown, shapes_of, are_blank, objects_there, name_at, not_made, filled_kept, stands_filled, part_filled, made_filled, stores_filled, old_stays, new_takes, names_apart, refilling, all_nil}
 use Rattle.st_install.proofs.GoesReading.{IsField}
 use Rattle.st_install.proofs.GoesPlanning.{same_object}
 use Rattle.std.proofs.lemmas.Option.{slice_get-get_or, slice_get_within}
@@ -151,24 +151,25 @@ module _ (head : Head) (t : Table) (p : Plan) (sound : IsSoundPlan t p) (associa
         old_methods : (x : Value) → x ≢ sound.dictionary.methods → (o : Object) → object_at t x ≡ Some o → x ≢ methods
 
       stays_directs : IsSoundTarget t p.objects sound.dictionary.object.fields p.selector None → Directs None p.dictionary w
+      unfolding old_stays
       stays_directs h =
           let d = sound.dictionary in
-          let k = filled_kept t u p.objects vs m w f in
+          let r = old_stays head t p sound u vs m w f h in
           record {
-            dictionary = d.object;
-            is = stands_filled t u p.objects vs m w f p.dictionary d.object d.is;
-            pointers = d.pointers;
-            places = d.places;
-            tally = d.tally;
-            to_tally = d.to_tally;
-            tally_there = there_kept t w d.tally k (d.values 0 d.tally d.to_tally);
-            methods = d.methods;
-            to_methods = d.to_methods;
+            dictionary = r.object;
+            is = r.is;
+            pointers = r.pointers;
+            places = r.places;
+            tally = r.tally;
+            to_tally = r.to_tally;
+            tally_there = r.tally_there;
+            methods = r.methods;
+            to_methods = r.to_methods;
             array = d.array;
             array_is = stands_filled t u p.objects vs m w f d.methods d.array d.array_is;
             array_pointers = d.array_pointers;
             enough = d.enough;
-            somewhere_free = somewhere t u p.objects vs m w f d.object.fields p.selector sound.selector h;
+            somewhere_free = r.somewhere;
             kept = all_kept w;
             others = λ x o e. stands_filled t u p.objects vs m w f x o e;
             made_other = refl;
@@ -241,32 +242,28 @@ module _ (head : Head) (t : Table) (p : Plan) (sound : IsSoundPlan t p) (associa
                   (subst (λ v. Finds (half_of w v) h.refilling.dictionary.fields h.refilling.array.fields v y) e r)
 
           grows_directs : Directs (Some k) (get_or vs k nil) z
+          unfolding new_takes
           grows_directs =
               let d = sound.dictionary in
               let r = h.refilling in
-              let l = d.places in
+              let q = new_takes head t p sound u vs m w f k g z r in
               let n = r.size in
               let b = number_below in
               record {
-                dictionary = r.dictionary;
-                is = r.is;
-                pointers = r.pointers;
-                places = omega (arith, l, n);
-                tally = g.tally;
-                to_tally = r.to_tally;
-                tally_there = there_kept t z g.tally (kept_then t w z (filled_kept t u p.objects vs m w f) r.kept) g.tally_there;
-                methods = get_or vs (k + 1) nil;
-                to_methods = r.to_methods;
+                dictionary = q.object;
+                is = q.is;
+                pointers = q.pointers;
+                places = q.places;
+                tally = q.tally;
+                to_tally = q.to_tally;
+                tally_there = q.tally_there;
+                methods = q.methods;
+                to_methods = q.to_methods;
                 array = r.array;
                 array_is = r.array_is;
                 array_pointers = r.array_pointers;
                 enough = let a = r.array_size in omega (arith, a, n);
-                somewhere_free = λ e.
-                    let a : NoneVacant r.dictionary.fields 0 (2 * (length sound.dictionary.object.fields - 2)) =
-                    subst (λ i. NoneVacant r.dictionary.fields 0 i) (omega (arith, n)) (nowhere_full z r.dictionary.fields (part_value nil vs p.selector) (part_value nil vs p.selector) e) in
-                    let b = none_counted r.dictionary.fields 0 (2 * (length sound.dictionary.object.fields - 2)) a in
-                    let c = r.vacant in
-                    omega (arith, b, c, l);
+                somewhere_free = q.somewhere;
                 kept = r.kept;
                 others = λ x o e. r.others x (old_apart x o e k k_below) (old_apart x o e (k + 1) array_below) ∙ stands_filled t u p.objects vs m w f x o e;
                 made_other = r.others (get_or vs number nil) (made_apart number k b k_below (λ q. omega (arith, q, after))) (made_apart number (k + 1) b array_below (λ q. omega (arith, q, after)));

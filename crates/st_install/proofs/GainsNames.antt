@@ -1,20 +1,19 @@
 -- Where the names that a method sees are answered, the symbol table has the form that an installation asks.
-use Rattle.std.proofs.Common.{◌++◌, Option, Some, None, Bool, Result, Ok, Err}
+use Rattle.std.proofs.Common.{◌++◌, Option, Some, None, Bool, Result}
 use Rattle.st_model.specs.Values.{Value}
 use Rattle.st_model.specs.Machine.{Head, State}
 use Rattle.st_model.specs.Table.{Table, table}
 use Rattle.st_scan.specs.Views.{MethodView}
 use Rattle.st_emit.specs.Names.{NamesView}
 use Rattle.st_scope.specs.declared.fault.InstallFault.{InstallFault}
-use Rattle.st_scope.specs.declared.fault.InstallFault.TheVariants.{Shape}
 use Rattle.st_scope.specs.Mentions.{mentioned_in}
 use Rattle.st_scope.specs.Shapes.{check_symbol_table, check_symbols}
-use Rattle.st_scope.specs.Calls.{or_fault, as_table, names_seen, names}
+use Rattle.st_scope.specs.Calls.{as_table, names_seen, names}
 use Rattle.st_install.proofs.GoesStoring.{HasFields}
-use Rattle.st_install.proofs.GoesReading.{Gives, gives_answer, gives_then, gives_next, gives_less, Any, IfAny, gives_tried, IsField, gives_field, IsSoundTable}
+use Rattle.st_install.proofs.GoesReading.{Gives, gives_answer, gives_then, gives_next, gives_less, Any, gives_tried, IsField, gives_field, IsSoundTable}
 use Rattle.st_install.proofs.GoesSymbols.{gives_checked}
 use Rattle.st_install.proofs.GoesPlanning.{gives_dictionary}
-use Rattle.st_install.proofs.GoesNames.{lineage_reads, field_names_reads, pools_reads, all_shared_reads}
+use Rattle.st_install.proofs.GoesNames.{IfSeen, or_shape, lineage_reads, field_names_reads, pools_reads, all_shared_reads}
 
 -- an association, and its value of kind Pointers
 pub record HasTable (t : Table) (association : Value) : Type 0 where
@@ -47,14 +46,9 @@ module _ (s : State Table) (sound : IsSoundTable s.memory) where
       (λ shared v. gives_answer s _ _ w))))))
 
   abbrev pub TableIfOk : Head → Result NamesView InstallFault → Type 0
-  TableIfOk head (Ok seen) = IsTable s.memory head.symbols
-  TableIfOk head (Err f) = Unit {0}
-
-  or_shape : (head : Head) (x : Option NamesView) → IfAny (λ y. IsTable s.memory head.symbols) x → TableIfOk head (or_fault Shape x)
-  or_shape head None h = tt
-  or_shape head (Some y) h = h
+  TableIfOk head = IfSeen (IsTable s.memory head.symbols)
 
   pub names_table : (head : Head) (class : Value) (meta : Bool) (tree : MethodView) → Gives s (names table head class meta tree) (TableIfOk head)
   unfolding names
   names_table head class meta tree =
-      gives_then s _ _ _ _ (gives_tried s _ _ (seen_table head class meta tree)) (λ x h. gives_answer s (TableIfOk head) _ (or_shape head x h))
+      gives_then s _ _ _ _ (gives_tried s _ _ (seen_table head class meta tree)) (λ x h. gives_answer s (TableIfOk head) _ (or_shape (IsTable s.memory head.symbols) x h))

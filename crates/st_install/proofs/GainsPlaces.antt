@@ -205,43 +205,35 @@ module _ (fs : List Value) (i : ℕ) (x : Value) (l : 2 + i < length fs) (half :
   pub moves : IsAbsent fs x → ending_by half fs nil ≡ Holds i → ending_by half (slice_set fs (2 + i) x) x ≡ Holds i
   moves a h = by_set x ∙ moves_from (length fs - 2) (bit_and half (length fs - 2 - 1)) a h
 
--- what stands where a search ends
+-- what stands where a search ends so
+module _ (fs : List Value) (x y : Value) (ends : ℕ → Ending) (nowhere : (j : ℕ) → Nowhere ≡ ends j → ⊥)
+    (step : (k j : ℕ) (e : Ending) → ends_with k (same_value (at_place fs k) x) (same_value (at_place fs k) nil) e ≡ ends j → (e ≡ ends j → at_place fs j ≡ y) → at_place fs j ≡ y) where
+  stands_among : (k left j : ℕ) (e : Ending) → ending_among fs x k left e ≡ ends j → (e ≡ ends j → at_place fs j ≡ y) → at_place fs j ≡ y
+  stands_among k zero j e h g = g h
+  stands_among k (suc left) j e h g = step k j _ h (λ q. stands_among (suc k) left j e q g)
+
+  stands_from : (n start j : ℕ) → ending_from fs x n start ≡ ends j → at_place fs j ≡ y
+  stands_from n start j h = stands_among start (n - start) j (ending_among fs x 0 start Nowhere) h (λ q. stands_among 0 start j Nowhere q (λ r. absurd (nowhere j r)))
+
+  stands : (half j : ℕ) → ending_by half fs x ≡ ends j → at_place fs j ≡ y
+  stands half j h = stands_from (length fs - 2) (bit_and half (length fs - 2 - 1)) j h
+
 module _ (fs : List Value) (x : Value) where
   step_at : (k j : ℕ) (a b : Bool) (e : Ending) → same_value (at_place fs k) x ≡ a → ends_with k a b e ≡ Holds j → (e ≡ Holds j → at_place fs j ≡ x) → at_place fs j ≡ x
   step_at k j true b e q h g = ap (λ n. at_place fs n) (sym (same_holds k j h)) ∙ value_same (at_place fs k) x q
   step_at k j false true e q h g = absurd (no_vacant k j h)
   step_at k j false false e q h g = g h
 
-  held_among : (k left j : ℕ) (e : Ending) → ending_among fs x k left e ≡ Holds j → (e ≡ Holds j → at_place fs j ≡ x) → at_place fs j ≡ x
-  held_among k zero j e h g = g h
-  held_among k (suc left) j e h g = step_at k j _ _ _ refl h (λ q. held_among (suc k) left j e q g)
-
-  nothing_held : (j : ℕ) → Nowhere ≡ Holds j → at_place fs j ≡ x
-  nothing_held j q = cc
-
-  held_from : (n start j : ℕ) → ending_from fs x n start ≡ Holds j → at_place fs j ≡ x
-  held_from n start j h = held_among start (n - start) j (ending_among fs x 0 start Nowhere) h (λ q. held_among 0 start j Nowhere q (nothing_held j))
-
   pub held : (half j : ℕ) → ending_by half fs x ≡ Holds j → at_place fs j ≡ x
-  held half j h = held_from (length fs - 2) (bit_and half (length fs - 2 - 1)) j h
+  held = stands fs x x (λ j. Holds j) (λ j r. cc) (λ k j e h g. step_at k j _ _ e refl h g)
 
   step_empty : (k j : ℕ) (a b : Bool) (e : Ending) → same_value (at_place fs k) nil ≡ b → ends_with k a b e ≡ Vacant j → (e ≡ Vacant j → at_place fs j ≡ nil) → at_place fs j ≡ nil
   step_empty k j true b e q h g = absurd (no_holds k j h)
   step_empty k j false true e q h g = ap (λ n. at_place fs n) (sym (same_vacant k j h)) ∙ value_same (at_place fs k) nil q
   step_empty k j false false e q h g = g h
 
-  empty_among : (k left j : ℕ) (e : Ending) → ending_among fs x k left e ≡ Vacant j → (e ≡ Vacant j → at_place fs j ≡ nil) → at_place fs j ≡ nil
-  empty_among k zero j e h g = g h
-  empty_among k (suc left) j e h g = step_empty k j _ _ _ refl h (λ q. empty_among (suc k) left j e q g)
-
-  nothing_empty : (j : ℕ) → Nowhere ≡ Vacant j → at_place fs j ≡ nil
-  nothing_empty j q = cc
-
-  empty_from : (n start j : ℕ) → ending_from fs x n start ≡ Vacant j → at_place fs j ≡ nil
-  empty_from n start j h = empty_among start (n - start) j (ending_among fs x 0 start Nowhere) h (λ q. empty_among 0 start j Nowhere q (nothing_empty j))
-
   pub empty : (half j : ℕ) → ending_by half fs x ≡ Vacant j → at_place fs j ≡ nil
-  empty half j h = empty_from (length fs - 2) (bit_and half (length fs - 2 - 1)) j h
+  empty = stands fs x nil (λ j. Vacant j) (λ j r. cc) (λ k j e h g. step_empty k j _ _ e refl h g)
 
 -- what differs in no place is searched alike
 among_same : (fs gs : List Value) (x : Value) (k left : ℕ) (e : Ending) → ((j : ℕ) → at_place gs j ≡ at_place fs j) → ending_among gs x k left e ≡ ending_among fs x k left e

@@ -20,11 +20,11 @@ use Rattle.st_install.specs.Shapes.{check_size}
 use Rattle.st_install.specs.Calls.{room_or, with_room, planned, ready}
 use Rattle.st_install.proofs.GoesInstalling.{IsSoundPart, HasPlace}
 use Rattle.st_install.proofs.GoesReading.{Gives, gives_answer, gives_then, gives_next, gives_less, gives_both, Any, IfAny, gives_tried, gives_check, gives_or_die, gives_page, IsField, gives_field, gives_count, IsSoundTable}
-use Rattle.st_install.proofs.GoesPlans.{get_in_front, get_seam, part_more}
+use Rattle.st_install.proofs.GoesPlans.{plan_with, get_in_front, get_seam, part_more}
 use Rattle.st_install.proofs.GoesSymbols.{named_part, AreSoundSymbols, symbols_give, gives_named, fetch_gives}
 use Rattle.st_install.proofs.GoesLiterals.{AreSoundPlaced, owner_gives, all_literals_give}
 use Rattle.st_install.proofs.GoesStoring.{HasFields, there_at}
-use Rattle.st_install.proofs.GoesPlanning.{same_object, HasDictionary, GrowsIf, grows_gives, grown_gives, association_gives, crowded_gives}
+use Rattle.st_install.proofs.GoesPlanning.{same_object, HasDictionary, same_dictionary, GrowsIf, grows_gives, grown_gives, association_gives, crowded_gives}
 
 -- INTO WHAT SYMBOLS ARE STORED
 
@@ -155,26 +155,9 @@ module _ (s : State Table) (sound : IsSoundTable s.memory) (association value : 
   next_if false symbols ls = tt
 
   module _ (class : Value) (has : HasDictionary s.memory class) (parts : PartsView) (headed : IsHeaded parts) (header : is_there bounded_table s.memory (value_of parts.header) ≡ true) where
-    same_dictionary : (d : Value) → IsField s.memory class 1 d → d ≡ has.dictionary
-    same_dictionary d f =
-        let q = same_object s.memory class f.object has.field.object f.is has.field.is in
-        let r : slice_get has.field.object.fields 1 ≡ Some d = subst (λ o. slice_get o.fields 1 ≡ Some d) q f.field in
-        some_value (sym r ∙ has.field.field)
-      where
-        some_value : {x y : Value} → Some x ≡ Some y → x ≡ y
-        some_value e = cc
-
     module _ (symbols : Symbols) (into : StoresInto association value symbols) (ls : PlacedAll) where
       arranged : (c d : Value) (p : Part) (b : Bool) (grown : List NewObject) → IsField s.memory class 1 d → IsSoundPart s.memory (length symbols.objects) p
-          → IsArranged class (record {
-            objects = objects_with_method c parts symbols ls ++ grown;
-            symbol_stores = symbols.stores;
-            selector = p;
-            method = Made (method_number symbols ls);
-            class = class;
-            dictionary = d;
-            grown = grown_number b symbols ls;
-          })
+          → IsArranged class (plan_with c class d parts symbols ls p b grown)
       arranged c d p b grown f l =
           let n = length-append symbols.objects ls.objects in
           record {
@@ -196,9 +179,9 @@ module _ (s : State Table) (sound : IsSoundTable s.memory) (association value : 
       objects_arranged p l =
           gives_then s (λ d. IsField s.memory class 1 d) _ _ _ (gives_field s class 1)
           (λ d f. gives_then s Any _ _ _
-          (gives_less s _ _ Any (subst (λ v. Gives s (grows_for table v p) (λ b. b ≡ false → HasPlace s.memory has.is.object.fields p)) (sym (same_dictionary d f)) (grows_gives s sound has.dictionary has.is p)) (λ b z. tt))
+          (gives_less s _ _ Any (subst (λ v. Gives s (grows_for table v p) (λ b. b ≡ false → HasPlace s.memory has.is.object.fields p)) (sym (same_dictionary s.memory class has d f)) (grows_gives s sound has.dictionary has.is p)) (λ b z. tt))
           (λ b z. gives_then s Any _ _ _
-          (gives_less s _ _ Any (subst (λ v. Gives s (grown_if table v (method_number symbols ls + 1) b) (λ os. GrowsIf s sound has.dictionary has.is (method_number symbols ls + 1) b os)) (sym (same_dictionary d f))
+          (gives_less s _ _ Any (subst (λ v. Gives s (grown_if table v (method_number symbols ls + 1) b) (λ os. GrowsIf s sound has.dictionary has.is (method_number symbols ls + 1) b os)) (sym (same_dictionary s.memory class has d f))
           (grown_gives s sound has.dictionary has.is (method_number symbols ls + 1) b)) (λ os y. tt))
           (λ grown y. gives_then s _ _ _ _ (gives_page s MethodClass)
           (λ c q. sized_arranged class _ (arranged c d p b grown f l)))))

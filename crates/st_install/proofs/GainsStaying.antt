@@ -7,14 +7,14 @@ use Rattle.st_model.specs.declared.page.PageObject.TheVariants.{NilObject}
 use Rattle.st_model.specs.Values.{Value, Small, Ref, IsLive, AllLive}
 use Rattle.st_model.specs.Objects.{Object, nil, place_of}
 use Rattle.st_model.specs.Machine.{State, Transition, Died, Went, is_there, roots_of}
-use Rattle.st_model.specs.Lookup.{find}
 use Rattle.st_model.specs.Show.{IsUsed, IsClosed}
 use Rattle.st_model.specs.Settled.{settled_set, reclaim}
+use Rattle.st_model.specs.Lookup.{find, pointer_if}
 use Rattle.st_model.specs.Table.{Table, entry, table, bounded_table}
 use Rattle.st_model.specs.View.{object_of, field_of}
 use Rattle.st_model.proofs.SettledLemmas.{settled-entry}
 use Rattle.st_model.proofs.Reclaiming.{reclaim_closed}
-use Rattle.st_install.specs.Gains.{SameAnswer, Gained, GainsStay}
+use Rattle.st_install.specs.Gains.{SameAnswer, GainsStay}
 use Rattle.st_install.proofs.Goes.{object_at, over}
 use Rattle.st_install.proofs.GoesReading.{IsField}
 use Rattle.st_install.proofs.GoesSeeking.{at_place, half_of}
@@ -31,13 +31,17 @@ Stays w (Ref n) = is_some (entry w n) ≡ true
 -- w has some of the objects of t, as they were, and all that these refer to
 module _ (t w : Table) (part : (v : Value) (o : Object) → object_at w v ≡ Some o → object_at t v ≡ Some o)
     (closed : (v : Value) (o : Object) → object_at w v ≡ Some o → (i : ℕ) (x : Value) → slice_get o.fields i ≡ Some x → Stays w x) (nil_stays : Stays w nil) where
+  -- what is left is an object, the same in both
+  by_entry : (P : Option Object → Option Object → Type 0) → ((o : Object) → P (Some o) (Some o)) → (n : ℕ) → Stays w (Ref n) → P (entry w n) (entry t n)
+  by_entry P same n h = one (entry w n) refl h
+    where
+      one : (x : Option Object) → entry w n ≡ x → is_some x ≡ true → P (entry w n) (entry t n)
+      one None q f = cc
+      one (Some o) q f = let r : entry t n ≡ Some o = part (Ref n) o q in rw (q, r) (same o)
+
   same_object : (v : Value) → Stays w v → object_at w v ≡ object_at t v
   same_object (Small n) h = refl
-  same_object (Ref n) h = by_entry (entry w n) refl h
-    where
-      by_entry : (x : Option Object) → entry w n ≡ x → is_some x ≡ true → object_at w (Ref n) ≡ object_at t (Ref n)
-      by_entry None q f = cc
-      by_entry (Some o) q f = q ∙ sym (part (Ref n) o q)
+  same_object (Ref n) h = by_entry (λ a b. a ≡ b) (λ o. refl) n h
 
   field_stays : (v : Value) → Stays w v → (i : ℕ) (x : Value) → IsField t v i x → Stays w x
   field_stays v h i x f = closed v f.object (same_object v h ∙ f.is) i x f.field
@@ -62,11 +66,7 @@ module _ (t w : Table) (part : (v : Value) (o : Object) → object_at w v ≡ So
 
   half_stays : (x : Value) → Stays w x → half_of w x ≡ half_of t x
   half_stays (Small n) h = refl
-  half_stays (Ref n) h = by_entry (entry w n) refl h
-    where
-      by_entry : (x : Option Object) → entry w n ≡ x → is_some x ≡ true → half_of w (Ref n) ≡ half_of t (Ref n)
-      by_entry None q f = cc
-      by_entry (Some o) q f = let r : entry t n ≡ Some o = part (Ref n) o q in rw (q, r) refl
+  half_stays (Ref n) h = by_entry (λ a b. pointer_if bounded_table w n a ≡ pointer_if bounded_table t n b) (λ o. refl) n h
 
   its_dictionary : (d : Value) → Stays w d → SameDictionary t w d
   its_dictionary d h = record {

@@ -7,7 +7,7 @@ use Rattle.st_model.specs.Values.{Value, Small, Ref}
 use Rattle.st_model.specs.declared.page.PageObject.{PageObject}
 use Rattle.st_model.specs.Objects.{Object, place_of, is_pointers, is_method, has_bytes, first_unit, with_field, with_units}
 use Rattle.st_model.specs.Machine.{Head, State, Went, Step, is_there, answer, ◌>>=◌, ◌>>◌}
-use Rattle.st_model.specs.Steps.{of_page, found, object_named, object, stored_at, store_at, set_field, fit_units, units_set, set_units_at, set_units, fetch_field, store_field, count_fields, store_method_field, store_byte}
+use Rattle.st_model.specs.Steps.{of_page, check, found, object_named, object, stored_at, store_at, set_field, fit_units, units_set, set_units_at, set_units, fetch_field, store_field, count_fields, store_method_field, store_byte}
 use Rattle.st_model.specs.Table.{Table, entry, changed, bounded_table}
 use Rattle.st_model.proofs.Runs.{run-then, run-next, after-went, run-answer, run-passed, run-some}
 use Rattle.st_model.proofs.TableLemmas.{changed-some, changed-other}
@@ -204,21 +204,23 @@ set_goes t (Small n) o i x s e k = cc
 set_goes t (Ref n) o i x s e k = stored_it n i x (over s t) (entry t n) o (is_there bounded_table t x) e k
 
 module _ (t : Table) (v : Value) (o : Object) (s : State Table) (e : object_at t v ≡ Some o) where
-  pub store_runs : (i : ℕ) (x : Value) → is_pointers o.kind ≡ true → i < length o.fields → is_there bounded_table t x ≡ true
-      → (store_field bounded_table v i x).run (over s t) ≡ Went tt (over s (replaced t v (with_field o i x)))
-  unfolding store_field
-  store_runs i x p l k =
+  -- a field of an object of a kind is set
+  set_runs : (of_kind : Object → Bool) (i : ℕ) (x : Value) → of_kind o ≡ true → i < length o.fields → is_there bounded_table t x ≡ true
+      → (object bounded_table v >>= (λ a. check dead.Kind (of_kind a) >> (check dead.Field (nat_lt i (length a.fields)) >> set_field bounded_table v i x))).run (over s t) ≡ Went tt (over s (replaced t v (with_field o i x)))
+  set_runs of_kind i x p l k =
       let q = tells_object t v o e s in
       let r : nat_lt i (length o.fields) ≡ true = grind (arith, nat_tests) in
       simp (run-then, run-next, q, after-went, run-passed dead.Kind _ (over s t) p, run-passed dead.Field _ (over s t) r, set_goes t v o i x s e k) refl
 
+  pub store_runs : (i : ℕ) (x : Value) → is_pointers o.kind ≡ true → i < length o.fields → is_there bounded_table t x ≡ true
+      → (store_field bounded_table v i x).run (over s t) ≡ Went tt (over s (replaced t v (with_field o i x)))
+  unfolding store_field
+  store_runs = set_runs (λ a. is_pointers a.kind)
+
   method_runs : (i : ℕ) (x : Value) → is_method o.kind ≡ true → i < length o.fields → is_there bounded_table t x ≡ true
       → (store_method_field bounded_table v i x).run (over s t) ≡ Went tt (over s (replaced t v (with_field o i x)))
   unfolding store_method_field
-  method_runs i x p l k =
-      let q = tells_object t v o e s in
-      let r : nat_lt i (length o.fields) ≡ true = grind (arith, nat_tests) in
-      simp (run-then, run-next, q, after-went, run-passed dead.Kind _ (over s t) p, run-passed dead.Field _ (over s t) r, set_goes t v o i x s e k) refl
+  method_runs = set_runs (λ a. is_method a.kind)
 
 pub store_goes : (t : Table) (v : Value) (o : Object) (head : Head) → object_at t v ≡ Some o → (i : ℕ) (x : Value) → is_pointers o.kind ≡ true → i < length o.fields → is_there bounded_table t x ≡ true
     → Goes head (store_field bounded_table v i x) t (λ a u. Stores v o (with_field o i x) t u)

@@ -1,5 +1,5 @@
 -- The objects that were made get what they were planned with.
-use Rattle.std.proofs.Common.{◌≡◌, ◌≢◌, ℕ, ◌+◌, ◌*◌, ◌<◌, ◌≤◌, zero, suc, List, [], ◌∷◌, ◌++◌, length, take, Some, true, refl, sym, ap, ◌∙◌, subst, arith, inl, inr, length-set}
+use Rattle.std.proofs.Common.{◌≡◌, ◌≢◌, ℕ, ◌+◌, ◌*◌, ◌<◌, ◌≤◌, zero, suc, List, [], ◌∷◌, ◌++◌, length, take, Some, Bool, true, refl, sym, ap, ◌∙◌, subst, arith, inl, inr, length-set}
 use Rattle.std.specs.Prelude.{◌-◌, slice_get, slice_set}
 use Rattle.std.proofs.lemmas.List.{append_assoc, append-nil}
 use Rattle.std.proofs.Math.Seq.{take-suc-set}
@@ -8,10 +8,11 @@ use Rattle.st_model.specs.declared.kind.Kind.TheVariants as kind
 use Rattle.st_model.specs.Values.{Value}
 use Rattle.st_model.specs.Objects.{Object, nil, is_pointers, is_method, has_bytes, first_unit, with_field, with_units}
 use Rattle.st_model.specs.Machine.{Head, Step, is_there, ◌>>◌}
-use Rattle.st_model.specs.Steps.{store_fields, store_bytes}
+use Rattle.st_model.specs.Steps.{store_field, store_fields, store_method_field, store_bytes}
 use Rattle.st_model.specs.Table.{Table, bounded_table}
 use Rattle.st_install.specs.Plans.{Part, NewObject}
 use Rattle.st_install.specs.Installing.{part_values, store_method_fields, fill_method, fill_by, fill_all}
+use Rattle.st_install.proofs.InTurn.{InTurn, fields_in_turn, method_in_turn}
 use Rattle.st_install.proofs.Goes.{object_at, replaced, replaced-it, replaced-other, same_or_other, IsLike, like_itself, like_then, like_with_field, LikeAt, IsKept, all_kept, kept_then, kept_replaced, there_kept, Goes, next_goes, answer_goes, Stores, store_goes, store_method_goes, store_byte_goes}
 use Rattle.st_install.proofs.GoesMaking.{blank, blank_by, IsShaped, blank_fields, blank_units}
 
@@ -84,29 +85,28 @@ module _ (head : Head) (v : Value) where
   there_stored : (t : Table) (o p : Object) (xs : List Value) → object_at t v ≡ Some o → IsLike o p → AreThere t xs → AreThere (replaced t v p) xs
   there_stored t o p xs e l h = are_kept t (replaced t v p) xs (kept_replaced t v o p e l) h
 
+  -- fields of an object of a kind, by stores that go one after the other
+  module _ (of_kind : Kind → Bool) (one : ℕ → Value → Step Table Unit) (all : ℕ → List Value → Step Table Unit) (turn : InTurn Table one all)
+      (stores : (t : Table) (o : Object) → object_at t v ≡ Some o → (i : ℕ) (x : Value) → of_kind o.kind ≡ true → i < length o.fields → is_there bounded_table t x ≡ true → Goes head (one i x) t (λ a u. Stores v o (with_field o i x) t u)) where
+    all_go : (t : Table) (o : Object) (to : ℕ) (xs : List Value) → object_at t v ≡ Some o → of_kind o.kind ≡ true → to + length xs ≡ length o.fields → AreThere t xs → Goes head (all to xs) t (λ a u. Fills v o (take to o.fields ++ xs) t u)
+    all_go t o to [] e p l h =
+        subst (λ (m : Step Table Unit). Goes head m t (λ a u. Fills v o (take to o.fields ++ []) t u)) (sym (turn.none to)) (answer_goes head t _ tt (fills_none v o _ t e (take_all o.fields to (omega (arith, l)))))
+    all_go t o to (x ∷ xs) e p l h =
+        let b : to < length o.fields = omega (arith, l) in
+        subst (λ (m : Step Table Unit). Goes head m t (λ a u. Fills v o (take to o.fields ++ x ∷ xs) t u)) (sym (turn.more to x xs))
+        (stored_then head v o (with_field o to x) (take to o.fields ++ x ∷ xs) t e _ _ (stores t o e to x p b h.0)
+        (subst (λ fs. Goes head (all (suc to) xs) (replaced t v (with_field o to x)) (λ a u. Fills v (with_field o to x) fs (replaced t v (with_field o to x)) u))
+        (taken_on o.fields to x xs b)
+        (all_go (replaced t v (with_field o to x)) (with_field o to x) (suc to) xs (replaced-it t v (with_field o to x) o e) p
+        (let n = length-set o.fields to x in omega (arith, l, n)) (there_stored t o (with_field o to x) xs e (like_with_field o to x) h.1))))
+
   pub store_fields_go : (t : Table) (o : Object) (to : ℕ) (xs : List Value) → object_at t v ≡ Some o → is_pointers o.kind ≡ true → to + length xs ≡ length o.fields → AreThere t xs
       → Goes head (store_fields bounded_table v to xs) t (λ a u. Fills v o (take to o.fields ++ xs) t u)
-  unfolding store_fields
-  store_fields_go t o to [] e p l h = answer_goes head t _ tt (fills_none v o _ t e (take_all o.fields to (omega (arith, l))))
-  store_fields_go t o to (x ∷ xs) e p l h =
-      let b : to < length o.fields = omega (arith, l) in
-      stored_then head v o (with_field o to x) (take to o.fields ++ x ∷ xs) t e _ _ (store_goes t v o head e to x p b h.0)
-      (subst (λ fs. Goes head (store_fields bounded_table v (suc to) xs) (replaced t v (with_field o to x)) (λ a u. Fills v (with_field o to x) fs (replaced t v (with_field o to x)) u))
-      (taken_on o.fields to x xs b)
-      (store_fields_go (replaced t v (with_field o to x)) (with_field o to x) (suc to) xs (replaced-it t v (with_field o to x) o e) p
-      (let n = length-set o.fields to x in omega (arith, l, n)) (there_stored t o (with_field o to x) xs e (like_with_field o to x) h.1)))
+  store_fields_go = all_go is_pointers (store_field bounded_table v) (store_fields bounded_table v) (fields_in_turn Table bounded_table v) (λ t o e i x p l k. store_goes t v o head e i x p l k)
 
   pub store_method_fields_go : (t : Table) (o : Object) (to : ℕ) (xs : List Value) → object_at t v ≡ Some o → is_method o.kind ≡ true → to + length xs ≡ length o.fields → AreThere t xs
       → Goes head (store_method_fields bounded_table v to xs) t (λ a u. Fills v o (take to o.fields ++ xs) t u)
-  unfolding store_method_fields
-  store_method_fields_go t o to [] e p l h = answer_goes head t _ tt (fills_none v o _ t e (take_all o.fields to (omega (arith, l))))
-  store_method_fields_go t o to (x ∷ xs) e p l h =
-      let b : to < length o.fields = omega (arith, l) in
-      stored_then head v o (with_field o to x) (take to o.fields ++ x ∷ xs) t e _ _ (store_method_goes t v o head e to x p b h.0)
-      (subst (λ fs. Goes head (store_method_fields bounded_table v (suc to) xs) (replaced t v (with_field o to x)) (λ a u. Fills v (with_field o to x) fs (replaced t v (with_field o to x)) u))
-      (taken_on o.fields to x xs b)
-      (store_method_fields_go (replaced t v (with_field o to x)) (with_field o to x) (suc to) xs (replaced-it t v (with_field o to x) o e) p
-      (let n = length-set o.fields to x in omega (arith, l, n)) (there_stored t o (with_field o to x) xs e (like_with_field o to x) h.1)))
+  store_method_fields_go = all_go is_method (store_method_field bounded_table v) (store_method_fields bounded_table v) (method_in_turn Table bounded_table v) (λ t o e i x p l k. store_method_goes t v o head e i x p l k)
 
   pub store_bytes_go : (t : Table) (o : Object) (to : ℕ) (bs : List ℕ) → object_at t v ≡ Some o → has_bytes o.kind ≡ true → first_unit o ≤ to → to + length bs ≤ first_unit o + length o.units
       → Goes head (store_bytes bounded_table v to bs) t (λ a u. Fills v o o.fields t u)

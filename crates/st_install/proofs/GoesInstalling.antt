@@ -280,7 +280,7 @@ pub record IsTarget (w : Table) (selector : Value) (d : Value) (z : Table) : Typ
 
 module _ (head : Head) (t : Table) (p : Plan) (sound : IsSoundPlan t p) where
   module _ (u : Table) (vs : List Value) (m : Makes t p.objects vs u) (w : Table) (f : FillsAll vs vs p.objects u w) where
-    old_stays : IsSoundTarget t p.objects sound.dictionary.object.fields p.selector None → IsTarget w (part_value nil vs p.selector) p.dictionary w
+    unfoldable pub old_stays : IsSoundTarget t p.objects sound.dictionary.object.fields p.selector None → IsTarget w (part_value nil vs p.selector) p.dictionary w
     old_stays h =
         let d = sound.dictionary in
         let k = filled_kept t u p.objects vs m w f in
@@ -299,7 +299,7 @@ module _ (head : Head) (t : Table) (p : Plan) (sound : IsSoundPlan t p) where
           somewhere = somewhere t u p.objects vs m w f d.object.fields p.selector sound.selector h;
         }
 
-    new_takes : (k : ℕ) (g : IsGrown t p.objects k (2 * (length sound.dictionary.object.fields - 2))) (z : Table)
+    unfoldable pub new_takes : (k : ℕ) (g : IsGrown t p.objects k (2 * (length sound.dictionary.object.fields - 2))) (z : Table)
         → Refilling w (get_or vs k nil) (get_or vs (k + 1) nil) g.tally (2 * (length sound.dictionary.object.fields - 2)) (length sound.dictionary.object.fields - 2) z
         → IsTarget w (part_value nil vs p.selector) (get_or vs k nil) z
     new_takes k g z r =

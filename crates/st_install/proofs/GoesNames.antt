@@ -26,6 +26,15 @@ use Rattle.st_install.proofs.GoesPlanning.{HasDictionary, gives_dictionary}
 pub record OnlyReads {A : Type 0} (s : State Table) (m : Step Table A) : Type 0 where
   pub gives : Gives s m Any
 
+-- what holds where names are answered
+abbrev pub IfSeen : Type 0 → Result NamesView InstallFault → Type 0
+IfSeen P (Ok seen) = P
+IfSeen P (Err f) = Unit {0}
+
+pub or_shape : (P : Type 0) (x : Option NamesView) → IfAny (λ y. P) x → IfSeen P (or_fault Shape x)
+or_shape P None h = tt
+or_shape P (Some y) h = h
+
 module _ (s : State Table) where
   answer_reads : {A : Type 0} (a : A) → OnlyReads s (answer a)
   answer_reads a = record { gives = gives_answer s Any a tt }
@@ -185,14 +194,9 @@ module _ (s : State Table) where
         (λ shared v. gives_answer s _ _ h))))))
 
     abbrev pub DictionaryIfOk : Value → Result NamesView InstallFault → Type 0
-    DictionaryIfOk class (Ok seen) = HasDictionary s.memory class
-    DictionaryIfOk class (Err f) = Unit {0}
-
-    or_shape : (class : Value) (x : Option NamesView) → IfAny (λ y. HasDictionary s.memory class) x → DictionaryIfOk class (or_fault Shape x)
-    or_shape class None h = tt
-    or_shape class (Some y) h = h
+    DictionaryIfOk class = IfSeen (HasDictionary s.memory class)
 
     pub names_give : (head : Head) (class : Value) (meta : Bool) (tree : MethodView) → Gives s (names table head class meta tree) (DictionaryIfOk class)
     unfolding names
     names_give head class meta tree =
-        gives_then s _ _ _ _ (gives_tried s _ _ (seen_gives head class meta tree)) (λ x h. gives_answer s (DictionaryIfOk class) _ (or_shape class x h))
+        gives_then s _ _ _ _ (gives_tried s _ _ (seen_gives head class meta tree)) (λ x h. gives_answer s (DictionaryIfOk class) _ (or_shape (HasDictionary s.memory class) x h))

@@ -32,7 +32,7 @@ use Rattle.st_install.proofs.GoesStoring.{HasFields, there_at}
 use Rattle.st_install.proofs.GoesSeeking.{ending_for, table_reads, tells_places, tells_seek, nowhere_full, none_counted, vacant_among, tells_vacant}
 use Rattle.st_install.proofs.GoesInstalling.{IsSoundPart, AreSoundObjects, AreSoundStores, IsDictionary, HasPlace, IsGrown, IsSoundTarget, IsSoundPlan}
 use Rattle.st_install.proofs.GoesReading.{Gives, gives_told, gives_answer, gives_then, gives_next, gives_less, Any, IfAny, gives_tried, gives_check, gives_or_die, gives_page, IsField, gives_field, IsCount, gives_count, gives_bits, IsSoundTable, field_there, page_class, gives_class_of}
-use Rattle.st_install.proofs.GoesPlans.{get_seam, part_more, parts_more, objects_more, objects_append, can_make_append, parts_replicate, stores_more}
+use Rattle.st_install.proofs.GoesPlans.{plan_with, get_seam, part_more, parts_more, objects_more, objects_append, can_make_append, parts_replicate, stores_more}
 use Rattle.st_install.proofs.GoesSymbols.{has_two, gives_checked, gives_member, named_part, AreSoundSymbols, symbols_give}
 use Rattle.st_install.proofs.GoesLiterals.{AreSoundPlaced, owner_gives, all_literals_give}
 
@@ -49,6 +49,16 @@ same_object t v a b e f = let q : Some a ≡ Some b = sym e ∙ f in some_same q
   where
     some_same : Some a ≡ Some b → a ≡ b
     some_same q = cc
+
+-- a class has one dictionary
+pub same_dictionary : (t : Table) (class : Value) (has : HasDictionary t class) (d : Value) → IsField t class 1 d → d ≡ has.dictionary
+same_dictionary t class has d f =
+    let q = same_object t class f.object has.field.object f.is has.field.is in
+    let r : slice_get has.field.object.fields 1 ≡ Some d = subst (λ o. slice_get o.fields 1 ≡ Some d) q f.field in
+    some_value (sym r ∙ has.field.field)
+  where
+    some_value : {x y : Value} → Some x ≡ Some y → x ≡ y
+    some_value e = cc
 
 some_places : (n : ℕ) → is_power_of_two n ≡ true → 0 < n
 some_places n e = grind (arith, nat_tests)
@@ -199,15 +209,7 @@ module _ (s : State Table) (sound : IsSoundTable s.memory) (class : Value) (has 
       all_of_it : length (objects_with_method c parts symbols ls ++ grown) ≡ length symbols.objects + length ls.objects + 1 + length grown
       all_of_it = length-append (objects_with_method c parts symbols ls) grown ∙ ap (λ n. n + length grown) (counted c)
 
-      pub plan_sound : IsSoundPlan s.memory (record {
-        objects = objects_with_method c parts symbols ls ++ grown;
-        symbol_stores = symbols.stores;
-        selector = p;
-        method = Made (method_number symbols ls);
-        class = class;
-        dictionary = has.dictionary;
-        grown = grown_number b symbols ls;
-      })
+      pub plan_sound : IsSoundPlan s.memory (plan_with c class has.dictionary parts symbols ls p b grown)
       plan_sound =
           let n = all_of_it in
           record {
@@ -223,15 +225,7 @@ module _ (s : State Table) (sound : IsSoundTable s.memory) (class : Value) (has 
 
     -- where it doesn't grow
     stays : (c : Value) (p : Part) (grown : List NewObject) → IsClassFor s.memory kind.Method c → IsSoundPart s.memory (length symbols.objects) p → grown ≡ [] → HasPlace s.memory has.is.object.fields p
-        → IsSoundPlan s.memory (record {
-          objects = objects_with_method c parts symbols ls ++ grown;
-          symbol_stores = symbols.stores;
-          selector = p;
-          method = Made (method_number symbols ls);
-          class = class;
-          dictionary = has.dictionary;
-          grown = grown_number false symbols ls;
-        })
+        → IsSoundPlan s.memory (plan_with c class has.dictionary parts symbols ls p false grown)
     stays c p grown m l e h =
         plan_sound c p grown false m l (subst (λ os. CanMake s.memory os) (sym e) tt) (subst (λ os. AreSoundObjects s.memory (length (objects_with_method c parts symbols ls ++ grown)) os) (sym e) tt) h
 
@@ -269,28 +263,12 @@ module _ (s : State Table) (sound : IsSoundTable s.memory) (class : Value) (has 
           }
 
       grows : IsClassFor s.memory kind.Method c → IsSoundPart s.memory (length symbols.objects) p
-          → IsSoundPlan s.memory (record {
-            objects = objects_with_method c parts symbols ls ++ grown;
-            symbol_stores = symbols.stores;
-            selector = p;
-            method = Made (method_number symbols ls);
-            class = class;
-            dictionary = has.dictionary;
-            grown = grown_number true symbols ls;
-          })
+          → IsSoundPlan s.memory (plan_with c class has.dictionary parts symbols ls p true grown)
       grows m l = plan_sound c p grown true m l growth_made (growth_objects _ all_with_growth) grown_target
 
     either_sound : (c : Value) (p : Part) (b : Bool) (grown : List NewObject) → IsClassFor s.memory kind.Method c → IsSoundPart s.memory (length symbols.objects) p
         → (b ≡ false → HasPlace s.memory has.is.object.fields p) → GrowsIf s sound has.dictionary has.is (method_number symbols ls + 1) b grown
-        → IsSoundPlan s.memory (record {
-          objects = objects_with_method c parts symbols ls ++ grown;
-          symbol_stores = symbols.stores;
-          selector = p;
-          method = Made (method_number symbols ls);
-          class = class;
-          dictionary = has.dictionary;
-          grown = grown_number b symbols ls;
-        })
+        → IsSoundPlan s.memory (plan_with c class has.dictionary parts symbols ls p b grown)
     either_sound c p true grown m l h g = grows c p grown g m l
     either_sound c p false grown m l h g = stays c p grown m l g (h refl)
 
@@ -305,30 +283,10 @@ module _ (s : State Table) (sound : IsSoundTable s.memory) (class : Value) (has 
     unfolding sized
     sized_gives p h = gives_next s _ _ _ _ (size_gives p.objects) (λ u x. gives_answer s _ p h)
 
-    same_field : (d : Value) → IsField s.memory class 1 d → d ≡ has.dictionary
-    same_field d f =
-        let q = same_object s.memory class f.object has.field.object f.is has.field.is in
-        let r : slice_get has.field.object.fields 1 ≡ Some d = subst (λ o. slice_get o.fields 1 ≡ Some d) q f.field in
-        some_value (sym r ∙ has.field.field)
-      where
-        some_value : {x y : Value} → Some x ≡ Some y → x ≡ y
-        some_value e = cc
-
-    abbrev plan_for : (d c : Value) → Part → Bool → List NewObject → Plan
-    plan_for d c p b grown = record {
-      objects = objects_with_method c parts symbols ls ++ grown;
-      symbol_stores = symbols.stores;
-      selector = p;
-      method = Made (method_number symbols ls);
-      class = class;
-      dictionary = d;
-      grown = grown_number b symbols ls;
-    }
-
     objects_give : (p : Part) → IsSoundPart s.memory (length symbols.objects) p → Gives s (plan_objects table class parts symbols ls p) (λ x. IsSoundPlan s.memory x)
     unfolding plan_objects
     objects_give p l =
-        gives_then s (λ d. d ≡ has.dictionary) _ _ _ (gives_less s _ _ _ (gives_field s class 1) (λ d f. same_field d f))
+        gives_then s (λ d. d ≡ has.dictionary) _ _ _ (gives_less s _ _ _ (gives_field s class 1) (λ d f. same_dictionary s.memory class has d f))
         (λ d e. gives_then s (λ b. b ≡ false → HasPlace s.memory has.is.object.fields p) _ _ _
         (subst (λ v. Gives s (grows_for table v p) (λ b. b ≡ false → HasPlace s.memory has.is.object.fields p)) (sym e) (grows_gives s sound has.dictionary has.is p))
         (λ b h. gives_then s (λ grown. GrowsIf s sound has.dictionary has.is (method_number symbols ls + 1) b grown) _ _ _
@@ -336,7 +294,7 @@ module _ (s : State Table) (sound : IsSoundTable s.memory) (class : Value) (has 
         (grown_gives s sound has.dictionary has.is (method_number symbols ls + 1) b))
         (λ grown g. gives_then s _ _ _ _ (gives_page s MethodClass)
         (λ c q. sized_gives _
-        (subst (λ v. IsSoundPlan s.memory (plan_for v c p b grown)) (sym e) (either_sound c p b grown (page_there c q) l h g))))))
+        (subst (λ v. IsSoundPlan s.memory (plan_with c class v parts symbols ls p b grown)) (sym e) (either_sound c p b grown (page_there c q) l h g))))))
 
   pub plan_gives : (symbol_table association : Value) (meta : Bool) → HasFields s.memory association 2
       → Gives s (plan table symbol_table association class meta parts) (λ x. IsSoundPlan s.memory x)

@@ -1,11 +1,28 @@
 -- Parts of plans stay sound as more is made.
-use Rattle.std.proofs.Common.{◌≡◌, ℕ, ◌+◌, ◌≤◌, zero, suc, List, [], ◌∷◌, ◌++◌, length, Some, ap, ◌∙◌, arith, length-append}
+use Rattle.std.proofs.Common.{◌≡◌, ℕ, ◌+◌, ◌≤◌, zero, suc, List, [], ◌∷◌, ◌++◌, length, Some, Bool, ap, ◌∙◌, arith, length-append}
 use Rattle.std.specs.Prelude.{slice_get, slice_set, replicate}
+use Rattle.st_model.specs.Values.{Value}
 use Rattle.st_model.specs.Table.{Table}
-use Rattle.st_install.specs.Plans.{Part, There, Made, NewObject, Store}
+use Rattle.st_code.specs.Methods.{PartsView}
+use Rattle.st_install.specs.Plans.{Part, There, Made, NewObject, Store, Plan}
+use Rattle.st_install.specs.Symbols.{Symbols}
+use Rattle.st_install.specs.Literals.{PlacedAll}
+use Rattle.st_install.specs.Planning.{method_number, objects_with_method, grown_number}
 use Rattle.st_install.proofs.GoesMaking.{CanMake}
 use Rattle.st_install.proofs.GoesStoring.{fewer_fields}
 use Rattle.st_install.proofs.GoesInstalling.{IsSoundPart, AreSoundParts, AreSoundObjects, PartHas, AreSoundStores}
+
+-- the plan that has these objects with a method of this class, for a class with this dictionary
+abbrev pub plan_with : (method_class class dictionary : Value) → PartsView → Symbols → PlacedAll → Part → Bool → List NewObject → Plan
+plan_with method_class class dictionary parts symbols literals selector grows grown = record {
+  objects = objects_with_method method_class parts symbols literals ++ grown;
+  symbol_stores = symbols.stores;
+  selector = selector;
+  method = Made (method_number symbols literals);
+  class = class;
+  dictionary = dictionary;
+  grown = grown_number grows symbols literals;
+}
 
 pub get_in_front : {A : Type 0} (xs ys : List A) (k : ℕ) (x : A) → slice_get xs k ≡ Some x → slice_get (xs ++ ys) k ≡ Some x
 get_in_front [] ys k x e = cc

@@ -230,21 +230,19 @@ stored_to kind (Some o) x i y s h =
     let e = stored_in (kind o) (nat_lt i (length o.fields)) x i y s h in
     (refl, e.0, below_is i (length o.fields) e.1, e.2)
 
-stored : (x : Value) (i : ℕ) (y : Value) (s : State Table) → HasGone ((store_field table x i y).run s) → Takes (λ o. is_pointers o.kind) s.memory x i y
-unfolding store_field object object_named is_live object_of found die after ◌>>=◌ ◌>>◌
-stored (Small n) i y s h = absurd h
-stored (Ref n) i y s h = let e = stored_to (λ o. is_pointers o.kind) (entry s.memory n) (Ref n) i y s h in record { live = e.0; kind = e.1; range = e.2; known = there_known s.memory y e.3; there = e.3 }
+stored : (kind : Object → Bool) (x : Value) (i : ℕ) (y : Value) (s : State Table)
+    → HasGone ((object table x >>= (λ o. check dead.Kind (kind o) >> (check dead.Field (nat_lt i (length o.fields)) >> set_field table x i y))).run s) → Takes kind s.memory x i y
+unfolding object object_named is_live object_of found die after ◌>>=◌ ◌>>◌
+stored kind (Small n) i y s h = absurd h
+stored kind (Ref n) i y s h = let e = stored_to kind (entry s.memory n) (Ref n) i y s h in record { live = e.0; kind = e.1; range = e.2; known = there_known s.memory y e.3; there = e.3 }
 
 pub field_takes : (v : View) (x : Value) (i : ℕ) (y : Value) → Goes (store_field table x i y) v → Takes (λ o. is_pointers o.kind) v.objects x i y
-field_takes v x i y h = stored x i y (state_of v) (h.gone (state_of v) refl refl)
-
-method_stored : (x : Value) (i : ℕ) (y : Value) (s : State Table) → HasGone ((store_method_field table x i y).run s) → Takes (λ o. is_method o.kind) s.memory x i y
-unfolding store_method_field object object_named is_live object_of found die after ◌>>=◌ ◌>>◌
-method_stored (Small n) i y s h = absurd h
-method_stored (Ref n) i y s h = let e = stored_to (λ o. is_method o.kind) (entry s.memory n) (Ref n) i y s h in record { live = e.0; kind = e.1; range = e.2; known = there_known s.memory y e.3; there = e.3 }
+unfolding store_field
+field_takes v x i y h = stored (λ o. is_pointers o.kind) x i y (state_of v) (h.gone (state_of v) refl refl)
 
 pub method_takes : (v : View) (x : Value) (i : ℕ) (y : Value) → Goes (store_method_field table x i y) v → Takes (λ o. is_method o.kind) v.objects x i y
-method_takes v x i y h = method_stored x i y (state_of v) (h.gone (state_of v) refl refl)
+unfolding store_method_field
+method_takes v x i y h = stored (λ o. is_method o.kind) x i y (state_of v) (h.gone (state_of v) refl refl)
 
 module _ (v : View) (x : Value) (i : ℕ) where
   pub field_read : (r : Oop) → Has v.objects x i 1 → slice_get (object_of v.objects x).fields i ≡ Some (value r) → Reads (fetch_field table x i) value v.objects (Ok r)

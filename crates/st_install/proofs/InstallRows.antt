@@ -1,12 +1,11 @@
 -- Worked rows of definitions that are installed, computed from the definitions.
-use Rattle.std.proofs.Common.{◌≡◌, ℕ, List, [], ◌∷◌, Some, None, Option, Ok, Err, true, false, refl}
+use Rattle.std.proofs.Common.{◌≡◌, [], ◌∷◌, Some, None, Option, Ok, Err, true, false, refl}
 use Rattle.std.specs.Prelude.{codes}
 use Rattle.st_model.specs.Values.{Small, Ref}
 use Rattle.st_model.specs.Objects.{Object, nil}
 use Rattle.st_model.specs.Machine.{Went, used}
 use Rattle.st_model.specs.Settled.{reclaim}
 use Rattle.st_model.specs.Table.{Table, table}
-use Rattle.st_scan.specs.Views.{MethodView, variable, statement, no_statements}
 use Rattle.st_code.specs.Methods.{PartsView, code}
 use Rattle.st_emit.specs.Names.{NamesView}
 use Rattle.st_scope.specs.declared.fault.InstallFault.TheVariants.{NoClass, NoGlobals, NoRoom, Shape}
@@ -14,6 +13,7 @@ use Rattle.st_install.specs.Plans.{Plan, There, Made, bytes_object, method_objec
 use Rattle.st_scope.specs.Calls.{class_of_name, names}
 use Rattle.st_install.specs.Calls.{ready}
 use Rattle.st_install.specs.Installing.{install}
+use Rattle.st_install.proofs.Rows.{returning}
 use Rattle.st_install.proofs.Opened.{opened}
 use Rattle.st_install.proofs.Image.{plain, pointers, bytes, method, point, objects, first_image, head, head_with, bare_head, state, state_of}
 
@@ -37,16 +37,6 @@ unfolding opened
 no_globals = refl
 
 -- NAMES
-
--- a method that returns a variable
-abbrev returning : List ℕ → List ℕ → MethodView
-returning selector name = record {
-  selector = selector;
-  arguments = [];
-  temporaries = [];
-  primitive = None;
-  body = statement true (variable (record { text = name; place = 4 })) no_statements;
-}
 
 abbrev names_of_point : NamesView
 names_of_point = record { fields = codes "x" ∷ codes "y" ∷ []; shared = []; symbols = true }
@@ -97,7 +87,7 @@ y_parts = record { selector = codes "y"; header = 49409; literals = []; bytes = 
 y_coded : code (returning (codes "y") (codes "y")) names_of_point ≡ Ok y_parts
 y_coded = refl
 
-abbrev x_plan : Plan
+abbrev pub x_plan : Plan
 x_plan = record {
   objects = bytes_object (Ref 28) (codes "x") ∷ method_object (Ref 17) (There (Small 24576) ∷ []) (0 ∷ 124 ∷ []) ∷ [];
   symbol_stores = record { object = There (Ref 35); field = 0; value = Made 0 } ∷ [];

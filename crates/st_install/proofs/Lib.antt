@@ -5,6 +5,7 @@ mod LiteralRows
 pub mod SymbolsAt
 pub mod Seeking
 pub mod Going
+pub mod InTurn
 pub mod Filled
 pub mod Goes
 pub mod GoesMaking

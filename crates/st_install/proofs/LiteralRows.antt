@@ -14,6 +14,7 @@ use Rattle.st_install.specs.Plans.{Plan, There, Made, bytes_object, method_objec
 use Rattle.st_scope.specs.Calls.{class_of_name, names}
 use Rattle.st_install.specs.Calls.{ready}
 use Rattle.st_install.specs.Installing.{install}
+use Rattle.st_install.proofs.InstallRows.{x_plan}
 use Rattle.st_install.proofs.Opened.{opened}
 use Rattle.st_install.proofs.Image.{plain, pointers, bytes, method, point, objects, first_image, head, state}
 
@@ -175,15 +176,12 @@ metaclass_names = refl
 
 -- the owner is an association of its own, made before the method
 abbrev owner_plan : Plan
-owner_plan = record {
+owner_plan = record x_plan {
   objects = bytes_object (Ref 28) (codes "x") ∷ pointers_object (Ref 6) (There nil ∷ There (Ref 36) ∷ [])
       ∷ method_object (Ref 17) (There (Small 24576) ∷ Made 1 ∷ []) (0 ∷ 124 ∷ []) ∷ [];
-  symbol_stores = record { object = There (Ref 35); field = 0; value = Made 0 } ∷ [];
-  selector = Made 0;
   method = Made 2;
   class = Ref 36;
   dictionary = Ref 37;
-  grown = None;
 }
 
 owner_ready : (ready table head (Ref 36) (codes "Point") true (parts_of (owner ∷ []))).run (state with_metaclass) ≡ Went (Ok owner_plan) (state with_metaclass)

@@ -33,6 +33,10 @@ use Rattle.st_scope.proofs.Lineages.{behind_none}
 
 -- ONE OBJECT
 
+-- the size and the literals of what was placed, by other names
+pub placed_by : (t u : Table) (c : ℕ) (k : Kind) (n m l j : ℕ) → u ≡ placed t (fresh c k n l) → n ≡ m → l ≡ j → u ≡ placed t (fresh c k m j)
+placed_by t u c k n m l j e a b = e ∙ (λ i. placed t (fresh c k (a i) (b i)))
+
 made_there : (o : Object) (s : State Table) (a b : Bool) → HasGone (made bounded_table o s a b) → a ≡ true
 unfolding made
 made_there o s true b h = refl
@@ -57,23 +61,21 @@ headed_most [] h = absurd h
 headed_most (Made k ∷ ps) h = absurd h
 headed_most (There x ∷ ps) h = let f = few_literals x in let e = h.1 in (omega arith, omega (arith, f, e))
 
+-- an object without literals
+without_literals : (c : ℕ) (k : Kind) (n : ℕ) → is_method k ≡ false → is_method k ≡ (c == place_of MethodClass) → words_of (fresh c k n 0) ≤ 65535 → IsMakeable c k n 0
+without_literals c k n w m b = record {
+  kind = m;
+  body = b;
+  few = omega arith;
+  none = λ e. refl;
+  header = λ e. cc;
+}
+
 makeable_by : (c : ℕ) (k : Kind) (o : NewObject) → is_words k ≡ false → is_method k ≡ (c == place_of MethodClass) → (is_method k ≡ true → HasHeader o.fields) → words_of_new o ≤ 65535
     → IsMakeable c k (size_by k o) (literals_by k o)
-makeable_by c kind.Pointers o w m h b = record {
-  kind = m;
-  body = rw (words_pointers c (length o.fields) 0) (omega (arith, b));
-  few = omega arith;
-  none = λ e. refl;
-  header = λ e. cc;
-}
+makeable_by c kind.Pointers o w m h b = without_literals c kind.Pointers (length o.fields) refl m (rw (words_pointers c (length o.fields) 0) (omega (arith, b)))
 makeable_by c kind.Words o w m h b = cc
-makeable_by c kind.Bytes o w m h b = record {
-  kind = m;
-  body = rw (words_bytes c (length o.bytes) 0) (omega (arith, b));
-  few = omega arith;
-  none = λ e. refl;
-  header = λ e. cc;
-}
+makeable_by c kind.Bytes o w m h b = without_literals c kind.Bytes (length o.bytes) refl m (rw (words_bytes c (length o.bytes) 0) (omega (arith, b)))
 makeable_by c kind.Method o w m h b =
     let f = headed_most o.fields (h refl) in
     let low = f.0 in

@@ -66,16 +66,14 @@ module _ (d s meth : Value) (v : View) where
     abbrev methods_then : Value → Step Table Unit
     methods_then ms = put_method table d ms k s meth
 
-    opened : Goes (fetch_field table d 1 >>= methods_then) v
-    unfolding put_at
-    opened = h
-
     pub methods_there : Goes (fetch_field table d 1) v
-    methods_there = goes-first (fetch_field table d 1) methods_then v opened
+    unfolding put_at
+    methods_there = goes-first (fetch_field table d 1) methods_then v h
 
     module _ (ms : Oop) (e : Reads (fetch_field table d 1) value v.objects (Ok ms)) where
       pub held_goes : Goes (put_method table d (value ms) k s meth) v
-      held_goes = goes-read (fetch_field table d 1) methods_then v opened value ms e
+      unfolding put_at
+      held_goes = goes-read (fetch_field table d 1) methods_then v h value ms e
 
       pub held_put : (w : View) → Becomes (put_method table d (value ms) k s meth) v tt w → Becomes (put_at table d s meth (Holds k)) v tt w
       unfolding put_at

@@ -7,7 +7,7 @@ use Rattle.st_install.specs.Syntax.{syntax}
 use Rattle.st_install.proofs.DefinitionOpened.{opened}
 
 -- a method that returns a variable
-abbrev returning : List ℕ → List ℕ → MethodView
+abbrev pub returning : List ℕ → List ℕ → MethodView
 returning selector name = record {
   selector = selector;
   arguments = [];

@@ -2,6 +2,7 @@
 use Rattle.std.proofs.Common.{◌≡◌, ℕ, ◌≤◌, List, [], ◌∷◌, Option, Some, None, Bool, true, false, Ok, refl, sym, ap, subst, ◌∙◌, arith, inl, inr}
 use Rattle.std.specs.Prelude.{nat_lt, if◌then◌else◌}
 use Rattle.std.proofs.lemmas.Bool.Decides.{nat_tests}
+use Rattle.st_model.specs.declared.dead.Dead.{Dead}
 use Rattle.st_model.specs.Values.{Value}
 use Rattle.st_model.specs.Outcomes as outcome
 use Rattle.st_model.specs.Machine.{Head, State, Transition, Died, Went, answer, after, ◌>>=◌, tried, used, is_over}
@@ -14,7 +15,7 @@ use Rattle.st_model.specs.Foreseen.{IsSound}
 use Rattle.st_simulation.specs.Laws.{Runs}
 use Rattle.st_model.proofs.BirthLemmas.{pointer_of-borne}
 use Rattle.st_model.proofs.Names.{map_live, same_value}
-use Rattle.st_simulation.proofs.Same.{TransitionSame, Anything, SameAnswer}
+use Rattle.st_simulation.proofs.Same.{TransitionSame, Anything, SameAnswer, StateSame}
 use Rattle.st_simulation.proofs.HeapsSame.{cycle_simulation, same_used}
 use Rattle.st_simulation.proofs.Started.{lives, named, named-kept, naming, states_start, heaps_start}
 use Rattle.st_simulation.proofs.Again.{shows_now}
@@ -193,36 +194,32 @@ module _ (p : Plan) (c : State Table) (s : State Births) (runs : Runs c s) (is_r
   stays : (d : State Table) → (install bounded_table shown_plan).run c ≡ Went tt d → IsSound d × (d.head ≡ c.head)
   stays d e = stays_sound c.head runs.entries Anything itself (install bounded_table shown_plan) same_alone c d tt runs.sound refl e
 
-  runs_on : (o : Transition (State Births) (Unit {0})) (q : Transition (State Table) (Unit {0})) → TransitionSame (cycle_simulation (naming c s runs.shows)) Anything itself o q
-      → ((d : State Table) → q ≡ Went tt d → IsSound d × (d.head ≡ c.head)) → RunsOn q o
-  runs_on (Died a) (Died b) (inl h) k = h
-  runs_on (Died a) (Died b) (inr h) k = absurd h
-  runs_on (Died a) (Went y d) h k = absurd h
-  runs_on (Went x u) (Died b) h k = absurd h.1
-  runs_on (Went x u) (Went y d) (inl h) k = absurd h.1
-  runs_on (Went x u) (Went y d) (inr h) k =
-      let r = k d refl in
-      record {
-        shows = shows_now (naming c s runs.shows) u d h.2 r.0.closed;
+  -- both die of the same cause, or both go
+  by_transitions : (P : Transition (State Births) (Unit {0}) → Transition (State Table) (Unit {0}) → Type 0) → ((a b : Dead) → b ≡ a → P (Died a) (Died b))
+      → ((u : State Births) (d : State Table) → StateSame (cycle_simulation (naming c s runs.shows)) u d → IsSound d × (d.head ≡ c.head) → P (Went tt u) (Went tt d))
+      → (o : Transition (State Births) (Unit {0})) (q : Transition (State Table) (Unit {0})) → TransitionSame (cycle_simulation (naming c s runs.shows)) Anything itself o q → ((d : State Table) → q ≡ Went tt d → IsSound d × (d.head ≡ c.head)) → P o q
+  by_transitions P died went (Died a) (Died b) (inl h) k = died a b h
+  by_transitions P died went (Died a) (Died b) (inr h) k = absurd h
+  by_transitions P died went (Died a) (Went y d) h k = absurd h
+  by_transitions P died went (Went x u) (Died b) h k = absurd h.1
+  by_transitions P died went (Went x u) (Went y d) (inl h) k = absurd h.1
+  by_transitions P died went (Went x u) (Went y d) (inr h) k = went u d h.2 (k d refl)
+
+  runs_on : (o : Transition (State Births) (Unit {0})) (q : Transition (State Table) (Unit {0})) → TransitionSame (cycle_simulation (naming c s runs.shows)) Anything itself o q → ((d : State Table) → q ≡ Went tt d → IsSound d × (d.head ≡ c.head)) → RunsOn q o
+  runs_on = by_transitions (λ o q. RunsOn q o) (λ a b h. h)
+      (λ u d h r. record {
+        shows = shows_now (naming c s runs.shows) u d h r.0.closed;
         sound = r.0;
         entries = subst (λ (a : Head). a.entries ≤ 32767) (sym r.1) runs.entries;
-      }
+      })
 
-  settles : (o : Transition (State Births) (Unit {0})) (q : Transition (State Table) (Unit {0})) → TransitionSame (cycle_simulation (naming c s runs.shows)) Anything itself o q
-      → ((d : State Table) → q ≡ Went tt d → IsSound d × (d.head ≡ c.head)) → RunsOn (settled_after table q) (settled_after births o)
-  settles (Died a) (Died b) (inl h) k = h
-  settles (Died a) (Died b) (inr h) k = absurd h
-  settles (Died a) (Went y d) h k = absurd h
-  settles (Went x u) (Died b) h k = absurd h.1
-  settles (Went x u) (Went y d) (inl h) k = absurd h.1
-  settles (Went x u) (Went y d) (inr h) k =
-      let r = k d refl in
-      let sound = reclaim_sound d r.0 in
-      record {
-        shows = (went_step (naming c s runs.shows) d u outcome.Went h.2 tt sound.closed tt).1;
+  settles : (o : Transition (State Births) (Unit {0})) (q : Transition (State Table) (Unit {0})) → TransitionSame (cycle_simulation (naming c s runs.shows)) Anything itself o q → ((d : State Table) → q ≡ Went tt d → IsSound d × (d.head ≡ c.head)) → RunsOn (settled_after table q) (settled_after births o)
+  settles = by_transitions (λ o q. RunsOn (settled_after table q) (settled_after births o)) (λ a b h. h)
+      (λ u d h r. let sound = reclaim_sound d r.0 in record {
+        shows = (went_step (naming c s runs.shows) d u outcome.Went h tt sound.closed tt).1;
         sound = sound;
         entries = subst (λ (a : Head). a.entries ≤ 32767) (sym (reclaim_head d ∙ r.1)) runs.entries;
-      }
+      })
 
 -- THE LAWS
 

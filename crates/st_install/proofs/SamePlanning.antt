@@ -1,5 +1,5 @@
 -- What an installation makes and stores: over births the same as over a table that shows them.
-use Rattle.std.proofs.Common.{◌≡◌, ℕ, List, [], ◌∷◌, ◌++◌, Some, Bool, true, false, refl, sym, ap, subst, length}
+use Rattle.std.proofs.Common.{◌≡◌, ℕ, List, [], ◌∷◌, Some, Bool, true, false, refl, sym, ap, subst, length}
 use Rattle.std.specs.Prelude.{◌+◌}
 use Rattle.st_model.specs.declared.dead.Dead.TheVariants as dead
 use Rattle.st_model.specs.Values.{Value, Small, Ref, is_small, value_of}
@@ -16,6 +16,7 @@ use Rattle.st_install.specs.Shapes.{all_fit, check_size}
 use Rattle.st_install.specs.Planning.{method_number, objects_with_method, grown_number, grown_if, sized, plan_objects, plan}
 use Rattle.st_install.specs.SamePlans.{renamed_part, renamed_objects, renamed_plan, IsLivePart, IsLivePlan}
 use Rattle.st_install.specs.Same.{HasHeader}
+use Rattle.st_install.proofs.GoesPlans.{plan_with}
 use Rattle.st_install.proofs.SameReads.{Shown, lives, name, Alike, ValueAlike, AlikeAnswer, then-alike, then_value-alike, then_answer-alike, then_unit-alike, answer-alike}
 use Rattle.st_install.proofs.SameSteps.{reads_alike, fetch_field-alike, check-alike}
 use Rattle.st_install.proofs.SameParts.{AllFormed, PartNamed, ObjectsNamed, StoresNamed, length-parts, length-objects, no_objects-named, append_objects-named, parts_named}
@@ -99,24 +100,7 @@ module _ (z : Shown) where
     planned-same : (x y : Value) (grown grown' : List NewObject) (grows : Bool) (p q : Part) (c d : Value) → HasHeader parts → ValueAlike z x y → ObjectsNamed (lives z) (name z) grown grown'
         → PartNamed (lives z) (name z) p q → ValueAlike z c d
         → PlanNamed (lives z) (name z)
-        (record {
-          objects = objects_with_method c parts s l ++ grown;
-          symbol_stores = s.stores;
-          selector = p;
-          method = Made (method_number s l);
-          class = v;
-          dictionary = x;
-          grown = grown_number grows s l;
-        })
-        (record {
-          objects = objects_with_method d parts (renamed_symbols (name z) s) (renamed_placed_all (name z) l) ++ grown';
-          symbol_stores = (renamed_symbols (name z) s).stores;
-          selector = q;
-          method = Made (method_number (renamed_symbols (name z) s) (renamed_placed_all (name z) l));
-          class = w;
-          dictionary = y;
-          grown = grown_number grows (renamed_symbols (name z) s) (renamed_placed_all (name z) l);
-        })
+        (plan_with c v x parts s l p grows grown) (plan_with d w y parts (renamed_symbols (name z) s) (renamed_placed_all (name z) l) q grows grown')
     planned-same x y grown grown' grows p q c d e hd hg hp hc = record {
       objects = append_objects-named (lives z) (name z) _ _ _ _ (objects-same c d e hc) hg;
       symbol_stores = (symbols-itself (lives z) (name z) s k).stores;

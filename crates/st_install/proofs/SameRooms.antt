@@ -1,6 +1,6 @@
 -- A bounded table makes what a table makes, where there is room for all of it; and what makes nothing is the same in both.
 use Rattle.std.proofs.Common.{◌≡◌, ℕ, ◌+◌, ◌<◌, ◌≤◌, List, [], ◌∷◌, Bool, true, false, refl, sym, ap, subst, arith, length, inl, inr}
-use Rattle.std.specs.Prelude.{◌-◌, ◌*◌, ◌&&◌, nat_le}
+use Rattle.std.specs.Prelude.{◌-◌, ◌*◌, nat_le}
 use Rattle.std.proofs.lemmas.Bool.Decides.{nat_tests}
 use Rattle.std.proofs.lemmas.List.{length-replicate}
 use Rattle.st_model.specs.declared.kind.Kind.{Kind}

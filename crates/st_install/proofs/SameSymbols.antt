@@ -126,15 +126,17 @@ module _ (z : Shown) where
     same_vacancy : vacant_field nil' array' symbol' association' text (renamed_symbols (name z) s) ≡ vacant_field nil array symbol association text s
     same_vacancy = vacant_at nil nil' s.fields n h.fields
 
+    so_far : SymbolsNamed (lives z) (name z) s (renamed_symbols (name z) s)
+    so_far = symbols-itself (lives z) (name z) s h
+
     -- it takes a field that holds nil
     in_field-named : SymbolsNamed (lives z) (name z) (symbol_in_field nil array symbol association text s) (symbol_in_field nil' array' symbol' association' text (renamed_symbols (name z) s))
     in_field-named =
-        let k = symbols-itself (lives z) (name z) s h in
-        let t = k.table in
-        let fs = k.fields in
-        let os = k.objects in
-        let ss = k.stores in
-        let ks = k.named in
+        let t = so_far.table in
+        let fs = so_far.fields in
+        let os = so_far.objects in
+        let ss = so_far.stores in
+        let ks = so_far.named in
         rw (same_vacancy, length-objects (name z) s.objects)
         (record {
           table = t;
@@ -146,15 +148,14 @@ module _ (z : Shown) where
 
     grown-named : (number vacancies : ℕ)
         → PartsNamed (lives z) (name z) (s.fields ++ Made number ∷ replicate vacancies (There nil)) (renamed_parts (name z) s.fields ++ Made number ∷ replicate vacancies (There nil'))
-    grown-named number vacancies = let fs = (symbols-itself (lives z) (name z) s h).fields in search parts_named
+    grown-named number vacancies = let fs = so_far.fields in search parts_named
 
     -- an Array takes the place of the table's value
     in_array-named : SymbolsNamed (lives z) (name z) (symbol_in_array nil array symbol association text s) (symbol_in_array nil' array' symbol' association' text (renamed_symbols (name z) s))
     in_array-named =
-        let k = symbols-itself (lives z) (name z) s h in
-        let os = k.objects in
-        let ss = k.stores in
-        let ks = k.named in
+        let os = so_far.objects in
+        let ss = so_far.stores in
+        let ks = so_far.named in
         let made = grown-named (length s.objects) (grown_size (length s.fields) - (length s.fields + 1)) in
         rw (length-objects (name z) s.objects, length-parts (name z) s.fields)
         (record {

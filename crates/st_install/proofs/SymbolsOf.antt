@@ -7,6 +7,7 @@ use Rattle.std.specs.declared.cmp.Ordering.{Ordering}
 use Rattle.std.specs.Ordering.{nat_cmp}
 use Rattle.std.specs.BTreeMap.{BTreeMap, UpdatesBy}
 use Rattle.std.specs.Cmp.Lexicographic.{slice_cmp}
+use Rattle.std.proofs.lemmas.Bool.Decides.{nat_tests}
 use Rattle.std.proofs.lemmas.List.{append_assoc, append-nil, map-append, map-set, length-map, length-append, at_drop_more, drop_all, take_all}
 use Rattle.st_model.specs.declared.dead.Dead.{Dead}
 use Rattle.st_model.specs.declared.oop.Oop.{Oop}
@@ -26,6 +27,7 @@ use Rattle.st_emit.proofs.Noting.{at_put}
 use Rattle.st_install.specs.declared.plan.Part.{Part as CodePart}
 use Rattle.st_install.specs.declared.plan.Part.TheVariants as part
 use Rattle.st_install.specs.declared.plan.NewObject.{NewObject as CodeObject}
+use Rattle.st_install.specs.declared.plan.SymbolStore.{SymbolStore}
 use Rattle.st_scope.specs.declared.unread.Unread.{Unread}
 use Rattle.st_scope.specs.declared.unread.Unread.TheVariants.{Dies, OutOfMemory}
 use Rattle.st_install.specs.declared.symbol_plan.SymbolPlan.{SymbolPlan}
@@ -244,8 +246,29 @@ pub on_ok : {A E : Type 0} {P Q : Type 0} (r : Result A E) → (P → Q) → OnO
 on_ok (Ok a) f h = f h
 on_ok (Err e) f h = tt
 
-module _ (old mid named new : SymbolPlan) (association : Oop) (text : List ℕ) (p : CodePart) (a : part_of p ≡ Made (length old.objects.items)) (m : Becomes (with_object text) old mid) (n : Becomes (with_named text (part_of p)) mid named)
-    (k : ℕ) (v : k ≡ position_or_len (is_vacant nil) (parts_of old.fields.items)) where
+symbol_class : value (record { 0 = 56 }) ≡ Ref (place_of SymbolClass)
+unfolding value_of
+symbol_class = refl
+
+made_object : (old new : List CodeObject) (x : CodeObject) (bytes text : List ℕ) → new ≡ old ++ x ∷ [] → object_of x ≡ bytes_object (value (record { 0 = 56 })) bytes → bytes ≡ text
+    → objects_of new ≡ objects_of old ++ bytes_object (Ref (place_of SymbolClass)) text ∷ []
+made_object old new x bytes text e o q =
+    ap objects_of e ∙ map-append object_of old (x ∷ []) ∙ ap (λ z. objects_of old ++ z ∷ []) (o ∙ ap (λ v. bytes_object v bytes) symbol_class ∙ ap (bytes_object (Ref (place_of SymbolClass))) q)
+
+-- the plan in which these objects are
+abbrev with_objects : SymbolPlan → Vec CodeObject → SymbolPlan
+with_objects old objects = record { table = old.table; fields = old.fields; objects = objects; stores = old.stores; named = old.named }
+
+-- an object is made and noted, and the first vacant field is asked for
+module _ (old named new : SymbolPlan) (association : Oop) (text : List ℕ) (p : CodePart) (a : part_of p ≡ Made (length old.objects.items)) (objects : Vec CodeObject) (x : CodeObject) (put : objects.items ≡ old.objects.items ++ x ∷ []) (bytes : List ℕ)
+    (o : object_of x ≡ bytes_object (value (record { 0 = 56 })) bytes) (spells : bytes ≡ text) (n : Becomes (with_named text (part_of p)) (with_objects old objects) named)
+    (k : ℕ) (fields : List CodePart) (searched : k ≡ position_or_len (is_vacant nil) (parts_of fields)) (same : fields ≡ old.fields.items) (count : ℕ) (counted : count ≡ length named.fields.items) where
+  v : k ≡ position_or_len (is_vacant nil) (parts_of old.fields.items)
+  v = searched ∙ ap (λ ps. position_or_len (is_vacant nil) (parts_of ps)) same
+
+  m : Becomes (with_object text) old (with_objects old objects)
+  m = becomes_made old (with_objects old objects) text refl refl (made_object old.objects.items objects.items x bytes text put o spells) refl refl
+
   module _ (s : Symbols) (h : IsNamed old s) where
     number : part_of p ≡ Made (length s.objects)
     number = a ∙ ap Made (sym (length-map old.objects.items object_of) ∙ ap length h.objects)
@@ -262,14 +285,16 @@ module _ (old mid named new : SymbolPlan) (association : Oop) (text : List ℕ) 
     below : (b : Bool) → nat_lt k (length named.fields.items) ≡ b → nat_lt (vacant s) (length s.fields) ≡ b
     below b e = subst (λ j. nat_lt j (length s.fields) ≡ b) vacant_is (subst (λ j. nat_lt k j ≡ b) length_is e)
 
-  pub made_in_field : nat_lt k (length named.fields.items) ≡ true → Becomes (in_field k (part_of p)) named new → Becomes (with_made association text) old new
-  made_in_field e r s h =
+  pub made_in_field : k < count → Becomes (in_field k (part_of p)) named new → Becomes (with_made association text) old new
+  made_in_field l r s h =
+      let e : nat_lt k (length named.fields.items) ≡ true = grind (arith, nat_tests, counted, l) in
       let w : IsNamed new (in_field k (part_of p) (named_new text s)) = r (named_new text s) (is_now s h) in
       let x : IsNamed new (in_field (vacant s) (Made (length s.objects)) (named_new text s)) = subst (λ j. IsNamed new (in_field j (Made (length s.objects)) (named_new text s))) (vacant_is s h) (subst (λ q. IsNamed new (in_field k q (named_new text s))) (number s h) w) in
       subst (λ z. IsNamed new z) (sym (put_new association text s true (below s h true e))) x
 
-  pub made_in_array : nat_lt k (length named.fields.items) ≡ false → Becomes (in_array association (part_of p)) named new → Becomes (with_made association text) old new
-  made_in_array e r s h =
+  pub made_in_array : count ≤ k → Becomes (in_array association (part_of p)) named new → Becomes (with_made association text) old new
+  made_in_array l r s h =
+      let e : nat_lt k (length named.fields.items) ≡ false = grind (arith, nat_tests, counted, l) in
       let w : IsNamed new (in_array association (part_of p) (named_new text s)) = r (named_new text s) (is_now s h) in
       let x : IsNamed new (in_array association (Made (length s.objects)) (named_new text s)) = subst (λ q. IsNamed new (in_array association q (named_new text s))) (number s h) w in
       subst (λ z. IsNamed new z) (sym (put_new association text s false (below s h false e))) x
@@ -502,16 +527,14 @@ module _ (association : Oop) (t : Table) (selector : List ℕ) (texts : List (Li
       unfolding after
       begins s f = opened s f ∙ ap (λ x. after x rest) (v.tells s f) ∙ split association array t (selector ∷ []) texts (symbols_there (value array) v.values) s
 
-      pub there_now : (p : SymbolPlan) → p.table ≡ part.There array → p.fields.items ≡ parts → p.objects.items ≡ [] → p.stores.items ≡ [] → p.named.entries ≡ [] → IsNamed p (symbols_there (value array) v.values)
-      there_now p a b c d q = record {
-        table = ap part_of a;
-        fields = ap parts_of b ∙ v.are;
-        objects = ap objects_of c;
-        stores = ap stores_of d;
-        named = λ text. ap (λ es. symbol_part (named_of es) text) q;
-      }
+      -- nothing is made, stored or noted yet
+      module _ (fields : Vec CodePart) (all : fields.items ≡ parts) (objects : Vec CodeObject) (a : objects.items ≡ []) (stores : Vec SymbolStore) (b : stores.items ≡ []) (known : BTreeMap (Vec ℕ) CodePart) (d : known.entries ≡ []) where
+        abbrev first : SymbolPlan
+        first = record { table = part.There array; fields = fields; objects = objects; stores = stores; named = known }
 
-      module _ (first : SymbolPlan) (i : IsNamed first (symbols_there (value array) v.values)) where
+        i : IsNamed first (symbols_there (value array) v.values)
+        i = record { table = refl; fields = ap parts_of all ∙ v.are; objects = ap objects_of a; stores = ap stores_of b; named = λ text. ap (λ es. symbol_part (named_of es) text) d }
+
         pub selector_dies : (k : Dead) → ((u : Symbols) → IsNamed first u → (s : State Table) → s.memory ≡ t → (with_symbol table (value association) (value array) selector u).run s ≡ Died k)
             → (s : State Table) → s.memory ≡ t → (symbols_for table (value association) (selector ∷ texts)).run s ≡ Died k
         unfolding after
@@ -542,14 +565,3 @@ module _ (association : Oop) (t : Table) (selector : List ℕ) (texts : List (Li
           all_named last q =
               let m = q one.symbols one.is in
               record { symbols = m.symbols; is = m.is; tells = λ s f. selector_named s f ∙ m.tells s f }
-
--- NEW OBJECTS
-
-symbol_class : value (record { 0 = 56 }) ≡ Ref (place_of SymbolClass)
-unfolding value_of
-symbol_class = refl
-
-pub made_object : (old new : List CodeObject) (x : CodeObject) (bytes text : List ℕ) → new ≡ old ++ x ∷ [] → object_of x ≡ bytes_object (value (record { 0 = 56 })) bytes → bytes ≡ text
-    → objects_of new ≡ objects_of old ++ bytes_object (Ref (place_of SymbolClass)) text ∷ []
-made_object old new x bytes text e o q =
-    ap objects_of e ∙ map-append object_of old (x ∷ []) ∙ ap (λ z. objects_of old ++ z ∷ []) (o ∙ ap (λ v. bytes_object v bytes) symbol_class ∙ ap (bytes_object (Ref (place_of SymbolClass))) q)

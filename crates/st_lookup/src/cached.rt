@@ -1,6 +1,9 @@
 ghost use Rattle.std.specs.Prelude.{◌≡◌, ◌<◌, length, true, IfSome};
 ghost use Rattle.st_model.specs.Values.{Value, value};
 ghost use Rattle.st_model.specs.Table.{Table};
+ghost use Rattle.st_model.specs.Formed.{IsHeader};
+ghost use Rattle.st_model.specs.View.{IsKnown, is_live, object_of, with_stored};
+ghost use Rattle.st_memory.specs.Places.{KeepsPlaces};
 ghost use Rattle.st_memory.specs.Searched.{Finds};
 ghost use Rattle.st_lookup.specs.Remembered.{watched, IsOff, Grows, HasNone, AllRemembered, StaysIfOff};
 
@@ -42,6 +45,26 @@ impl<M: Memory> Cached<M> {
             watch,
             entries,
         }
+    }
+
+    /// Forgets all, and stores v in field `at` of an object whose body stands at a place. It stands apart: a store into an object
+    /// that isn't watched then makes no call here, and keeps nothing over one.
+    #[inline(never)]
+    fn set_watched_pointer(&mut self, o: Oop, place: u32, at: u32, v: Oop)
+        requires live { is_live (M.view self.old.memory).objects (value o) ≡ true }
+        requires place { M.stands self.old.memory (value o) place }
+        requires range { at < length (object_of (M.view self.old.memory).objects (value o)).fields }
+        requires known { IsKnown (M.view self.old.memory).objects (value v) }
+        requires header { IsHeader (object_of (M.view self.old.memory).objects (value o)) at (value v) }
+        ensures objects { (M.view self.new.memory).objects
+            ≡ with_stored (M.view self.old.memory).objects (value o) at (value v) }
+        ensures held { (M.view self.new.memory).held ≡ (M.view self.old.memory).held }
+        ensures head { (M.view self.new.memory).head ≡ (M.view self.old.memory).head }
+        ensures places { KeepsPlaces (M.stands self.old.memory) (M.stands self.new.memory) }
+        ensures off { (w : Value) → IsOff self.new.watch.words.items w }
+    {
+        forget(&mut self.watch, &mut self.entries);
+        self.memory.set_placed_pointer(o, place, at, v);
     }
 }
 
@@ -303,8 +326,11 @@ impl<M: Memory> Memory for Cached<M> {
 
     #[inline(always)]
     fn set_placed_pointer(&mut self, o: Oop, place: u32, at: u32, v: Oop) {
-        forget_if(&mut self.watch, &mut self.entries, o);
-        self.memory.set_placed_pointer(o, place, at, v);
+        if self.watch.has(o) {
+            self.set_watched_pointer(o, place, at, v);
+        } else {
+            self.memory.set_placed_pointer(o, place, at, v);
+        }
     }
 
     ghost whole = { λ c. M.whole c.memory };

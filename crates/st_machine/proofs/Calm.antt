@@ -1,17 +1,24 @@
 -- A calm world: nothing comes before a bytecode. And when nothing is warned of after it.
-use Rattle.std.proofs.Common.{◌≡◌, ℕ, [], ◌∷◌, Bool, true, false, refl, ◌∙◌, ap}
-use Rattle.std.specs.Prelude.{◌==◌, ◌&&◌, not, length, if◌then◌else◌}
+use Rattle.std.proofs.Common.{◌≡◌, ℕ, Bool, true, false, Ok, Some, None, refl, ◌∙◌, ap}
+use Rattle.std.specs.Prelude.{◌==◌, not, length, if◌then◌else◌}
+use Rattle.st_model.specs.declared.deed.Deed.{Deed}
 use Rattle.st_model.specs.declared.device.Device.TheVariants.{LowSpace}
 use Rattle.st_model.specs.Objects.{nil}
 use Rattle.st_model.specs.Outcomes.{Ending}
-use Rattle.st_model.specs.Machine.{State, Transition, Went}
+use Rattle.st_model.specs.Machine.{World, State, Transition, Went}
 use Rattle.st_model.specs.Table.{Table, table, bounded_table}
 use Rattle.st_model.specs.Events.{is_held, signalled_once}
 use Rattle.st_model.specs.Cycles.{free_space, signal_newest, check_process_switch, warned, warned_if_low}
 use Rattle.st_model.specs.Foreseen.{foreseen_cycle}
 use Rattle.st_machine.proofs.Done.{none_left, signals_made, waits_not, no_signals}
-use Rattle.st_machine.specs.Cycling.{IsCalm, warns, foreseen_step}
-use Rattle.st_machine.proofs.Foreseeing.{from_switch}
+use Rattle.st_model.specs.View.{View, SettlesTo}
+use Rattle.st_frames.specs.declared.frame.Frame.{Frame}
+use Rattle.st_frames.specs.Shown.{shown, IsReady}
+use Rattle.st_frames.proofs.Settled.{settled_same}
+use Rattle.st_at_once.specs.AtOnce.{GoesOn}
+use Rattle.st_machine.specs.declared.stretch.StretchEnd.TheVariants.{Warns}
+use Rattle.st_machine.specs.Cycling.{IsCalm, GoesCalmly, warns, foreseen_step}
+use Rattle.st_machine.proofs.Foreseeing.{from_switch, goes_by}
 use Rattle.std.proofs.lemmas.Bool.{and_parts}
 
 held_not : (b : Bool) → not b ≡ true → b ≡ false
@@ -34,3 +41,10 @@ pub unwarned : (d : State Table) → warns (free_space table d) d.world ≡ fals
 unwarned d e =
     let same : warned_if_low nil (free_space table d) d.world ≡ d.world = ap (λ (b : Bool). if b then signalled_once nil LowSpace d.world else d.world) e in
     λ i. record { memory = d.memory; registers = d.registers; world = same i; head = d.head }
+
+-- what comes after a bytecode that was done is done, and what was warned of is told of, or nothing is
+pub calmly_finished : (start : State Table) (u k : View) (f : Frame) (w : World) (left : Deed) (b : Bool) → GoesOn start (shown u f w) → IsReady u f w → SettlesTo u k
+    → warns (free_space table (shown k f w)) w ≡ b → GoesCalmly start left (Ok (if b then Some Warns else None)) (shown k f w)
+calmly_finished start u k f w left true done ready settles e = λ d l. goes_by start (shown u f w) done d (ap (warned table) (settled_same u k f w ready settles) ∙ l)
+calmly_finished start u k f w left false done ready settles e =
+    goes_by start (shown u f w) done (shown k f w) (ap (warned table) (settled_same u k f w ready settles) ∙ unwarned (shown k f w) e)

@@ -1,6 +1,6 @@
 -- What a row over a memory does, with what it leaves to be done, is what the step does to the state that is shown.
 use Rattle.std.proofs.Common.{◌≡◌, ℕ, suc, length, arith, Some, None, List, [], ◌∷◌, Bool, true, false, refl, sym, ap, subst, ◌∙◌}
-use Rattle.std.specs.Prelude.{Result, not, slice_get, ◌-◌, ◌<◌, ◌/◌, ◌%◌, ◌==◌, ◌&&◌, if◌then◌else◌, take}
+use Rattle.std.specs.Prelude.{Result, not, slice_get, ◌-◌, ◌==◌, ◌&&◌, take}
 use Rattle.std.proofs.lemmas.Bool.Decides.{nat_tests}
 use Rattle.st_model.specs.declared.dead.Dead.{Dead}
 use Rattle.st_model.specs.declared.deed.Deed.{Deed}

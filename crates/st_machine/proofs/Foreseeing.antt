@@ -1,5 +1,5 @@
 -- What a cycle of the code does, as the cycle over a table whose step is foreseen.
-use Rattle.std.proofs.Common.{◌≡◌, ℕ, ◌+◌, ◌-◌, Bool, true, false, refl, ◌∙◌, ap, sym, subst, Ok, Err, ◌⊎◌, inl, inr, arith}
+use Rattle.std.proofs.Common.{◌≡◌, ℕ, ◌+◌, ◌-◌, Bool, true, false, refl, ◌∙◌, ap, sym, subst, Ok, Err, arith}
 use Rattle.std.specs.Prelude.{Result, nat_lt, nat_le, ◌&&◌, if◌then◌else◌}
 use Rattle.std.proofs.lemmas.Bool.Decides.{nat_tests}
 use Rattle.st_model.specs.declared.dead.Dead.{Dead}
@@ -10,17 +10,12 @@ use Rattle.st_model.specs.Machine.{State, World, Transition, Died, Went, used, i
 use Rattle.st_model.specs.Table.{Table, table, apart, bounded_table}
 use Rattle.st_model.specs.Bytecodes.{step}
 use Rattle.st_model.specs.Settled.{reclaim}
-use Rattle.st_model.specs.declared.deed.Deed.{Deed}
-use Rattle.st_model.specs.Deeds.{deed_done, world_done, with_deed}
 use Rattle.st_model.specs.Objects.{nil}
 use Rattle.st_model.specs.Cycles.{made_between, free_space, less, capacity_of, check_process_switch, warned, warned_if_low}
 use Rattle.st_model.specs.Foreseen.{foreseen, foreseen_from, foreseen_cycle, done, done_if_room}
 use Rattle.st_model.specs.View.{View, Held, fits}
 use Rattle.st_control.specs.Foreseen.{IsForeseen}
-use Rattle.st_at_once.specs.declared.ending.RowEnd.{RowEnd}
-use Rattle.st_at_once.specs.declared.ending.RowEnd.TheVariants.{Stays}
-use Rattle.st_at_once.specs.declared.ending.RowEnd.TheVariants as row
-use Rattle.st_at_once.specs.AtOnce.{was_done, GoesOn, IsDoneBut, IsDoneAtOnce}
+use Rattle.st_at_once.specs.AtOnce.{IsDoneAtOnce}
 use Rattle.st_machine.specs.Cycling.{GoesAtOnce, GoesBy, Finishes, foreseen_step}
 use Rattle.st_step.specs.Planned.{Plans, plus}
 use Rattle.st_frames.specs.declared.frame.Frame.{Frame}
@@ -109,10 +104,6 @@ pub warned_same : (v z : View) (f : Frame) (w x : World) → x ≡ warned_if_low
     → warned table (shown v f w) ≡ shown z f x
 warned_same v z f w x world objects head = λ i. record { memory = sym objects i; registers = registers_of f; world = sym world i; head = sym head i }
 
--- the deed that is left is done
-pub left_shown : (u z : View) (f : Frame) (w x : World) (d : Deed) → z.objects ≡ deed_done d u.objects → z.head ≡ u.head → x ≡ world_done d u.objects w → with_deed d (shown u f w) ≡ shown z f x
-left_shown u z f w x d objects head changed = λ i. record { memory = sym objects i; registers = registers_of f; world = sym changed i; head = sym head i }
-
 module _ (v : View) (d : Demand) where
   pub not_over : fits v d ≡ true → is_over (plus (used table v.objects) d) v.head ≡ false
   not_over e = fits_if ((used table v.objects).entries + d.entries) v.head.entries ((used table v.objects).words + d.words) v.head.words e
@@ -132,12 +123,3 @@ frame_stays u v f h e = record {
   sp_low = h.sp_low;
   sp_high = h.sp_high;
 }
-
--- a bytecode that was done without a deed, in its context or elsewhere
-pub done_here : (c : State Table) (left : Deed) (end : RowEnd) (d : State Table) → (end ≡ Stays) ⊎ (end ≡ row.Done) → IsDoneBut c left (Ok end) d → GoesOn c d
-done_here c left end d (inl e) h = subst (λ y. IsDoneBut c left (Ok y) d) e h
-done_here c left end d (inr e) h = subst (λ y. IsDoneBut c left (Ok y) d) e h
-
-pub was_here : (end : RowEnd) → (end ≡ Stays) ⊎ (end ≡ row.Done) → was_done end ≡ true
-was_here end (inl e) = ap was_done e
-was_here end (inr e) = ap was_done e

@@ -13,7 +13,6 @@ use Rattle.st_model.specs.Foreseen.{foreseen_cycle, IsSound, EndsShown}
 use Rattle.st_model.specs.Calls.{transition_of}
 use Rattle.st_simulation.proofs.CyclesShown.{sound_shown}
 use Rattle.st_model.specs.declared.outcome.Outcome.TheVariants as code_outcome
-use Rattle.st_model.specs.Values.{value}
 use Rattle.st_machine.specs.declared.cycling.CycleEnd.{CycleEnd}
 use Rattle.st_machine.specs.declared.cycling.CycleEnd.TheVariants as cycle_end
 use Rattle.st_machine.specs.declared.ending.RunEnd.{RunEnd}

@@ -1,11 +1,13 @@
-ghost use Rattle.std.specs.Prelude.{◌≡◌, ◌≤◌, Ok, None, IfOk, OnOk};
+ghost use Rattle.std.specs.Prelude.{◌≡◌, ◌≤◌, Ok, Some, None, IfOk, OnOk, if◌then◌else◌};
+ghost use Rattle.st_model.specs.{Table.table, Machine.used, Cycles.{less, capacity_of}, View.SettlesTo};
 ghost use Rattle.st_frames.specs.Rows.{registers_in};
 ghost use Rattle.st_frames.specs.Shown.{IsReady, registers_of, shown};
-ghost use Rattle.st_machine.specs.Cycling.{GoesCalmly, IsCalm};
+ghost use Rattle.st_machine.specs.Cycling.{GoesCalmly, IsCalm, warns};
+ghost use Rattle.st_machine.specs.declared.stretch.StretchEnd.TheVariants.{Warns};
 ghost use Rattle.st_machine.specs.Strides.{GoesOn};
 
 use crate::cycling::needs_warning;
-use st_at_once::{Near, RowEnd, step_from};
+use st_at_once::{Near, RowEnd, row_at_once};
 use st_frames::{Frame, Registers, World, load};
 use st_memory::Memory;
 use st_model::{Dead, Deed};
@@ -32,6 +34,24 @@ pub struct Stretch {
     pub left: Deed,
 }
 
+/// What comes after a bytecode in a calm world: what nothing supports any more is dropped. Answers that the stretch ends where space
+/// is low and that is to be told.
+#[inline(always)]
+fn finish_calmly<M: Memory>(near: &mut Near<M>, w: &World) -> Option<StretchEnd>
+    ensures settles { SettlesTo (M.view near.old.memory.now) (M.view near.new.memory.now) }
+    ensures end { let free = less (capacity_of (M.view near.new.memory.now).head)
+        (used table (M.view near.new.memory.now).objects) in
+        result ≡ (if warns free w.now then Some Warns else None) }
+    ensures same_memory { near.new.memory.ghost_name ≡ near.old.memory.ghost_name }
+{
+    near.settle();
+    if needs_warning(near.memory, w) {
+        Some(StretchEnd::Warns)
+    } else {
+        None
+    }
+}
+
 /// The next bytecode is done at once, and then what comes after it where the world is calm: what nothing supports any more is
 /// dropped. Or the stretch ends here. While it goes on, the registers are those of the frame; else they are of no more use.
 #[inline(always)]
@@ -50,16 +70,16 @@ fn do_calmly<M: Memory>(
     ensures world { r.new.world.now ≡ r.old.world.now }
     ensures same_memory { near.new.memory.ghost_name ≡ near.old.memory.ghost_name }
 {
-    match step_from(near, f, r, left)? {
+    match row_at_once(near, f, r, left)? {
         RowEnd::ToForesee => Ok(Some(StretchEnd::ToForesee)),
-        RowEnd::Leaves => Ok(Some(StretchEnd::Leaves)),
-        RowEnd::Stays | RowEnd::Done => {
-            near.settle();
-            if needs_warning(near.memory, r.world) {
-                Ok(Some(StretchEnd::Warns))
-            } else {
-                Ok(None)
-            }
+        RowEnd::Stays => Ok(finish_calmly(near, r.world)),
+        RowEnd::Done => {
+            near.hold_moved(f, r);
+            Ok(finish_calmly(near, r.world))
+        }
+        RowEnd::Leaves => {
+            near.hold_moved(f, r);
+            Ok(Some(StretchEnd::Leaves))
         }
     }
 }

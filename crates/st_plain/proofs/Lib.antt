@@ -3,6 +3,7 @@ pub mod Room
 mod Closed
 mod Counting
 mod Exchanging
+mod Filled
 mod Filling
 pub mod Fresh
 pub mod Holding

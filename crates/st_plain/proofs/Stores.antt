@@ -8,7 +8,7 @@ use Rattle.std.proofs.Math.Seq.{take-set-lt}
 use Rattle.st_model.specs.declared.oop.Oop.{Oop}
 use Rattle.st_model.specs.Values.{Value, Ref, value}
 use Rattle.st_model.specs.Objects.{with_field, object_with_unit}
-use Rattle.st_model.specs.Table.{Table, entry, changed}
+use Rattle.st_model.specs.Table.{Table, changed}
 use Rattle.st_model.specs.View.{with_stored, with_unit}
 use Rattle.st_plain.specs.declared.entry.Entry.{Entry}
 use Rattle.st_plain.specs.Lists.{entry_object, listed_table, entry_of, AllApart}

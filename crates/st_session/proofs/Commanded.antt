@@ -14,7 +14,8 @@ use Rattle.st_model.specs.Births.{Births}
 use Rattle.st_model.specs.View.{View}
 use Rattle.st_chunk.specs.Definitions.{entries}
 use Rattle.st_store.specs.Names.{roots_file, IsNoFileOf}
-use Rattle.st_store.specs.Stored.{Stored, Opens, IsKept, IsOpening}
+use Rattle.st_store.specs.Faults.{Settles}
+use Rattle.st_store.specs.Stored.{Stored, Opens, IsKept, IsOpening, IsReady}
 use Rattle.st_store.specs.declared.root.Root.{Root}
 use Rattle.st_store.specs.declared.fault.StoreFault.TheVariants as unmade
 use Rattle.st_store.specs.declared.fault.StorePlace.TheVariants.{Roots, Changes}
@@ -33,7 +34,7 @@ use Rattle.st_protocol.proofs.Underways.{nothing_of}
 use Rattle.st_install.specs.Defining.{installed}
 use Rattle.st_protocol.specs.Installing.{Install}
 use Rattle.st_recover.specs.Commits.{Commit, OpensAs, all_of, stored_of}
-use Rattle.st_recover.specs.Openings.{IsFaulty, IsReopenedAs, Reopens, RefusesOpening, IsOfReopening, OpeningHasCause}
+use Rattle.st_recover.specs.Openings.{IsFaulty, IsReopenedAs, Reopens, RefusesOpening, IsOfReopening, IsOfNamed, OpeningHasCause}
 use Rattle.st_recover.specs.Replays.{Loss, Replayed, replay}
 use Rattle.st_store.proofs.Determined.{one_stored}
 use Rattle.st_recover.proofs.Determined.{opens_as_read, stands}
@@ -45,7 +46,7 @@ use Rattle.st_session.specs.Commands.{opening_status}
 use Rattle.st_session.specs.Ends.{IsCalm, SessionEnds}
 use Rattle.st_call.specs.Telling.{IsOfServing}
 use Rattle.st_session.specs.Resting.{GateFailed, RestsBroken, RestsAcknowledged}
-use Rattle.st_session.specs.StoreSessions.{course_over, IsOfSession, KeepsPromise}
+use Rattle.st_session.specs.StoreSessions.{course_over, IsOfSession, IsRefused, KeepsPromise}
 use Rattle.st_session.specs.Opening.{IsOpen, session_over, session_so_far_over}
 use Rattle.st_session.proofs.LastLines.{quiet_line}
 
@@ -235,6 +236,25 @@ module _ {D : Type 0} (host : Ghosts D) (name : List ℕ) where
     more = λ told n c is could. (line.stops told).more n c (spares.more told n c is could);
   }
 
+  -- a store isn't opened, and the last line of its fault is said
+  pub refused_so : (fault : OpenFault) (e : Status) (old mid new : D) → e ≡ opening_status fault → RefusesOpening name (host.files old) fault → NarrowsBut host (roots_file name) old mid
+      → LeavesOnly host old mid (λ f s. (s ≡ host.said old) × IsOpening host old name f) → ((f : Files) → ((n : List ℕ) → host.may_leave mid n (f n)) → IsOpening host old name f)
+      → (IsOfNamed fault → (c : Stored) → Opens name c (host.files old) → IsAtRest host (Opens name) c mid) → (IsReady host old name → Settles host name old mid) → Spares host (IsNoFileOf name) old mid
+      → IsTrue host.is_told → SaysLastLine host e mid new → ReadsAndSays host (last_line e) mid new → ReadsAlike host mid new → IsRefused host name old new e
+  refused_so fault e old mid new is why only moments leaves rests settles spares told line reads alike = record {
+    fault = fault;
+    is = is;
+    why = why;
+    line = refused_line e old mid new only.quiet only.say line;
+    moments = refused_moments e old mid new moments leaves (only.quiet told) told reads;
+    elsewhere = refused_elsewhere (last_line e) old mid new only told reads;
+    rests = λ named k o. rests_line k (last_line e) mid new told reads (rests named k o);
+    opened = mid;
+    settles = settles;
+    behind = reads;
+    spares = spares_line (last_line e) old mid new spares alike reads;
+  }
+
 module _ {D : Type 0} (host : Ghosts D) (reads : Type 0) where
   -- the cause of a status behind the opening and before the last line
   pub cause_between : (old mid closed new : D) (e : Status) → host.disk_faults old ≤ host.disk_faults mid → host.say_faults mid ≡ host.say_faults old → host.say_faults mid ≤ host.say_faults closed → host.say_faults closed ≤ host.say_faults new → host.disk_faults new ≡ host.disk_faults closed
@@ -272,6 +292,10 @@ module _ {D : Type 0} (host : Ghosts D) (reads : Type 0) where
   opening_cause old closed new opening.TooLarge kind h disk = tt
   opening_cause old closed new opening.Disk kind h disk = subst (Rose (host.disk_faults old)) (sym disk) h
   opening_cause old closed new opening.OutOfMemory kind h disk = tt
+
+  -- the status has that cause too
+  pub refused_cause : (old closed new : D) (fault : OpenFault) (e : Status) → e ≡ opening_status fault → IsOfReopening fault → OpeningHasCause host old closed fault → host.disk_faults new ≡ host.disk_faults closed → StatusHasCause host reads old new e
+  refused_cause old closed new fault e is kind h disk = subst (StatusHasCause host reads old new) (sym is) (opening_cause old closed new fault kind h disk)
 
 -- WHAT IS OPENED
 
@@ -364,3 +388,10 @@ module _ (name : List ℕ) (f : Files) (c : Commit) (opens : OpensAs name c f) w
       absurd (omega (arith, short, long, most))
   refused_whole host old mid r opening.Disk reopens kind why cause calm = absurd (calm cause)
   refused_whole host old mid r opening.OutOfMemory reopens kind why cause calm = inr refl
+
+  -- so a command that isn't to be refused, without a fault of the disk, has no memory
+  pub refused_complete : {D : Type 0} (host : Ghosts D) (old mid new : D) (r : Replayed) (fault : OpenFault) (e : Status) → e ≡ opening_status fault → Reopens installed c r → IsOfReopening fault → RefusesOpening name f fault
+      → OpeningHasCause host old mid fault → host.disk_faults new ≡ host.disk_faults mid → (Rose (host.disk_faults old) (host.disk_faults new) → ⊥) → (e ≡ status.Done) ⊎ (e ≡ status.OutOfMemory)
+  refused_complete host old mid new r fault e is reopens kind why cause disk calm =
+      subst (λ (x : Status). (x ≡ status.Done) ⊎ (x ≡ status.OutOfMemory)) (sym is)
+      (refused_whole host old mid r fault reopens kind why cause (λ rose. calm (subst (Rose (host.disk_faults old)) (sym disk) rose)))

@@ -2,14 +2,14 @@
 use Rattle.std.proofs.Common.{◌≡◌, ◌≢◌, ◌⊎◌, inl, inr, ℕ, ◌≤◌, List, [], ◌∷◌, ◌++◌, ◌∙◌, IsTrue, Option, refl, sym, ap, subst, arith, append-nil}
 use Rattle.std.specs.Prelude.{Some, None, Result, Ok, Err, IfErr}
 use Rattle.st_host.specs.Files.{Files}
-use Rattle.st_host.specs.Runs.{LeavesOnly, ReadsAlike, ReadsAndSays, Changes, Spares, IsAtRest}
+use Rattle.st_host.specs.Runs.{LeavesOnly, NarrowsBut, ReadsAlike, ReadsAndSays, Changes, WritesAbove, Spares, IsAtRest}
 use Rattle.st_host.specs.Stops.{SaidPart, WhileSaying}
 use Rattle.st_host.specs.Telling.{Says}
 use Rattle.st_host.specs.declared.host.Host.{Ghosts}
 use Rattle.st_host.proofs.Joining.{weaker, moments_join}
 use Rattle.st_host.proofs.Rising.{rose_second}
 use Rattle.st_host.proofs.Telling.{OnlyNow, says_none}
-use Rattle.st_host.proofs.Touching.{changes_spare}
+use Rattle.st_host.proofs.Touching.{above_changes, changes_spare}
 use Rattle.st_model.specs.declared.dead.Dead.{Dead}
 use Rattle.st_model.specs.Machine.{State, Transition, Died, Went}
 use Rattle.st_model.specs.Births.{Births}
@@ -63,11 +63,15 @@ module _ {D : Type 0} (host : Ghosts D) (name : List ℕ) where
   abbrev Others : D → Files → List ℕ → Type 0
   Others old f s = (n : List ℕ) → n ≢ name → host.may_leave old n (f n)
 
-  pub others_changed : (old new : D) → Changes host name old new → LeavesOthers host name old new
+  others_changed : (old new : D) → Changes host name old new → LeavesOthers host name old new
   others_changed old new run = record {
     spares = changes_spare host name (λ n. n ≢ name) old new (λ n is. is) run;
     moments = λ told. weaker host old new (Others old) _ (run.moments told) (λ f s so. so.1);
   }
+
+  -- a run that writes this file leaves the others
+  pub others_above : (old new : D) → WritesAbove host 0 name old new → LeavesOthers host name old new
+  others_above old new writes = others_changed old new (above_changes host name 0 old new writes)
 
   pub others_said : (text : List ℕ) (old mid new : D) → LeavesOthers host name old mid → Says host text mid new → LeavesOthers host name old new
   others_said text old mid new before says = record {
@@ -141,6 +145,12 @@ module _ {D : Type 0} (host : Ghosts D) (name : List ℕ) where
 pub caused_in : {D : Type 0} (host : Ghosts D) (old new : D) (r : Result Unit Status) → EndHasCause host ⊥ old new r → StatusHasCause host ⊥ old new (status_in r)
 caused_in host old new (Ok u) h = tt
 caused_in host old new (Err e) h = h
+
+-- the cause of what is done between an opening and a last line
+pub cause_done : {D : Type 0} (host : Ghosts D) (name text : List ℕ) (old mid closed new : D) (r : Result Unit Status) (e : Status) → e ≡ status_in r → NarrowsBut host (roots_file name) old mid → Counts host ⊥ mid closed r
+    → ReadsAndSays host text closed new → host.disk_faults new ≡ host.disk_faults closed → StatusHasCause host ⊥ old new e
+cause_done host name text old mid closed new r e is opening did line disk =
+    subst (StatusHasCause host ⊥ old new) (sym is) (cause_between host ⊥ old mid closed new (status_in r) opening.disk opening.say did.say line.say disk (caused_in host mid closed r did.cause))
 
 pub kind_in : (told : Type 0) (store : List ℕ) (f : Files) (r : Result Unit Status) → IfErr r IsOfExporting → IsOfExport told store f (status_in r)
 kind_in told store f (Ok u) kind = tt

@@ -1,7 +1,15 @@
 -- What a session says of what it is asked to look at.
-use Rattle.std.proofs.Common.{◌≡◌, List, ℕ, [], Bool, true, false, refl, sym, arith}
+use Rattle.std.proofs.Common.{◌≡◌, List, ℕ, [], Bool, true, false, refl, sym, ap, ◌∙◌, arith}
 use Rattle.std.specs.Prelude.{Option, Some, None, is_some, unwrap_or, Result, Ok, Err}
-use Rattle.st_model.specs.View.{View}
+use Rattle.st_model.specs.Births.{Births}
+use Rattle.st_model.specs.Machine.{State}
+use Rattle.st_model.specs.Show.{Shows, show}
+use Rattle.st_model.specs.Values.{value}
+use Rattle.st_model.specs.View.{View, IsWhole}
+use Rattle.st_model.proofs.Showing.{show_is}
+use Rattle.st_debug.specs.Stack.{stack_text}
+use Rattle.st_debug.specs.Watched.{watched}
+use Rattle.st_machine.specs.declared.machine.Machine.{Machine}
 use Rattle.st_frames.specs.declared.world.World.{World}
 use Rattle.st_host.specs.declared.host.Host.{Ghosts}
 use Rattle.st_host.specs.declared.host.SayFault.{SayFault}
@@ -14,6 +22,7 @@ use Rattle.st_frames.specs.Shown.{IsReady, shown}
 use Rattle.st_protocol.specs.declared.status.Status.{Status}
 use Rattle.st_protocol.specs.declared.status.Status.TheVariants as status
 use Rattle.st_session.specs.Browsing.{memory_of}
+use Rattle.st_session.specs.Standing.{shown_by}
 use Rattle.st_call.specs.Telling.{Tells}
 use Rattle.st_call.proofs.Saying.{tells_all, tells_part}
 use Rattle.st_session.proofs.Saying.{tells_behind}
@@ -31,6 +40,19 @@ memory_is v f w ready = λ i. record {
   };
   head = v.head;
 }
+
+-- that memory, where its machine shows a state
+pub memory_shown : {M : Type 0} (view : M → View) (m : Machine M) (n : M) → n ≡ m.memory → IsReady (view m.memory) m.frame m.world → IsWhole (view m.memory) → (s : State Births) → Shows (shown_by view m) s → view n ≡ memory_of (show s)
+memory_shown view m n is ready whole s shows =
+    ap view is ∙ (memory_is (view m.memory) m.frame m.world ready ∙ ap memory_of (sym (show_is (shown_by view m) s shows whole.places)))
+
+-- the stack is that of the machine
+pub same_stack : {M : Type 0} (view : M → View) {a b : M} {f h : Frame} → a ≡ b → f ≡ h → stack_text (view a).objects (value f.active) ≡ stack_text (view b).objects (value h.active)
+same_stack view e s = λ i. stack_text (view (e i)).objects (value (s i).active)
+
+-- and so is what is seen of its next bytecode
+pub same_watched : {M : Type 0} (view : M → View) (w : World) {a b : M} {f h : Frame} → a ≡ b → f ≡ h → watched (shown (view a) f w) ≡ watched (shown (view b) h w)
+same_watched view w e s = λ i. watched (shown (view (e i)) (s i) w)
 
 module _ {D : Type 0} (host : Ghosts D) where
   failed : (text : List ℕ) (old new : D) → Says host text old new → Rose (host.say_faults old) (host.say_faults new) → Tells host text old new (Err status.SayFault)

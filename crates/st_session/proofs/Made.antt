@@ -59,6 +59,12 @@ pub record Tries {D : Type 0} (host : Ghosts D) (name : List ℕ) (c : Commit) (
   pub say : host.say_faults new ≡ host.say_faults old
   pub disk : host.disk_faults old ≤ host.disk_faults new
 
+-- a creation of a store that said nothing
+pub tried : {D : Type 0} (host : Ghosts D) (name : List ℕ) (c : Commit) (old new : D) → (IsTrue host.is_told → LeavesOnly host old new (λ f s. (s ≡ host.said old) × IsMade host name c old f))
+    → ((f : Files) → IsTrue host.is_told → ((n : List ℕ) → host.may_leave new n (f n)) → IsMade host name c old f) → (IsTrue host.is_told → host.said new ≡ host.said old) → Spares host (IsNoFirstFile name) old new
+    → host.say_faults new ≡ host.say_faults old → host.disk_faults old ≤ host.disk_faults new → Tries host name c old new
+tried host name c old new moments left quiet spares say disk = record { moments = moments; left = left; quiet = quiet; spares = spares; say = say; disk = disk }
+
 -- a last line, behind calls that said nothing
 line_behind : {D : Type 0} (host : Ghosts D) (e : Status) (old made new : D) → (IsTrue host.is_told → host.said made ≡ host.said old) → host.say_faults made ≡ host.say_faults old → SaysLastLine host e made new → SaysLastLine host e old new
 line_behind host e old made new quiet say line = record {

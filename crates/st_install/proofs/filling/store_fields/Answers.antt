@@ -1,33 +1,19 @@
-use Rattle.std.proofs.Common.{◌+◌, ◌≤◌, sym, subst, length, arith}
-use Rattle.st_model.specs.Values.{Value, value}
-use Rattle.st_model.specs.Table.{table}
-use Rattle.st_model.specs.Steps.{store_field}
-use Rattle.st_install.specs.Carried.{Goes, Becomes}
+use Rattle.std.proofs.Common.{arith}
+use Rattle.st_model.specs.Values.{value}
+use Rattle.st_model.specs.Table.{Table, table}
+use Rattle.st_model.specs.Steps.{store_field, store_fields}
 use Rattle.st_scope.specs.Meanings.{values}
-use Rattle.st_install.proofs.Going.{left_goes, left_next, left_done}
-use Rattle.st_install.proofs.Filled.{fields_from, fields_turn, fields_end}
+use Rattle.st_install.proofs.InTurn.{fields_in_turn}
+use Rattle.st_install.proofs.Filled.{next_goes, next_left, fields_done}
 use Rattle.st_install.proofs.filling.store_fields.Goals as goal
 
 pub store_field-requires : goal.store_field-requires
 store_field-requires g c =
-    let from = fields_from (values c.args.made.now) (value c.args.o) c.args.parts.now in
-    let w = g.M.Memory.view c.loop-i.m in
-    subst (λ (y : Value). Goes (store_field table (value c.args.o) c.loop-i.i y) w) (sym c.part_value-x.ensures)
-    (left_goes (from 0) (from c.loop-i.i) (g.M.Memory.view c.args.m.now) w c.loop-i.invariant _ (from (c.loop-i.i + 1))
-    (fields_turn (values c.args.made.now) (value c.args.o) c.args.parts.now c.loop-i.i _ (let l = c.loop-i-test.true in omega (arith, l))) c.requires.goes)
+    next_goes (store_field table (value c.args.o)) (store_fields table (value c.args.o)) (fields_in_turn Table table (value c.args.o)) (values c.args.made.now) c.args.parts.now (g.M.Memory.view c.args.m.now) (g.M.Memory.view c.loop-i.m) c.loop-i.i c.loop-i.invariant _ (let l = c.loop-i-test.true in omega (arith, l)) (value c.part_value-x.result) c.part_value-x.ensures c.requires.goes
 
 pub loop-i-preserved : goal.loop-i-preserved
 loop-i-preserved g c =
-    let from = fields_from (values c.args.made.now) (value c.args.o) c.args.parts.now in
-    let w = g.M.Memory.view c.loop-i.m in
-    let u = g.M.Memory.view c.store_field.new.m in
-    left_next (from 0) (from c.loop-i.i) (g.M.Memory.view c.args.m.now) w c.loop-i.invariant _ (from (c.loop-i.i + 1)) u
-    (fields_turn (values c.args.made.now) (value c.args.o) c.args.parts.now c.loop-i.i _ (let l = c.loop-i-test.true in omega (arith, l)))
-    (subst (λ (y : Value). Becomes (store_field table (value c.args.o) c.loop-i.i y) w tt u) c.part_value-x.ensures c.store_field.ensures.becomes) c.store_field.ensures.fields
+    next_left (store_field table (value c.args.o)) (store_fields table (value c.args.o)) (fields_in_turn Table table (value c.args.o)) (values c.args.made.now) c.args.parts.now (g.M.Memory.view c.args.m.now) (g.M.Memory.view c.loop-i.m) c.loop-i.i c.loop-i.invariant _ (let l = c.loop-i-test.true in omega (arith, l)) (value c.part_value-x.result) c.part_value-x.ensures (g.M.Memory.view c.store_field.new.m) c.store_field.ensures.becomes c.store_field.ensures.fields
 
 pub returns-clause-becomes : goal.returns-clause-becomes
-returns-clause-becomes g c =
-    let from = fields_from (values c.args.made.now) (value c.args.o) c.args.parts.now in
-    let l = c.loop-i-test.false in
-    let last : length c.args.parts.now ≤ c.loop-i.i = omega (arith, l) in
-    left_done (from 0) (from c.loop-i.i) (g.M.Memory.view c.args.m.now) (g.M.Memory.view c.loop-i.m) c.loop-i.invariant (fields_end (values c.args.made.now) (value c.args.o) c.args.parts.now c.loop-i.i last)
+returns-clause-becomes g c = fields_done (store_field table (value c.args.o)) (store_fields table (value c.args.o)) (fields_in_turn Table table (value c.args.o)) (values c.args.made.now) c.args.parts.now (g.M.Memory.view c.args.m.now) (g.M.Memory.view c.loop-i.m) c.loop-i.i c.loop-i.invariant (let l = c.loop-i-test.false in omega (arith, l))

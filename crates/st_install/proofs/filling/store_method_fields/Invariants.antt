@@ -1,11 +1,15 @@
 use Rattle.st_model.specs.Values.{value}
+use Rattle.st_model.specs.Steps.{store_method_field}
+use Rattle.st_model.specs.Table.{Table, table}
+use Rattle.st_install.specs.Installing.{store_method_fields}
 use Rattle.st_scope.specs.Meanings.{values}
 use Rattle.st_install.proofs.Going.{Left}
-use Rattle.st_install.proofs.Filled.{method_from}
+use Rattle.st_install.proofs.InTurn.{method_in_turn}
+use Rattle.st_install.proofs.Filled.{fields_from}
 use Rattle.st_install.proofs.filling.store_method_fields.Given as goal
 
 -- the parts from one on are left
 abbrev pub invariant-loop-i : goal.invariant-loop-i
 invariant-loop-i g l =
-    let from = method_from (values l.made) (value l.o) l.parts in
+    let from = fields_from (store_method_field table (value l.o)) (store_method_fields table (value l.o)) (method_in_turn Table table (value l.o)) (values l.made) l.parts in
     Left (from 0) (from l.i) (g.M.Memory.view l.fn.m) (g.M.Memory.view l.m)

@@ -1,17 +1,14 @@
 use Rattle.std.proofs.Common.{◌≡◌, ◌∙◌, ap, List, length, sym, subst, true}
 use Rattle.std.specs.List.{AllByRecursion}
 use Rattle.std.proofs.lemmas.List.{with_items_is}
-use Rattle.st_model.specs.declared.oop.Oop.{Oop}
-use Rattle.st_model.specs.Objects.{nil}
-use Rattle.st_model.specs.Table.{table, bounded_table}
+use Rattle.st_model.specs.Table.{bounded_table}
 use Rattle.st_model.specs.View.{fits}
 use Rattle.st_install.specs.declared.plan.NewObject.{NewObject}
-use Rattle.st_install.specs.Carried.{Goes, Becomes, IsPlannable}
-use Rattle.st_install.specs.Installing.{make_all, fill_and_store}
-use Rattle.st_scope.specs.Meanings.{values}
+use Rattle.st_install.specs.Carried.{Goes, IsPlannable}
+use Rattle.st_install.specs.Installing.{make_all}
 use Rattle.st_install.specs.Plans.{demand_of_all}
 use Rattle.st_install.specs.Readies.{objects_of, plan_of}
-use Rattle.st_install.proofs.Carryings.{make_goes, rest_goes, installed, ready_goes, ready_plannable, ready_room}
+use Rattle.st_install.proofs.Carryings.{make_goes, made_rest_goes, made_installed, ready_goes, ready_plannable, ready_room}
 use Rattle.st_install.proofs.installing.make_and_store.Goals as goal
 
 pub make_all-requires-clause-goes : goal.make_all-requires-clause-goes
@@ -32,14 +29,10 @@ make_all-requires-clause-room g c =
 
 pub fill_and_store-requires-clause-goes : goal.fill_and_store-requires-clause-goes
 fill_and_store-requires-clause-goes g c =
-    let p = plan_of c.args.ready in
-    let v = g.M.Memory.view c.args.m.now in
-    let w = g.M.Memory.view c.make_all.new.m in
-    let made = subst (λ (os : List NewObject). Becomes (make_all bounded_table (objects_of os)) v (values c.make_all.new.made) w) c.deref.ensures.value c.make_all.ensures.becomes in
     let len : length c.make_all.new.made ≡ c.args.ready.made.len =
     c.make_all.ensures.each ∙ (ap length c.deref.ensures.value ∙ (sym c.requires.room ∙ sym c.args.ready.made.ok.0)) in
     let pointers = c.deref-2.ensures.value ∙ with_items_is c.args.ready.made c.make_all.new.made len in
-    subst (λ (os : List Oop). Goes (fill_and_store table nil (values os) p) w) (sym pointers) (rest_goes p v (ready_goes p v (g.met.M.Memory.whole c.args.m.now) c.requires.ready) (values c.make_all.new.made) w made)
+    made_rest_goes c.args.ready (g.M.Memory.view c.args.m.now) (g.met.M.Memory.whole c.args.m.now) c.requires.ready _ c.deref.ensures.value c.make_all.new.made (g.M.Memory.view c.make_all.new.m) c.make_all.ensures.becomes _ pointers
 
 pub fill_and_store-requires-clause-plannable : goal.fill_and_store-requires-clause-plannable
 fill_and_store-requires-clause-plannable g c =
@@ -47,13 +40,7 @@ fill_and_store-requires-clause-plannable g c =
 
 pub returns : goal.returns
 returns g c =
-    let p = plan_of c.args.ready in
-    let v = g.M.Memory.view c.args.m.now in
-    let w = g.M.Memory.view c.make_all.new.m in
-    let u = g.M.Memory.view c.fill_and_store.new.m in
-    let made = subst (λ (os : List NewObject). Becomes (make_all bounded_table (objects_of os)) v (values c.make_all.new.made) w) c.deref.ensures.value c.make_all.ensures.becomes in
     let len : length c.make_all.new.made ≡ c.args.ready.made.len =
     c.make_all.ensures.each ∙ (ap length c.deref.ensures.value ∙ (sym c.requires.room ∙ sym c.args.ready.made.ok.0)) in
     let pointers = c.deref-2.ensures.value ∙ with_items_is c.args.ready.made c.make_all.new.made len in
-    installed p v (ready_goes p v (g.met.M.Memory.whole c.args.m.now) c.requires.ready) (values c.make_all.new.made) w made u
-    (subst (λ (os : List Oop). Becomes (fill_and_store table nil (values os) p) w tt u) pointers c.fill_and_store.ensures)
+    made_installed c.args.ready (g.M.Memory.view c.args.m.now) (g.met.M.Memory.whole c.args.m.now) c.requires.ready _ c.deref.ensures.value c.make_all.new.made (g.M.Memory.view c.make_all.new.m) c.make_all.ensures.becomes _ pointers (g.M.Memory.view c.fill_and_store.new.m) c.fill_and_store.ensures

@@ -1,10 +1,9 @@
-use Rattle.std.proofs.Common.{◌∙◌, ◌/◌, sym, subst}
+use Rattle.std.proofs.Common.{◌/◌, sym, subst}
 use Rattle.st_model.specs.Values.{value}
-use Rattle.st_model.specs.Table.{placed}
-use Rattle.st_model.specs.Formed.{IsMakeable, fresh}
+use Rattle.st_model.specs.Formed.{IsMakeable}
 use Rattle.st_install.specs.Installing.{size_by}
 use Rattle.st_install.specs.Readies.{object_of as planned_of}
-use Rattle.st_install.proofs.Makings.{class_there, makeable, room_for, makes, new_becomes}
+use Rattle.st_install.proofs.Makings.{placed_by, class_there, makeable, room_for, makes, new_becomes}
 use Rattle.st_install.proofs.making.make_new.Goals as goal
 use Rattle.st_memory.proofs.Wide.{named_word}
 
@@ -23,15 +22,10 @@ pub returns-clause-becomes : goal.returns-clause-becomes
 returns-clause-becomes g c =
     let o = c.args.object.now in
     let v = g.M.Memory.view c.args.m.now in
-    let w = g.M.Memory.view c.make.new.self in
-    let objects = c.make.ensures.objects ∙ (λ i. placed v.objects (fresh (o.class.0 / 2) o.kind (c.size_of_new-size.ensures i) (c.literals_of_new-literals.ensures i))) in
-    new_becomes o c.make.result v w (class_there (planned_of o) v c.requires.goes) (room_for (planned_of o) c.requires.plannable v (o.class.0 / 2) c.requires.room)
-    c.make.ensures.pointer objects c.make.ensures.held c.make.ensures.head
+    new_becomes o c.make.result v (g.M.Memory.view c.make.new.self) (class_there (planned_of o) v c.requires.goes) (room_for (planned_of o) c.requires.plannable v (o.class.0 / 2) c.requires.room)
+    c.make.ensures.pointer (placed_by (g.M.Memory.view c.args.m.now).objects (g.M.Memory.view c.make.new.self).objects (o.class.0 / 2) o.kind _ _ _ _ c.make.ensures.objects c.size_of_new-size.ensures c.literals_of_new-literals.ensures) c.make.ensures.held c.make.ensures.head
 
 pub returns-clause-makes : goal.returns-clause-makes
 returns-clause-makes g c =
     let o = c.args.object.now in
-    let v = g.M.Memory.view c.args.m.now in
-    let w = g.M.Memory.view c.make.new.self in
-    let objects = c.make.ensures.objects ∙ (λ i. placed v.objects (fresh (o.class.0 / 2) o.kind (c.size_of_new-size.ensures i) (c.literals_of_new-literals.ensures i))) in
-    makes (planned_of o) c.requires.plannable v (o.class.0 / 2) (value c.make.result) w c.make.ensures.pointer objects c.make.ensures.head
+    makes (planned_of o) c.requires.plannable (g.M.Memory.view c.args.m.now) (o.class.0 / 2) (value c.make.result) (g.M.Memory.view c.make.new.self) c.make.ensures.pointer (placed_by (g.M.Memory.view c.args.m.now).objects (g.M.Memory.view c.make.new.self).objects (o.class.0 / 2) o.kind _ _ _ _ c.make.ensures.objects c.size_of_new-size.ensures c.literals_of_new-literals.ensures) c.make.ensures.head

@@ -1,10 +1,8 @@
 use Rattle.std.proofs.Common.{◌≡◌, Err, refl, rules}
 use Rattle.st_emit.specs.Views.{literals_view}
-use Rattle.st_install.specs.declared.plan.Part.TheVariants as part
-use Rattle.st_install.specs.declared.symbol_plan.SymbolPlan.{SymbolPlan}
 use Rattle.st_scope.specs.declared.unread.Unread.TheVariants.{Dies}
 use Rattle.st_install.specs.Symbols.{symbols_in}
-use Rattle.st_install.proofs.SymbolsOf.{no_table, fields_fail, there_now, selector_fails, literals_fail, all_named}
+use Rattle.st_install.proofs.SymbolsOf.{no_table, fields_fail, selector_fails, literals_fail, all_named}
 use Rattle.st_install.proofs.symbol_plan.symbols_for.Goals as goal
 
 pub returns-in_err-array : goal.returns-in_err-array
@@ -19,29 +17,17 @@ returns-in_err-fields_of g c =
 
 pub returns-in_err-with_symbol : goal.returns-in_err-with_symbol
 returns-in_err-with_symbol g c =
-    let t = (g.M.Memory.view c.args.m.now).objects in
-    let texts = symbols_in (literals_view c.args.literals.now) in
-    let first : SymbolPlan = record { table = part.There c.in_ok-array.array; fields = c.in_ok-fields_of.field-0; objects = c.new.result; stores = c.new-2.result; named = c.new-3.result } in
     let e : c.from_residual-in_err-with_symbol.result ≡ Err c.in_err-with_symbol.field-0.0 = search rules in
-    rw e (selector_fails c.args.association t c.args.selector.now texts c.in_ok-array.array c.in_ok-array.ensures.fetches c.in_ok-fields_of.field-0.items c.in_ok-fields_of.ensures first
-    (there_now c.args.association t c.args.selector.now texts c.in_ok-array.array c.in_ok-array.ensures.fetches c.in_ok-fields_of.field-0.items c.in_ok-fields_of.ensures first refl refl c.new.ensures.items c.new-2.ensures.items c.new-3.ensures.empty)
-    c.in_err-with_symbol.field-0.0 c.with_symbol.new.plan c.in_err-with_symbol.ensures)
+    rw e (selector_fails c.args.association (g.M.Memory.view c.args.m.now).objects c.args.selector.now (symbols_in (literals_view c.args.literals.now)) c.in_ok-array.array c.in_ok-array.ensures.fetches c.in_ok-fields_of.field-0.items c.in_ok-fields_of.ensures
+    c.in_ok-fields_of.field-0 refl c.new.result c.new.ensures.items c.new-2.result c.new-2.ensures.items c.new-3.result c.new-3.ensures.empty c.in_err-with_symbol.field-0.0 c.with_symbol.new.plan c.in_err-with_symbol.ensures)
 
 pub returns-in_err-name_literals : goal.returns-in_err-name_literals
 returns-in_err-name_literals g c =
-    let t = (g.M.Memory.view c.args.m.now).objects in
-    let texts = symbols_in (literals_view c.args.literals.now) in
-    let first : SymbolPlan = record { table = part.There c.in_ok-array.array; fields = c.in_ok-fields_of.field-0; objects = c.new.result; stores = c.new-2.result; named = c.new-3.result } in
     let e : c.from_residual-in_err-name_literals.result ≡ Err c.in_err-name_literals.field-0.0 = search rules in
-    rw e (literals_fail c.args.association t c.args.selector.now texts c.in_ok-array.array c.in_ok-array.ensures.fetches c.in_ok-fields_of.field-0.items c.in_ok-fields_of.ensures first
-    (there_now c.args.association t c.args.selector.now texts c.in_ok-array.array c.in_ok-array.ensures.fetches c.in_ok-fields_of.field-0.items c.in_ok-fields_of.ensures first refl refl c.new.ensures.items c.new-2.ensures.items c.new-3.ensures.empty)
-    c.with_symbol.new.plan c.in_ok-with_symbol.ensures c.in_err-name_literals.field-0.0 c.name_literals.new.plan c.in_err-name_literals.ensures)
+    rw e (literals_fail c.args.association (g.M.Memory.view c.args.m.now).objects c.args.selector.now (symbols_in (literals_view c.args.literals.now)) c.in_ok-array.array c.in_ok-array.ensures.fetches c.in_ok-fields_of.field-0.items c.in_ok-fields_of.ensures
+    c.in_ok-fields_of.field-0 refl c.new.result c.new.ensures.items c.new-2.result c.new-2.ensures.items c.new-3.result c.new-3.ensures.empty c.with_symbol.new.plan c.in_ok-with_symbol.ensures c.in_err-name_literals.field-0.0 c.name_literals.new.plan c.in_err-name_literals.ensures)
 
 pub returns : goal.returns
 returns g c =
-    let t = (g.M.Memory.view c.args.m.now).objects in
-    let texts = symbols_in (literals_view c.args.literals.now) in
-    let first : SymbolPlan = record { table = part.There c.in_ok-array.array; fields = c.in_ok-fields_of.field-0; objects = c.new.result; stores = c.new-2.result; named = c.new-3.result } in
-    all_named c.args.association t c.args.selector.now texts c.in_ok-array.array c.in_ok-array.ensures.fetches c.in_ok-fields_of.field-0.items c.in_ok-fields_of.ensures first
-    (there_now c.args.association t c.args.selector.now texts c.in_ok-array.array c.in_ok-array.ensures.fetches c.in_ok-fields_of.field-0.items c.in_ok-fields_of.ensures first refl refl c.new.ensures.items c.new-2.ensures.items c.new-3.ensures.empty)
-    c.with_symbol.new.plan c.in_ok-with_symbol.ensures c.name_literals.new.plan c.in_ok-name_literals.ensures
+    all_named c.args.association (g.M.Memory.view c.args.m.now).objects c.args.selector.now (symbols_in (literals_view c.args.literals.now)) c.in_ok-array.array c.in_ok-array.ensures.fetches c.in_ok-fields_of.field-0.items c.in_ok-fields_of.ensures
+    c.in_ok-fields_of.field-0 refl c.new.result c.new.ensures.items c.new-2.result c.new-2.ensures.items c.new-3.result c.new-3.ensures.empty c.with_symbol.new.plan c.in_ok-with_symbol.ensures c.name_literals.new.plan c.in_ok-name_literals.ensures

@@ -16,33 +16,27 @@ use Rattle.st_session.proofs.answering.answer_dead.Goals as goal
 
 pub returns-in-End : goal.returns-in-End
 returns-in-End g c = λ place.
-    let view = g.M.Memory.view in
-    let m = c.args.kept.now.machine in
-    let a = c.args.kept.now.archive in
+    let kept = c.args.kept.now in
     let h = c.args.host.now in
-    served_end tt tt (ample (Err status.Done) tt) (dead_answers view g.H.Host m a h m a h (λ being k. answer in_a_store installed (record { being = being; kept = k }) (asked_at place c.args.request)) (Err status.Done) c.args.cause c.requires.dead
-    (λ k holds. subst (λ x. GoesAs view g.H.Host a.name m a h h k (answer in_a_store installed (gone c.args.cause k) x) (Err status.Done)) (sym (ap (asked_at place) c.in-End.is ∙ asked_line place request.End (λ e. cc) (λ e. cc)))
-    (ends_now view g.H.Host m a k status.Done h (g.met.H.Host.only_now h) holds)))
+    served_end tt tt (ample (Err status.Done) tt) (dead_answers g.M.Memory.view g.H.Host kept.machine kept.archive h kept.machine kept.archive h (λ being k. answer in_a_store installed (record { being = being; kept = k }) (asked_at place c.args.request)) (Err status.Done) c.args.cause c.requires.dead
+    (λ k holds. subst (λ x. GoesAs g.M.Memory.view g.H.Host kept.archive.name kept.machine kept.archive h h k (answer in_a_store installed (gone c.args.cause k) x) (Err status.Done)) (sym (ap (asked_at place) c.in-End.is ∙ asked_line place request.End (λ e. cc) (λ e. cc)))
+    (ends_now g.M.Memory.view g.H.Host kept.machine kept.archive k status.Done h (g.met.H.Host.only_now h) holds)))
 
 pub returns-in-Wrong : goal.returns-in-Wrong
 returns-in-Wrong g c = λ place.
-    let view = g.M.Memory.view in
-    let m = c.args.kept.now.machine in
-    let a = c.args.kept.now.archive in
+    let kept = c.args.kept.now in
     let h = c.args.host.now in
     let end = status.Script c.in-Wrong.line in
-    served_end tt tt (ample (Err (status.Script c.in-Wrong.line)) tt) (dead_answers view g.H.Host m a h m a h (λ being k. answer in_a_store installed (record { being = being; kept = k }) (asked_at place c.args.request)) (Err end) c.args.cause c.requires.dead
-    (λ k holds. subst (λ x. GoesAs view g.H.Host a.name m a h h k (answer in_a_store installed (gone c.args.cause k) x) (Err end)) (sym (ap (asked_at place) c.in-Wrong.is ∙ asked_line place (request.Wrong c.in-Wrong.line) (λ e. cc) (λ e. cc)))
-    (ends_now view g.H.Host m a k end h (g.met.H.Host.only_now h) holds)))
+    served_end tt tt (ample (Err (status.Script c.in-Wrong.line)) tt) (dead_answers g.M.Memory.view g.H.Host kept.machine kept.archive h kept.machine kept.archive h (λ being k. answer in_a_store installed (record { being = being; kept = k }) (asked_at place c.args.request)) (Err end) c.args.cause c.requires.dead
+    (λ k holds. subst (λ x. GoesAs g.M.Memory.view g.H.Host kept.archive.name kept.machine kept.archive h h k (answer in_a_store installed (gone c.args.cause k) x) (Err end)) (sym (ap (asked_at place) c.in-Wrong.is ∙ asked_line place (request.Wrong c.in-Wrong.line) (λ e. cc) (λ e. cc)))
+    (ends_now g.M.Memory.view g.H.Host kept.machine kept.archive k end h (g.met.H.Host.only_now h) holds)))
 
 pub returns-in_default : goal.returns-in_default
 returns-in_default g c = λ place.
-    let view = g.M.Memory.view in
-    let m = c.args.kept.now.machine in
-    let a = c.args.kept.now.archive in
+    let kept = c.args.kept.now in
     let old = c.args.host.now in
     let new = c.say_reply.new.host in
     let cause = c.args.cause in
-    served_said c.requires.go_on refl c.say_reply.ensures (dead_answers view g.H.Host m a old m a new (λ being k. answer in_a_store installed (record { being = being; kept = k }) (asked_at place c.args.request)) c.say_reply.result cause c.requires.dead
-    (λ k holds. subst (λ course. GoesAs view g.H.Host a.name m a old new k course c.say_reply.result) (sym (dead_asked in_a_store installed cause k place c.args.request c.in_default.not-End c.in_default.not-Wrong))
-    (line_said view g.H.Host m a k (dead_text 0 cause) (gone cause k) old new c.say_reply.result c.say_reply.ensures holds c.requires.dead refl)))
+    served_said c.requires.go_on refl c.say_reply.ensures (dead_answers g.M.Memory.view g.H.Host kept.machine kept.archive old kept.machine kept.archive new (λ being k. answer in_a_store installed (record { being = being; kept = k }) (asked_at place c.args.request)) c.say_reply.result cause c.requires.dead
+    (λ k holds. subst (λ course. GoesAs g.M.Memory.view g.H.Host kept.archive.name kept.machine kept.archive old new k course c.say_reply.result) (sym (dead_asked in_a_store installed cause k place c.args.request c.in_default.not-End c.in_default.not-Wrong))
+    (line_said g.M.Memory.view g.H.Host kept.machine kept.archive k (dead_text 0 cause) (gone cause k) old new c.say_reply.result c.say_reply.ensures holds c.requires.dead refl)))

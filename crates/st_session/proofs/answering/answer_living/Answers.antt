@@ -19,36 +19,31 @@ use Rattle.st_session.proofs.answering.answer_living.Goals as goal
 
 pub returns-in-End : goal.returns-in-End
 returns-in-End g c =
-    let m = c.args.kept.now.machine in
-    let a = c.args.kept.now.archive in
+    let kept = c.args.kept.now in
     let h = c.args.host.now in
-    served_end tt tt (ample (Err status.Done) tt) (living_answers g.M.Memory.view g.H.Host m a h m a h (λ being k. line_course in_a_store being k c.args.request) (Err status.Done) c.requires.alive
-    (λ s k shows holds. rw c.in-End.is (ends_now g.M.Memory.view g.H.Host m a k status.Done h (g.met.H.Host.only_now h) holds)))
+    served_end tt tt (ample (Err status.Done) tt) (living_answers g.M.Memory.view g.H.Host kept.machine kept.archive h kept.machine kept.archive h (λ being k. line_course in_a_store being k c.args.request) (Err status.Done) c.requires.alive
+    (λ s k shows holds. rw c.in-End.is (ends_now g.M.Memory.view g.H.Host kept.machine kept.archive k status.Done h (g.met.H.Host.only_now h) holds)))
 
 pub returns-in-Wrong : goal.returns-in-Wrong
 returns-in-Wrong g c =
-    let m = c.args.kept.now.machine in
-    let a = c.args.kept.now.archive in
+    let kept = c.args.kept.now in
     let h = c.args.host.now in
-    served_end tt tt (ample (Err (status.Script c.in-Wrong.line)) tt) (living_answers g.M.Memory.view g.H.Host m a h m a h (λ being k. line_course in_a_store being k c.args.request) (Err (status.Script c.in-Wrong.line)) c.requires.alive
-    (λ s k shows holds. rw c.in-Wrong.is (ends_now g.M.Memory.view g.H.Host m a k (status.Script c.in-Wrong.line) h (g.met.H.Host.only_now h) holds)))
+    served_end tt tt (ample (Err (status.Script c.in-Wrong.line)) tt) (living_answers g.M.Memory.view g.H.Host kept.machine kept.archive h kept.machine kept.archive h (λ being k. line_course in_a_store being k c.args.request) (Err (status.Script c.in-Wrong.line)) c.requires.alive
+    (λ s k shows holds. rw c.in-Wrong.is (ends_now g.M.Memory.view g.H.Host kept.machine kept.archive k (status.Script c.in-Wrong.line) h (g.met.H.Host.only_now h) holds)))
 
 pub returns-in-Browse : goal.returns-in-Browse
 returns-in-Browse g c =
-    let m = c.args.kept.now.machine in
-    let a = c.args.kept.now.archive in
+    let kept = c.args.kept.now in
     let h = c.args.host.now in
-    served_none c.requires.go_on (living_answers g.M.Memory.view g.H.Host m a h m a h (λ being k. line_course in_a_store being k c.args.request) (Ok tt) c.requires.alive
-    (λ s k shows holds. subst (λ course. GoesAs g.M.Memory.view g.H.Host a.name m a h h k course (Ok tt)) (sym (stays_alive in_a_store s k c.args.request c.in-Browse.is))
-    (stays_now g.M.Memory.view g.H.Host m a k (alive s k) h (g.met.H.Host.only_now h) holds (c.requires.alive, shows) refl)))
+    served_none c.requires.go_on (living_answers g.M.Memory.view g.H.Host kept.machine kept.archive h kept.machine kept.archive h (λ being k. line_course in_a_store being k c.args.request) (Ok tt) c.requires.alive
+    (λ s k shows holds. subst (λ course. GoesAs g.M.Memory.view g.H.Host kept.archive.name kept.machine kept.archive h h k course (Ok tt)) (sym (stays_alive in_a_store s k c.args.request c.in-Browse.is))
+    (stays_now g.M.Memory.view g.H.Host kept.machine kept.archive k (alive s k) h (g.met.H.Host.only_now h) holds (c.requires.alive, shows) refl)))
 
 pub returns-in-Run : goal.returns-in-Run
 returns-in-Run g c =
-    let view = g.M.Memory.view in
-    let m = c.args.kept.now.machine in
-    let a = c.args.kept.now.archive in
+    let kept = c.args.kept.now in
     let called = c.run in
-    served_as called.ensures (λ none. none) (living_answers view g.H.Host m a c.args.host.now called.new.kept.machine called.new.kept.archive called.new.host (λ being k. line_course in_a_store being k c.args.request) called.result c.requires.alive
+    served_as called.ensures (λ none. none) (living_answers g.M.Memory.view g.H.Host kept.machine kept.archive c.args.host.now called.new.kept.machine called.new.kept.archive called.new.host (λ being k. line_course in_a_store being k c.args.request) called.result c.requires.alive
     (λ s k shows holds. rw c.in-Run.is (called.ensures.follows (alive s k) (record { stands = (c.requires.alive, shows); holds = holds }))))
 
 pub returns-in-Trace : goal.returns-in-Trace
@@ -59,15 +54,13 @@ returns-in-Trace g c =
 
 pub returns-in-Stack : goal.returns-in-Stack
 returns-in-Stack g c =
-    let view = g.M.Memory.view in
-    let m = c.args.kept.now.machine in
-    let a = c.args.kept.now.archive in
+    let kept = c.args.kept.now in
     let old = c.args.host.now in
     let new = c.say_stack.new.host in
-    served_said c.requires.go_on refl c.say_stack.ensures (living_answers view g.H.Host m a old m a new (λ being k. line_course in_a_store being k c.args.request) c.say_stack.result c.requires.alive
+    served_said c.requires.go_on refl c.say_stack.ensures (living_answers g.M.Memory.view g.H.Host kept.machine kept.archive old kept.machine kept.archive new (λ being k. line_course in_a_store being k c.args.request) c.say_stack.result c.requires.alive
     (λ s k shows holds.
-    let same = show_is (shown_by view m) s shows (g.met.M.Memory.whole m.memory).places in
-    rw c.in-Stack.is (line_said view g.H.Host m a k (stack_text (show s).memory (show s).registers.active) (alive s k) old new c.say_stack.result
+    let same = show_is (shown_by g.M.Memory.view kept.machine) s shows (g.met.M.Memory.whole kept.machine.memory).places in
+    rw c.in-Stack.is (line_said g.M.Memory.view g.H.Host kept.machine kept.archive k (stack_text (show s).memory (show s).registers.active) (alive s k) old new c.say_stack.result
     (subst (λ (x : State Table). Tells g.H.Host (stack_text x.memory x.registers.active) old new c.say_stack.result) (sym same) c.say_stack.ensures) holds (c.requires.alive, shows) refl)))
 
 pub returns-in-Snapshot : goal.returns-in-Snapshot

@@ -17,13 +17,11 @@ some_commit = record { image = []; before = []; definitions = [] }
 
 pub returns-in-Ok : goal.returns-in-Ok
 returns-in-Ok g c =
-    let view = g.M.Memory.view in
-    let m = c.args.kept.now.machine in
-    let a = c.args.kept.now.archive in
+    let kept = c.args.kept.now in
     let n = c.push_answer.new.machine in
-    let some = shown_births view m (g.met.M.Memory.whole m.memory) (c.requires.go_on.may_run c.requires.alive) in
-    let follows = living_answers view g.H.Host m a c.args.host.now n a c.finish.new.host (λ being k. line_course in_a_store being k c.args.request) c.finish.result c.requires.alive
-    (λ s k shows holds. lines_said view g.H.Host n a k (living_line in_a_store s k c.args.request) (lines_keep in_a_store s k c.args.request c.requires.saying) _ _ _ _ _ _ c.new-out.ensures (c.in-Ok.ensures.pushes s k shows) c.finish.ensures holds) in
+    let some = shown_births g.M.Memory.view kept.machine (g.met.M.Memory.whole kept.machine.memory) (c.requires.go_on.may_run c.requires.alive) in
+    let follows = living_answers g.M.Memory.view g.H.Host kept.machine kept.archive c.args.host.now n kept.archive c.finish.new.host (λ being k. line_course in_a_store being k c.args.request) c.finish.result c.requires.alive
+    (λ s k shows holds. lines_said g.M.Memory.view g.H.Host n kept.archive k (living_line in_a_store s k c.args.request) (lines_keep in_a_store s k c.args.request c.requires.saying) _ _ _ _ _ _ c.new-out.ensures (c.in-Ok.ensures.pushes s k shows) c.finish.ensures holds) in
     record {
       go_on = when_ok c.finish.result (record { may_run = c.push_answer.ensures.may_run; is_open = c.requires.go_on.is_open });
       named = refl;
@@ -35,13 +33,11 @@ returns-in-Ok g c =
 
 pub returns-in-Err : goal.returns-in-Err
 returns-in-Err g c =
-    let view = g.M.Memory.view in
-    let m = c.args.kept.now.machine in
-    let a = c.args.kept.now.archive in
+    let kept = c.args.kept.now in
     let n = c.push_answer.new.machine in
-    let some = shown_births view m (g.met.M.Memory.whole m.memory) (c.requires.go_on.may_run c.requires.alive) in
-    let follows = living_answers view g.H.Host m a c.args.host.now n a c.push_answer.new.host (λ being k. line_course in_a_store being k c.args.request) _ c.requires.alive
-    (λ s k shows holds. lines_cut view g.H.Host n a k (living_line in_a_store s k c.args.request) (lines_keep in_a_store s k c.args.request c.requires.saying) _ _ _ _ _ c.new-out.ensures (c.in-Err.ensures.pushes s k shows) holds) in
+    let some = shown_births g.M.Memory.view kept.machine (g.met.M.Memory.whole kept.machine.memory) (c.requires.go_on.may_run c.requires.alive) in
+    let follows = living_answers g.M.Memory.view g.H.Host kept.machine kept.archive c.args.host.now n kept.archive c.push_answer.new.host (λ being k. line_course in_a_store being k c.args.request) _ c.requires.alive
+    (λ s k shows holds. lines_cut g.M.Memory.view g.H.Host n kept.archive k (living_line in_a_store s k c.args.request) (lines_keep in_a_store s k c.args.request c.requires.saying) _ _ _ _ _ c.new-out.ensures (c.in-Err.ensures.pushes s k shows) holds) in
     record {
       go_on = tt;
       named = refl;

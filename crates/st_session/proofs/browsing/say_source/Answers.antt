@@ -12,20 +12,16 @@ use Rattle.st_session.proofs.browsing.say_source.Goals as goal
 pub returns-in-Ok-true : goal.returns-in-Ok-true
 returns-in-Ok-true g c =
     let v = g.M.Memory.view c.args.m.now in
-    let ds = c.args.changes.now.listed in
-    let side = side_of c.args.side in
-    let selector = c.args.selector.now in
-    let said = c.in-Ok-true.ensures.answers (shown_text v ds side selector) (shown_is v ds side selector) in
-    inl (there_said g.H.Host missing_text (reply v (shown_text v ds side selector) (Source side selector)) _ _ (sym said.there ∙ c.in-Ok-true.field-0-test) said.all said.says)
+    let text = shown_text v c.args.changes.now.listed (side_of c.args.side) c.args.selector.now in
+    let said = c.in-Ok-true.ensures.answers text (shown_is v c.args.changes.now.listed (side_of c.args.side) c.args.selector.now) in
+    inl (there_said g.H.Host missing_text (reply v text (Source (side_of c.args.side) c.args.selector.now)) _ _ (sym said.there ∙ c.in-Ok-true.field-0-test) said.all said.says)
 
 pub returns-in-Ok-false : goal.returns-in-Ok-false
 returns-in-Ok-false g c =
     let v = g.M.Memory.view c.args.m.now in
-    let ds = c.args.changes.now.listed in
-    let side = side_of c.args.side in
-    let selector = c.args.selector.now in
-    let said = c.in-Ok-false.ensures.answers (shown_text v ds side selector) (shown_is v ds side selector) in
-    inl (missing_said g.H.Host missing_text (reply v (shown_text v ds side selector) (Source side selector)) _ _ _ c.say_reply.result (sym said.there ∙ c.in-Ok-false.field-0-test) said.all said.says c.say_reply.ensures)
+    let text = shown_text v c.args.changes.now.listed (side_of c.args.side) c.args.selector.now in
+    let said = c.in-Ok-false.ensures.answers text (shown_is v c.args.changes.now.listed (side_of c.args.side) c.args.selector.now) in
+    inl (missing_said g.H.Host missing_text (reply v text (Source (side_of c.args.side) c.args.selector.now)) _ _ _ c.say_reply.result (sym said.there ∙ c.in-Ok-false.field-0-test) said.all said.says c.say_reply.ensures)
 
 pub returns-in-Err-Disk : goal.returns-in-Err-Disk
 returns-in-Err-Disk g c = absurd (subst (λ (e : SourceFault). IsCaused (g.H.Host.say_faults c.args.host.now) (g.H.Host.say_faults c.source_line.new.host) (Err e)) c.in-Err-Disk.field-0-is c.in-Err-Disk.ensures.cause.caused)
@@ -33,11 +29,9 @@ returns-in-Err-Disk g c = absurd (subst (λ (e : SourceFault). IsCaused (g.H.Hos
 pub returns-in-Err-Say : goal.returns-in-Err-Say
 returns-in-Err-Say g c =
     let v = g.M.Memory.view c.args.m.now in
-    let ds = c.args.changes.now.listed in
-    let side = side_of c.args.side in
-    let selector = c.args.selector.now in
-    let said = c.in-Err-Say.ensures.answers (shown_text v ds side selector) (shown_is v ds side selector) in
-    inl (unsaid g.H.Host missing_text (reply v (shown_text v ds side selector) (Source side selector)) _ _ said.says (subst (λ (e : SourceFault). IsCaused (g.H.Host.say_faults c.args.host.now) (g.H.Host.say_faults c.source_line.new.host) (Err e)) c.in-Err-Say.field-0-is c.in-Err-Say.ensures.cause.caused))
+    let text = shown_text v c.args.changes.now.listed (side_of c.args.side) c.args.selector.now in
+    let said = c.in-Err-Say.ensures.answers text (shown_is v c.args.changes.now.listed (side_of c.args.side) c.args.selector.now) in
+    inl (unsaid g.H.Host missing_text (reply v text (Source (side_of c.args.side) c.args.selector.now)) _ _ said.says (subst (λ (e : SourceFault). IsCaused (g.H.Host.say_faults c.args.host.now) (g.H.Host.say_faults c.source_line.new.host) (Err e)) c.in-Err-Say.field-0-is c.in-Err-Say.ensures.cause.caused))
 
 pub returns-in-Err-OutOfMemory : goal.returns-in-Err-OutOfMemory
 returns-in-Err-OutOfMemory g c = inr (refl, c.in-Err-OutOfMemory.ensures.starved (ap Err c.in-Err-OutOfMemory.field-0-is))

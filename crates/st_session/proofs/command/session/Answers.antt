@@ -1,11 +1,8 @@
-use Rattle.std.proofs.Common.{◌≡◌, ◌⊎◌, List, IsTrue, inl, inr, sym, subst}
+use Rattle.std.proofs.Common.{List, IsTrue, inl, inr, sym, subst}
 use Rattle.st_host.specs.Counts.{Rose}
 use Rattle.st_host.specs.Runs.{IsAtRest}
 use Rattle.st_store.specs.Names.{IsNoFileOf}
-use Rattle.st_protocol.specs.declared.status.Status.{Status}
-use Rattle.st_protocol.specs.declared.status.Status.TheVariants as status
 use Rattle.st_protocol.specs.Courses.{deeds_of, commits_of}
-use Rattle.st_protocol.specs.Statuses.{StatusHasCause}
 use Rattle.st_install.specs.Defining.{installed}
 use Rattle.st_recover.specs.Commits.{Commit, OpensAs}
 use Rattle.st_recover.specs.Openings.{Reopens}
@@ -13,7 +10,7 @@ use Rattle.st_recover.specs.Replays.{losses_of}
 use Rattle.st_recover.proofs.Determined.{same_commit}
 use Rattle.st_session.specs.Opening.{session_so_far_over}
 use Rattle.st_session.specs.StoreSessions.{course_over, commits_over, IsOfSession, KeepsPromise}
-use Rattle.st_session.proofs.Commanded.{one_opening, refused_promise, followed_promise, refused_line, refused_moments, refused_elsewhere, rests_line, spares_line, spares_then, cause_between, calm_between, opening_cause, open_at, ends_at, end_at, spares_told, kind_served, kind_refused, refused_whole}
+use Rattle.st_session.proofs.Commanded.{one_opening, refused_promise, followed_promise, refused_so, refused_cause, refused_complete, spares_line, spares_then, cause_between, calm_between, open_at, ends_at, end_at, spares_told, kind_served, kind_refused}
 use Rattle.st_session.proofs.command.session.Goals as goal
 
 pub returns-in-Ok-clause-ends : goal.returns-in-Ok-clause-ends
@@ -71,70 +68,27 @@ returns-in-Ok-clause-ends g c =
 
 pub returns-in-Ok-clause-cause : goal.returns-in-Ok-clause-cause
 returns-in-Ok-clause-cause g c =
-    let host = g.H.Host in
-    let name = c.args.store.now in
-    let o = c.in-Ok.opened in
-    let view = g.L.Done.Memory.view in
     let opened = c.in-Ok.ensures in
     let served = c.serve-status.ensures in
     let line = c.refuse.ensures in
-    let e = c.serve-status.result in
-    let old = c.args.host.now in
-    let mid = c.reopen.new.host in
-    let closed = c.serve-status.new.host in
-    let new = c.refuse.new.host in
-    let script = g.S.Source.remaining c.args.script.now in
-    let reads = Rose (g.S.Source.read_faults c.args.script.now) (g.S.Source.read_faults c.serve-status.new.script) in
-    cause_between host reads old mid closed new e opened.only.disk opened.only.say served.counts.say line.reads.say line.disk served.cause
+    cause_between g.H.Host (Rose (g.S.Source.read_faults c.args.script.now) (g.S.Source.read_faults c.serve-status.new.script)) c.args.host.now c.reopen.new.host c.serve-status.new.host c.refuse.new.host c.serve-status.result opened.only.disk opened.only.say served.counts.say line.reads.say line.disk served.cause
 
 pub returns-in-Err-clause-ends : goal.returns-in-Err-clause-ends
 returns-in-Err-clause-ends g c =
-    let host = g.H.Host in
     let name = c.args.store.now in
     let opened = c.in-Err.ensures in
-    let fault = c.in-Err.fault in
     let line = c.refuse_opening.ensures in
-    let e = c.refuse_opening.result in
-    let old = c.args.host.now in
-    let mid = c.reopen.new.host in
-    let new = c.refuse_opening.new.host in
-    let script = g.S.Source.remaining c.args.script.now in
-    let reads = Rose (g.S.Source.read_faults c.args.script.now) (g.S.Source.read_faults c.args.script.now) in
-    let is = c.refuse_opening.ensures.status in
+    let refused = λ (told : IsTrue g.H.Host.is_told). refused_so g.H.Host name c.in-Err.fault c.refuse_opening.result c.args.host.now c.reopen.new.host c.refuse_opening.new.host line.status
+    (opened.refused told) opened.only (opened.moments told) (opened.leaves told) (opened.rests told) (opened.settles told) opened.spares told line.line line.reads line.alike in
     record {
-      over = λ told read. inl (record {
-        fault = fault;
-        is = is;
-        why = opened.refused told;
-        line = refused_line host name e old mid new (λ told. opened.only.quiet told) opened.only.say line.line;
-        moments = refused_moments host name e old mid new (opened.moments told) (opened.leaves told) (opened.only.quiet told) told line.reads;
-        elsewhere = refused_elsewhere host name _ old mid new opened.only told line.reads;
-        rests = λ named k o. rests_line host name k _ mid new told line.reads (opened.rests told named k o);
-        opened = mid;
-        settles = opened.settles told;
-        behind = line.reads;
-        spares = spares_line host name _ old mid new opened.spares line.alike line.reads;
-      });
+      over = λ told read. inl (refused told);
       promise = λ told read k rest r reopens.
-          refused_promise host name k (commits_of (deeds_of (course_over k r script))) e old mid new rest (λ n. g.met.H.Host.read_counts old n told) (opened.moments told) (opened.leaves told) (opened.only.quiet told) told line.reads;
-      complete = λ told read whole calm.
-          subst (λ (x : Status). (x ≡ status.Done) ⊎ (x ≡ status.OutOfMemory)) (sym is)
-          (refused_whole name (host.files old) whole.commit whole.opens host old mid whole.replayed fault whole.reopens opened.kind (opened.refused told) opened.cause (λ rose. calm.disk (subst (Rose (host.disk_faults old)) (sym line.disk) rose)));
-      kind = subst (IsOfSession (IsTrue host.is_told) name (host.files old)) (sym is) (kind_refused (IsTrue host.is_told) name (host.files old) fault opened.kind opened.refused);
-      spares = λ read. spares_line host name _ old mid new opened.spares line.alike line.reads;
+          refused_promise g.H.Host name k (commits_of (deeds_of (course_over k r (g.S.Source.remaining c.args.script.now)))) c.refuse_opening.result c.args.host.now c.reopen.new.host c.refuse_opening.new.host rest (λ n. g.met.H.Host.read_counts c.args.host.now n told) (opened.moments told) (opened.leaves told) (opened.only.quiet told) told line.reads;
+      complete = λ told read whole calm. refused_complete name (g.H.Host.files c.args.host.now) whole.commit whole.opens g.H.Host c.args.host.now c.reopen.new.host c.refuse_opening.new.host whole.replayed c.in-Err.fault c.refuse_opening.result line.status whole.reopens opened.kind (opened.refused told) opened.cause line.disk calm.disk;
+      kind = subst (IsOfSession (IsTrue g.H.Host.is_told) name (g.H.Host.files c.args.host.now)) (sym line.status) (kind_refused (IsTrue g.H.Host.is_told) name (g.H.Host.files c.args.host.now) c.in-Err.fault opened.kind opened.refused);
+      spares = λ read. spares_line g.H.Host name _ c.args.host.now c.reopen.new.host c.refuse_opening.new.host opened.spares line.alike line.reads;
     }
 
 pub returns-in-Err-clause-cause : goal.returns-in-Err-clause-cause
 returns-in-Err-clause-cause g c =
-    let host = g.H.Host in
-    let name = c.args.store.now in
-    let opened = c.in-Err.ensures in
-    let fault = c.in-Err.fault in
-    let line = c.refuse_opening.ensures in
-    let e = c.refuse_opening.result in
-    let old = c.args.host.now in
-    let mid = c.reopen.new.host in
-    let new = c.refuse_opening.new.host in
-    let script = g.S.Source.remaining c.args.script.now in
-    let reads = Rose (g.S.Source.read_faults c.args.script.now) (g.S.Source.read_faults c.args.script.now) in
-    subst (StatusHasCause host reads old new) (sym c.refuse_opening.ensures.status) (opening_cause host reads old mid new fault opened.kind opened.cause line.disk)
+    refused_cause g.H.Host (Rose (g.S.Source.read_faults c.args.script.now) (g.S.Source.read_faults c.args.script.now)) c.args.host.now c.reopen.new.host c.refuse_opening.new.host c.in-Err.fault c.refuse_opening.result c.refuse_opening.ensures.status c.in-Err.ensures.kind c.in-Err.ensures.cause c.refuse_opening.ensures.disk

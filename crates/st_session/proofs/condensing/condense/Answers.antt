@@ -1,9 +1,7 @@
-use Rattle.std.proofs.Common.{◌≡◌, ◌⊎◌, ℕ, List, IsTrue, inl, inr, refl, sym, subst, arith}
-use Rattle.st_host.specs.Counts.{Rose}
+use Rattle.std.proofs.Common.{ℕ, List, IsTrue, inl, inr, refl, sym, subst, arith}
 use Rattle.st_host.proofs.Touching.{spares_join}
 use Rattle.st_store.specs.Names.{IsNoFileOf}
 use Rattle.st_protocol.specs.declared.status.Status.{Status}
-use Rattle.st_protocol.specs.declared.status.Status.TheVariants as status
 use Rattle.st_protocol.specs.Statuses.{StatusHasCause}
 use Rattle.st_recover.proofs.Determined.{same_commit}
 use Rattle.st_call.specs.LastLines.{last_line, SaysLastLine}
@@ -11,24 +9,14 @@ use Rattle.st_host.specs.Runs.{ReadsAndSays, Spares}
 use Rattle.st_session.specs.Ends.{status_in}
 use Rattle.st_session.specs.Exports.{IsOfExport}
 use Rattle.st_session.specs.Condensings.{DoesCondense, CondenseEnds}
-use Rattle.st_session.proofs.Commanded.{cause_between, opening_cause, refused_line, refused_moments, refused_elsewhere, rests_line, spares_line, refused_whole}
+use Rattle.st_session.proofs.Commanded.{refused_so, refused_cause, refused_complete}
 use Rattle.st_session.proofs.Condensed.{condense_has, condensing_whole, refused_whole_moments}
-use Rattle.st_session.proofs.Exported.{caused_in, done_or_full, kind_in, kind_unopened, names_said}
+use Rattle.st_session.proofs.Exported.{cause_done, done_or_full, kind_in, kind_unopened, names_said}
 use Rattle.st_session.proofs.condensing.condense.Goals as goal
 
 pub returns-in-Ok-clause-cause : goal.returns-in-Ok-clause-cause
 returns-in-Ok-clause-cause g c =
-    let host = g.H.Host in
-    let opened = c.in-Ok.ensures in
-    let did = c.condense_store.ensures in
-    let line = c.refuse.ensures in
-    let r = c.condense_store.result in
-    let old = c.args.host.now in
-    let mid = c.reopen.new.host in
-    let closed = c.condense_store.new.host in
-    let new = c.refuse.new.host in
-    subst (StatusHasCause host ⊥ old new) (sym c.status_of-status.ensures)
-    (cause_between host ⊥ old mid closed new (status_in r) opened.only.disk opened.only.say did.counts.say line.reads.say line.disk (caused_in host mid closed r did.counts.cause))
+    cause_done g.H.Host c.args.store.now _ c.args.host.now c.reopen.new.host c.condense_store.new.host c.refuse.new.host c.condense_store.result c.status_of-status.result c.status_of-status.ensures c.in-Ok.ensures.only c.condense_store.ensures.counts c.refuse.ensures.reads c.refuse.ensures.disk
 
 pub returns-in-Ok-clause-ends : goal.returns-in-Ok-clause-ends
 returns-in-Ok-clause-ends g c =
@@ -71,43 +59,21 @@ returns-in-Ok-clause-ends g c =
 
 pub returns-in-Err-clause-ends : goal.returns-in-Err-clause-ends
 returns-in-Err-clause-ends g c =
-    let host = g.H.Host in
     let store = c.args.store.now in
     let opened = c.in-Err.ensures in
-    let fault = c.in-Err.fault in
     let line = c.refuse_opening.ensures in
-    let e = c.refuse_opening.result in
     let old = c.args.host.now in
-    let mid = c.reopen.new.host in
     let new = c.refuse_opening.new.host in
-    let is = c.refuse_opening.ensures.status in
-    let moments = λ (told : IsTrue host.is_told). refused_moments host store e old mid new (opened.moments told) (opened.leaves told) (opened.only.quiet told) told line.reads in
+    let refused = λ (told : IsTrue g.H.Host.is_told). refused_so g.H.Host store c.in-Err.fault c.refuse_opening.result c.args.host.now c.reopen.new.host c.refuse_opening.new.host line.status
+    (opened.refused told) opened.only (opened.moments told) (opened.leaves told) (opened.rests told) (opened.settles told) opened.spares told line.line line.reads line.alike in
     record {
-      over = λ told. inl (record {
-        fault = fault;
-        is = is;
-        why = opened.refused told;
-        line = refused_line host store e old mid new (λ told. opened.only.quiet told) opened.only.say line.line;
-        moments = moments told;
-        elsewhere = refused_elsewhere host store _ old mid new opened.only told line.reads;
-        rests = λ named k o. rests_line host store k _ mid new told line.reads (opened.rests told named k o);
-        opened = mid;
-        settles = opened.settles told;
-        behind = line.reads;
-        spares = spares_line host store _ old mid new opened.spares line.alike line.reads;
-      });
-      whole = λ told k rest. refused_whole_moments host store k e old new rest (λ n. g.met.H.Host.read_counts old n told) (moments told);
-      complete = λ told k q whole calm.
-          subst (λ (x : Status). (x ≡ status.Done) ⊎ (x ≡ status.OutOfMemory)) (sym is)
-          (refused_whole store (host.files old) k whole.opens host old mid q fault whole.reopens opened.kind (opened.refused told) opened.cause (λ rose. calm.disk (subst (Rose (host.disk_faults old)) (sym line.disk) rose)));
-      kind = subst (IsOfExport (IsTrue host.is_told) store (host.files old)) (sym is) (kind_unopened (IsTrue host.is_told) store (host.files old) fault opened.kind opened.refused);
-      spares = names_said host store store (IsNoFileOf store) _ old mid new opened.spares line.alike line.reads;
+      over = λ told. inl (refused told);
+      whole = λ told k rest. refused_whole_moments g.H.Host store k c.refuse_opening.result old new rest (λ n. g.met.H.Host.read_counts old n told) (refused told).moments;
+      complete = λ told k q whole calm. refused_complete store (g.H.Host.files c.args.host.now) k whole.opens g.H.Host c.args.host.now c.reopen.new.host c.refuse_opening.new.host q c.in-Err.fault c.refuse_opening.result line.status whole.reopens opened.kind (opened.refused told) opened.cause line.disk calm.disk;
+      kind = subst (IsOfExport (IsTrue g.H.Host.is_told) store (g.H.Host.files old)) (sym line.status) (kind_unopened (IsTrue g.H.Host.is_told) store (g.H.Host.files old) c.in-Err.fault opened.kind opened.refused);
+      spares = names_said g.H.Host store store (IsNoFileOf store) _ old c.reopen.new.host new opened.spares line.alike line.reads;
     }
 
 pub returns-in-Err-clause-cause : goal.returns-in-Err-clause-cause
 returns-in-Err-clause-cause g c =
-    let host = g.H.Host in
-    let opened = c.in-Err.ensures in
-    let line = c.refuse_opening.ensures in
-    subst (StatusHasCause host ⊥ c.args.host.now c.refuse_opening.new.host) (sym c.refuse_opening.ensures.status)
-    (opening_cause host ⊥ c.args.host.now c.reopen.new.host c.refuse_opening.new.host c.in-Err.fault opened.kind opened.cause line.disk)
+    refused_cause g.H.Host ⊥ c.args.host.now c.reopen.new.host c.refuse_opening.new.host c.in-Err.fault c.refuse_opening.result c.refuse_opening.ensures.status c.in-Err.ensures.kind c.in-Err.ensures.cause c.refuse_opening.ensures.disk

@@ -1,6 +1,5 @@
-use Rattle.std.proofs.Common.{◌≡◌, ◌≢◌, ℕ, List, refl, sym, ap, subst, arith}
+use Rattle.std.proofs.Common.{ap}
 use Rattle.std.specs.Prelude.{Err}
-use Rattle.st_host.specs.Runs.{Spares}
 use Rattle.st_store.specs.Names.{roots_file, changes_file, IsNoFileOf}
 use Rattle.st_changes.specs.Condensing.{turned}
 use Rattle.st_host.specs.declared.file_fault.FileFault.{FileFault}
@@ -38,9 +37,8 @@ returns-in-Ok-clause-spares g c =
 
 pub returns-in-Err-Disk-clause-does : goal.returns-in-Err-Disk-clause-does
 returns-in-Err-Disk-clause-does g c k told kept =
-    let did = c.condense.ensures in
     let x = stored_of c.args.store.root.slot k in
-    let un = unmade g.H.Host c.args.host.now c.args.store c.args.changes.now.listed k kept c.requires.good c.condense.new.host c.condense.result (did.either x told kept.kept) (λ z. did.makes x z told kept.kept) in
+    let un = unmade g.H.Host c.args.host.now c.args.store c.args.changes.now.listed k kept c.requires.good c.condense.new.host c.condense.result (c.condense.ensures.either x told kept.kept) (λ z. c.condense.ensures.makes x z told kept.kept) in
     record {
       moments = un.0;
       has = (un.1, unless_gate g.H.Host c.args.host.now c.args.store c.args.changes.now.listed k kept c.requires.good c.condense.new.host (c.in-Err-Disk.ensures.broken x told kept.kept));
@@ -48,9 +46,8 @@ returns-in-Err-Disk-clause-does g c k told kept =
 
 pub returns-in-Err-OutOfMemory-clause-does : goal.returns-in-Err-OutOfMemory-clause-does
 returns-in-Err-OutOfMemory-clause-does g c k told kept =
-    let did = c.condense.ensures in
     let x = stored_of c.args.store.root.slot k in
-    let un = unmade g.H.Host c.args.host.now c.args.store c.args.changes.now.listed k kept c.requires.good c.condense.new.host c.condense.result (did.either x told kept.kept) (λ z. did.makes x z told kept.kept) in
+    let un = unmade g.H.Host c.args.host.now c.args.store c.args.changes.now.listed k kept c.requires.good c.condense.new.host c.condense.result (c.condense.ensures.either x told kept.kept) (λ z. c.condense.ensures.makes x z told kept.kept) in
     record {
       moments = un.0;
       has = (un.1, rests_same g.H.Host c.args.host.now c.args.store c.args.changes.now.listed k kept c.requires.good c.condense.new.host (c.in-Err-OutOfMemory.ensures.starved x told kept.kept (ap (λ (e : FileFault). Err e) c.in-Err-OutOfMemory.field-0-is)));

@@ -1,11 +1,10 @@
 use Rattle.std.proofs.Common.{refl, ap, subst, arith}
-use Rattle.st_host.proofs.Touching.{above_changes}
 use Rattle.st_recover.proofs.Images.{image_is}
 use Rattle.st_session.specs.Exports.{exporting, ExportsImage}
 use Rattle.st_session.specs.declared.extent.Extent.TheVariants.{Kept}
 use Rattle.st_call.specs.Replies.{exported_text}
 use Rattle.st_call.specs.Telling.{Tells}
-use Rattle.st_session.proofs.Exported.{others_changed, others_said, counts_behind, told_kind, has_told}
+use Rattle.st_session.proofs.Exported.{others_above, others_said, counts_behind, told_kind, has_told}
 use Rattle.st_session.proofs.exporting.export_kept.Goals as goal
 
 pub returns-in-Ok-clause-has : goal.returns-in-Ok-clause-has
@@ -22,11 +21,9 @@ returns-in-Ok-clause-has g c told =
 
 pub returns-in-Ok-clause-others : goal.returns-in-Ok-clause-others
 returns-in-Ok-clause-others g c =
-    let host = g.H.Host in
-    let name = c.args.image.now in
     let old = c.args.host.now in
     let mid = c.write.new.host in
-    others_said host name _ old mid c.say_reply.new.host (others_changed host name old mid (above_changes host name 0 old mid c.write.ensures.writes)) c.say_reply.ensures.says
+    others_said g.H.Host c.args.image.now _ old mid c.say_reply.new.host (others_above g.H.Host c.args.image.now old mid c.write.ensures.writes) c.say_reply.ensures.says
 
 pub returns-in-Ok-clause-counts : goal.returns-in-Ok-clause-counts
 returns-in-Ok-clause-counts g c =
@@ -40,10 +37,7 @@ returns-in-Err-clause-has g c told = c.write.ensures.writes.run.quiet told
 
 pub returns-in-Err-clause-others : goal.returns-in-Err-clause-others
 returns-in-Err-clause-others g c =
-    let name = c.args.image.now in
-    let old = c.args.host.now in
-    let mid = c.write.new.host in
-    others_changed g.H.Host name old mid (above_changes g.H.Host name 0 old mid c.write.ensures.writes)
+    others_above g.H.Host c.args.image.now c.args.host.now c.write.new.host c.write.ensures.writes
 
 pub returns-in-Err-clause-counts : goal.returns-in-Err-clause-counts
 returns-in-Err-clause-counts g c = record {

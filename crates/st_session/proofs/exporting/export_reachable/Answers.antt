@@ -1,11 +1,10 @@
 use Rattle.std.proofs.Common.{refl, ap, arith}
 use Rattle.std.specs.Prelude.{Some, Err}
-use Rattle.st_host.proofs.Touching.{above_changes}
 use Rattle.st_host.specs.declared.file_fault.FileFault.{FileFault}
 use Rattle.st_call.specs.Replies.{cleaned_text}
 use Rattle.st_session.specs.Exports.{Export, ExportsImage}
 use Rattle.st_session.specs.declared.extent.Extent.TheVariants.{Reachable}
-use Rattle.st_session.proofs.Exported.{others_changed, others_said, counts_behind, told_kind, has_told}
+use Rattle.st_session.proofs.Exported.{others_above, others_said, counts_behind, told_kind, has_told}
 use Rattle.st_session.proofs.exporting.export_reachable.Goals as goal
 
 pub returns-in-Ok-clause-has : goal.returns-in-Ok-clause-has
@@ -18,11 +17,9 @@ returns-in-Ok-clause-has g c told =
 
 pub returns-in-Ok-clause-others : goal.returns-in-Ok-clause-others
 returns-in-Ok-clause-others g c =
-    let host = g.H.Host in
-    let name = c.args.image.now in
     let old = c.args.host.now in
     let mid = c.clean.new.host in
-    others_said host name _ old mid c.say_reply.new.host (others_changed host name old mid (above_changes host name 0 old mid c.clean.ensures.writes)) c.say_reply.ensures.says
+    others_said g.H.Host c.args.image.now _ old mid c.say_reply.new.host (others_above g.H.Host c.args.image.now old mid c.clean.ensures.writes) c.say_reply.ensures.says
 
 pub returns-in-Ok-clause-counts : goal.returns-in-Ok-clause-counts
 returns-in-Ok-clause-counts g c =
@@ -36,10 +33,7 @@ returns-in-Err-Disk-clause-has g c told = c.clean.ensures.writes.run.quiet told
 
 pub returns-in-Err-Disk-clause-others : goal.returns-in-Err-Disk-clause-others
 returns-in-Err-Disk-clause-others g c =
-    let name = c.args.image.now in
-    let old = c.args.host.now in
-    let mid = c.clean.new.host in
-    others_changed g.H.Host name old mid (above_changes g.H.Host name 0 old mid c.clean.ensures.writes)
+    others_above g.H.Host c.args.image.now c.args.host.now c.clean.new.host c.clean.ensures.writes
 
 pub returns-in-Err-Disk-clause-counts : goal.returns-in-Err-Disk-clause-counts
 returns-in-Err-Disk-clause-counts g c = record {
@@ -57,10 +51,7 @@ returns-in-Err-OutOfMemory-clause-has g c told =
 
 pub returns-in-Err-OutOfMemory-clause-others : goal.returns-in-Err-OutOfMemory-clause-others
 returns-in-Err-OutOfMemory-clause-others g c =
-    let name = c.args.image.now in
-    let old = c.args.host.now in
-    let mid = c.clean.new.host in
-    others_changed g.H.Host name old mid (above_changes g.H.Host name 0 old mid c.clean.ensures.writes)
+    others_above g.H.Host c.args.image.now c.args.host.now c.clean.new.host c.clean.ensures.writes
 
 pub returns-in-Err-OutOfMemory-clause-counts : goal.returns-in-Err-OutOfMemory-clause-counts
 returns-in-Err-OutOfMemory-clause-counts g c = record {

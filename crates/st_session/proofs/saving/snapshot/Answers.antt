@@ -26,18 +26,16 @@ keep_image-requires-clause-starts g c =
 
 pub returns-in-Ok : goal.returns-in-Ok
 returns-in-Ok g c =
-    let view = g.M.Memory.view in
-    let m = c.args.kept.now.machine in
-    let a = c.args.kept.now.archive in
+    let kept = c.args.kept.now in
     let n = c.save.new.self in
     let new = c.keep_image.new.host in
     let b = c.keep_image.new.archive in
     let result = c.keep_image.result in
     let lives = c.save.ensures.death c.requires.alive ∙ ap death_by c.in-Ok.is in
-    let follows = living_answers view g.H.Host m a c.args.host.now n b new (λ being. going_on in_a_store (in_a_store.snapshot c.args.finished) being) result c.requires.alive
-    (λ s k shows holds. saved_kept view g.H.Host a.name n b c.args.host.now new k c.args.finished (save births s) result (c.in-Ok.ensures.saves c.requires.alive s shows) lives
-    (λ t w. show_is (shown_by view n) t w (g.met.M.Memory.whole n.memory).places)
-    (subst (λ x. Obeys g.H.Host (OpensAs a.name) (IsNoFileOf a.name) (Holds g.H.Host new b) (λ (d : Commit). d) k (imaging k (image_with (view x).objects (view x).head)) result c.args.host.now new) c.memory.ensures
+    let follows = living_answers g.M.Memory.view g.H.Host kept.machine kept.archive c.args.host.now n b new (λ being. going_on in_a_store (in_a_store.snapshot c.args.finished) being) result c.requires.alive
+    (λ s k shows holds. saved_kept g.M.Memory.view g.H.Host kept.archive.name n b c.args.host.now new k c.args.finished (save births s) result (c.in-Ok.ensures.saves c.requires.alive s shows) lives
+    (λ t w. show_is (shown_by g.M.Memory.view n) t w (g.met.M.Memory.whole n.memory).places)
+    (subst (λ x. Obeys g.H.Host (OpensAs kept.archive.name) (IsNoFileOf kept.archive.name) (Holds g.H.Host new b) (λ (d : Commit). d) k (imaging k (image_with (g.M.Memory.view x).objects (g.M.Memory.view x).head)) result c.args.host.now new) c.memory.ensures
     (c.keep_image.ensures.obeys k holds))) in
     record {
       go_on = on_ok_then result (λ there. record { may_run = c.save.ensures.ready; is_open = there }) c.keep_image.ensures.«open»;
@@ -50,13 +48,11 @@ returns-in-Ok g c =
 
 pub returns-in-Err : goal.returns-in-Err
 returns-in-Err g c =
-    let view = g.M.Memory.view in
-    let m = c.args.kept.now.machine in
-    let a = c.args.kept.now.archive in
+    let kept = c.args.kept.now in
     let n = c.save.new.self in
     let new = c.say_reply.new.host in
     let result = c.say_reply.result in
     let dies = c.save.ensures.death c.requires.alive ∙ ap death_by c.in-Err.is in
     served_said (record { may_run = c.save.ensures.ready; is_open = c.requires.go_on.is_open }) refl c.say_reply.ensures
-    (living_answers view g.H.Host m a c.args.host.now n a new (λ being. going_on in_a_store (in_a_store.snapshot c.args.finished) being) result c.requires.alive
-    (λ s k shows holds. saved_died view g.H.Host a.name n a c.args.host.now new k c.args.finished c.in-Err.cause (save births s) result (c.in-Err.ensures.saves c.requires.alive s shows) dies refl holds c.say_reply.ensures))
+    (living_answers g.M.Memory.view g.H.Host kept.machine kept.archive c.args.host.now n kept.archive new (λ being. going_on in_a_store (in_a_store.snapshot c.args.finished) being) result c.requires.alive
+    (λ s k shows holds. saved_died g.M.Memory.view g.H.Host kept.archive.name n kept.archive c.args.host.now new k c.args.finished c.in-Err.cause (save births s) result (c.in-Err.ensures.saves c.requires.alive s shows) dies refl holds c.say_reply.ensures))

@@ -18,19 +18,17 @@ use Rattle.st_session.proofs.serving.accept.Goals as goal
 
 pub returns-in-Ok : goal.returns-in-Ok
 returns-in-Ok g c =
-    let view = g.M.Memory.view in
     let m = c.args.kept.now.machine in
-    let a = c.args.kept.now.archive in
     let d = definition_of c.args.definition.now in
     let n = record m { memory = c.carry_out-selector.new.m } in
     let b = c.accept.new.self in
     let same = sym c.memory_mut.ensures.value in
-    let ready = subst (λ x. IsReady (view x) m.frame m.world) same (c.requires.go_on.may_run c.requires.alive) in
-    let prepared = subst (λ x. IsPrepared (view x) d c.args.prepared) same c.requires.prepared in
-    let follows = living_answers view g.H.Host m a c.args.host.now n b c.say_reply.new.host (λ being k. definition_course in_a_store installed being k d) c.say_reply.result c.requires.alive
+    let ready = subst (λ x. IsReady (g.M.Memory.view x) m.frame m.world) same (c.requires.go_on.may_run c.requires.alive) in
+    let prepared = subst (λ x. IsPrepared (g.M.Memory.view x) d c.args.prepared) same c.requires.prepared in
+    let follows = living_answers g.M.Memory.view g.H.Host m c.args.kept.now.archive c.args.host.now n b c.say_reply.new.host (λ being k. definition_course in_a_store installed being k d) c.say_reply.result c.requires.alive
     (λ s k shows holds.
-    accepted_said view g.H.Host a.name n b s k d c.carry_out-selector.result (installed d s) _ c.args.host.now c.accept.new.host c.say_reply.new.host c.say_reply.result c.accept.ensures.named (c.in-Ok.ensures.obeys k holds)
-    (c.carry_out-selector.ensures.installs d m.frame m.world s prepared ready (subst (λ x. Shows (shown (view x) m.frame m.world) s) same shows)) c.requires.alive
+    accepted_said g.M.Memory.view g.H.Host c.args.kept.now.archive.name n b s k d c.carry_out-selector.result (installed d s) _ c.args.host.now c.accept.new.host c.say_reply.new.host c.say_reply.result c.accept.ensures.named (c.in-Ok.ensures.obeys k holds)
+    (c.carry_out-selector.ensures.installs d m.frame m.world s prepared ready (subst (λ x. Shows (shown (g.M.Memory.view x) m.frame m.world) s) same shows)) c.requires.alive
     (ap (accepted_line d.class d.meta) c.deref.ensures.value) c.say_reply.ensures) in
     record {
       go_on = when_ok c.say_reply.result (record { may_run = λ lives. c.carry_out-selector.ensures.ready m.frame m.world ready; is_open = c.in-Ok.ensures.«open» });
@@ -43,15 +41,13 @@ returns-in-Ok g c =
 
 pub returns-in-Err : goal.returns-in-Err
 returns-in-Err g c =
-    let view = g.M.Memory.view in
     let m = c.args.kept.now.machine in
-    let a = c.args.kept.now.archive in
     let d = definition_of c.args.definition.now in
     let b = c.accept.new.self in
-    let follows = living_answers view g.H.Host m a c.args.host.now m b c.accept.new.host (λ being k. definition_course in_a_store installed being k d) _ c.requires.alive
+    let follows = living_answers g.M.Memory.view g.H.Host m c.args.kept.now.archive c.args.host.now m b c.accept.new.host (λ being k. definition_course in_a_store installed being k d) _ c.requires.alive
     (λ s k shows holds.
-    let is = is_accepted (view m.memory) d c.args.prepared c.requires.prepared (g.met.M.Memory.whole m.memory) m.frame m.world (c.requires.go_on.may_run c.requires.alive) s shows in
-    accepted_unkept view g.H.Host a.name m b s k d (installed d s) _ is.0 c.in-Err.status c.args.host.now c.accept.new.host is.1 (c.in-Err.ensures.obeys k holds)) in
+    let is = is_accepted (g.M.Memory.view m.memory) d c.args.prepared c.requires.prepared (g.met.M.Memory.whole m.memory) m.frame m.world (c.requires.go_on.may_run c.requires.alive) s shows in
+    accepted_unkept g.M.Memory.view g.H.Host c.args.kept.now.archive.name m b s k d (installed d s) _ is.0 c.in-Err.status c.args.host.now c.accept.new.host is.1 (c.in-Err.ensures.obeys k holds)) in
     record {
       go_on = tt;
       named = c.accept.ensures.named;

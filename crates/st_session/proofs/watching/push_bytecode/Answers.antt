@@ -1,35 +1,26 @@
-use Rattle.std.proofs.Common.{◌≡◌, Some, None, refl, sym, ap, ◌∙◌, append-nil}
+use Rattle.std.proofs.Common.{refl, sym, ap, ◌∙◌, append-nil}
 use Rattle.std.specs.Prelude.{option_map}
-use Rattle.st_frames.specs.Shown.{shown}
 use Rattle.st_call.proofs.Pushing.{push_none, push_as}
-use Rattle.st_debug.specs.Watched.{at_of, at_text, watched}
-use Rattle.st_session.specs.Standing.{shown_by}
+use Rattle.st_debug.specs.Watched.{at_of, at_text}
 use Rattle.st_session.specs.Stretches.{words_of}
 use Rattle.st_session.specs.Watching.{bytecode_texts}
+use Rattle.st_session.proofs.Looking.{same_watched}
 use Rattle.st_session.proofs.watching.push_bytecode.Goals as goal
 
 pub returns-in-Ok : goal.returns-in-Ok
 returns-in-Ok g c =
-    let view = g.M.Memory.view in
-    let m = c.args.machine.now in
-    let a = at_of c.in-Some.at in
-    let seen : Some a ≡ watched (shown_by view m) =
-    ap (option_map at_of) (sym c.in-Some.is) ∙ (c.watch.ensures m.world ∙ (λ i. watched (shown (view (c.memory.ensures i)) (c.frame.ensures i) m.world))) in
-    record { pushes = push_as c.in-Ok.ensures (sym (append-nil (at_text a)) ∙ ap (λ o. words_of (bytecode_texts o)) seen); stops = refl }
+    let w = c.args.machine.now.world in
+    let seen = ap (option_map at_of) (sym c.in-Some.is) ∙ (c.watch.ensures w ∙ same_watched g.M.Memory.view w c.memory.ensures c.frame.ensures) in
+    record { pushes = push_as c.in-Ok.ensures (sym (append-nil (at_text (at_of c.in-Some.at))) ∙ ap (λ o. words_of (bytecode_texts o)) seen); stops = refl }
 
 pub returns-in-Err : goal.returns-in-Err
 returns-in-Err g c =
-    let view = g.M.Memory.view in
-    let m = c.args.machine.now in
-    let a = at_of c.in-Some.at in
-    let seen : Some a ≡ watched (shown_by view m) =
-    ap (option_map at_of) (sym c.in-Some.is) ∙ (c.watch.ensures m.world ∙ (λ i. watched (shown (view (c.memory.ensures i)) (c.frame.ensures i) m.world))) in
-    record { pushes = push_as c.in-Err.ensures (sym (append-nil (at_text a)) ∙ ap (λ o. words_of (bytecode_texts o)) seen); stops = tt }
+    let w = c.args.machine.now.world in
+    let seen = ap (option_map at_of) (sym c.in-Some.is) ∙ (c.watch.ensures w ∙ same_watched g.M.Memory.view w c.memory.ensures c.frame.ensures) in
+    record { pushes = push_as c.in-Err.ensures (sym (append-nil (at_text (at_of c.in-Some.at))) ∙ ap (λ o. words_of (bytecode_texts o)) seen); stops = tt }
 
 pub returns-in-None : goal.returns-in-None
 returns-in-None g c =
-    let view = g.M.Memory.view in
-    let m = c.args.machine.now in
-    let seen : None ≡ watched (shown_by view m) =
-    ap (option_map at_of) (sym c.in-None.is) ∙ (c.watch.ensures m.world ∙ (λ i. watched (shown (view (c.memory.ensures i)) (c.frame.ensures i) m.world))) in
+    let w = c.args.machine.now.world in
+    let seen = ap (option_map at_of) (sym c.in-None.is) ∙ (c.watch.ensures w ∙ same_watched g.M.Memory.view w c.memory.ensures c.frame.ensures) in
     record { pushes = push_as (push_none g.H.Host c.args.host.now (g.met.H.Host.only_now c.args.host.now)) (ap (λ o. words_of (bytecode_texts o)) seen); stops = refl }

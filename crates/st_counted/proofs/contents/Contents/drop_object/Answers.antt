@@ -1,16 +1,19 @@
-use Rattle.std.proofs.Common.{◌≡◌, ℕ, ◌/◌, ◌<◌, List, [], ◌∷◌, length, set, true, sym, ap, ◌∙◌, subst, arith}
+use Rattle.std.proofs.Common.{◌≡◌, ℕ, ◌*◌, ◌/◌, ◌<◌, List, [], ◌∷◌, set, true, sym, ap, ◌∙◌, subst, arith}
 use Rattle.std.specs.Prelude.{Option, None, slice_set}
-use Rattle.st_model.specs.Values.{Value, Ref, value}
+use Rattle.st_model.specs.declared.oop.Oop.{Oop}
+use Rattle.st_model.specs.Values.{Ref, value}
 use Rattle.st_model.specs.Table.{Table}
-use Rattle.st_model.specs.View.{View, is_live, object_of}
+use Rattle.st_model.specs.View.{is_live, object_of}
 use Rattle.st_counted.specs.Counts.{is_unused}
 use Rattle.st_counted.specs.Contents.{counts_of}
+use Rattle.st_heap.specs.declared.objects.Objects.{Objects}
 use Rattle.st_heap.specs.Tables.{objects_of}
 use Rattle.st_heap.proofs.Placing.{length-objects}
+use Rattle.st_counted.specs.declared.contents.Contents.{Contents}
 use Rattle.st_counted.specs.declared.contents.Head.{Head}
 use Rattle.st_counted.specs.Held.{held_of}
 use Rattle.st_counted.specs.References.{all_roots, references, IsCounted}
-use Rattle.st_counted.specs.Counted.{counted_view, numbers_of}
+use Rattle.st_counted.specs.Counted.{counted_view, numbers_of, AllCounted}
 use Rattle.st_counted.proofs.Swept.{place_value, live_entry}
 use Rattle.st_counted.proofs.Tallying.{hand_counted, hand_some}
 use Rattle.st_counted.proofs.Dropping.{unused_live, counted_dropped}
@@ -19,15 +22,17 @@ use Rattle.st_counted.proofs.Storing.{lowered_to}
 use Rattle.st_counted.proofs.contents.Contents.drop_object.Goals as goal
 
 -- the class and the fields of the object are in hand
-in_hand : (v : View) (cs cs1 : List (Option ℕ)) (k : ℕ) (x class : Value) → IsCounted v.objects (all_roots v) [] cs → is_unused cs k ≡ true → length v.objects ≡ 32768 → k < 32768 → x ≡ Ref k
-    → class ≡ Ref (object_of v.objects x).class → cs1 ≡ set cs k None → IsCounted (slice_set v.objects k None) (all_roots v) (class ∷ (object_of v.objects x).fields) cs1
-in_hand v cs cs1 k x class h unused long within named is left =
-    let t = v.objects in
-    let o = object_of t x in
-    let live = ap (is_live t) named ∙ unused_live t (references t (all_roots v) []) cs k h.tallied unused in
-    subst (λ ns. IsCounted (slice_set t k None) (all_roots v) (class ∷ o.fields) ns) (sym left)
-    (subst (λ y. IsCounted (slice_set t k None) (all_roots v) (y ∷ o.fields) (set cs k None)) (sym is)
-    (counted_dropped t (all_roots v) cs k o h unused (live_entry t x k named live) (subst (λ n. k < n) (sym long) within)))
+in_hand : (m : Contents) (left : Objects) (cs1 : List (Option ℕ)) (k : ℕ) (o class : Oop) → AllCounted m → is_unused (numbers_of m) k ≡ true → k < 32768 → o.0 ≡ 2 * k → value class ≡ Ref (object_of (objects_of left) (value o)).class
+    → objects_of left ≡ objects_of m.objects → cs1 ≡ set (numbers_of m) k None → IsCounted (slice_set (objects_of m.objects) k None) (all_roots (counted_view m)) (value class ∷ (object_of (objects_of m.objects) (value o)).fields) cs1
+in_hand m left cs1 k o class h unused within two is same gone =
+    let t = objects_of m.objects in
+    let roots = all_roots (counted_view m) in
+    let x = value o in
+    let named = place_value o.0 k two in
+    let live = ap (is_live t) named ∙ unused_live t (references t roots []) (numbers_of m) k h.tallied unused in
+    subst (λ ns. IsCounted (slice_set t k None) roots (value class ∷ (object_of t x).fields) ns) (sym gone)
+    (subst (λ y. IsCounted (slice_set t k None) roots (y ∷ (object_of t x).fields) (set (numbers_of m) k None)) (sym (is ∙ ap (λ (u : Table). Ref (object_of u x).class) same))
+    (counted_dropped t roots (numbers_of m) k (object_of t x) h unused (live_entry t x k named live) (subst (λ n. k < n) (sym (length-objects m.objects.store)) within)))
 
 pub class_of-class-requires : goal.class_of-class-requires
 class_of-class-requires c =
@@ -39,22 +44,16 @@ class_of-class-requires c =
 pub lower-requires-clause-counted : goal.lower-requires-clause-counted
 lower-requires-clause-counted c small =
     let m = c.args.self.now in
-    let v = counted_view m in
-    let k = c.args.k in
-    let x = value c.pointer_of-o.result in
-    hand_counted (slice_set v.objects k None) (all_roots v) (object_of v.objects x).fields (counts_of c.leave.new.self) c.class_of-class.result.0
-    (in_hand v (numbers_of m) (counts_of c.leave.new.self) k x (value c.class_of-class.result) c.requires.counted c.requires.unused (length-objects m.objects.store) c.requires.place
-    (place_value c.pointer_of-o.result.0 k c.pointer_of-o.ensures) (c.class_of-class.ensures ∙ ap (λ (t : Table). Ref (object_of t x).class) c.leave.ensures.objects) c.leave.ensures.counts) small
+    let t = objects_of m.objects in
+    hand_counted (slice_set t c.args.k None) (all_roots (counted_view m)) (object_of t (value c.pointer_of-o.result)).fields (counts_of c.leave.new.self) c.class_of-class.result.0
+    (in_hand m c.leave.new.objects (counts_of c.leave.new.self) c.args.k c.pointer_of-o.result c.class_of-class.result c.requires.counted c.requires.unused c.requires.place c.pointer_of-o.ensures c.class_of-class.ensures c.leave.ensures.objects c.leave.ensures.counts) small
 
 pub lower-requires-clause-some : goal.lower-requires-clause-some
 lower-requires-clause-some c small =
     let m = c.args.self.now in
-    let v = counted_view m in
-    let k = c.args.k in
-    let x = value c.pointer_of-o.result in
-    hand_some (slice_set v.objects k None) (all_roots v) (object_of v.objects x).fields (counts_of c.leave.new.self) c.class_of-class.result.0
-    (in_hand v (numbers_of m) (counts_of c.leave.new.self) k x (value c.class_of-class.result) c.requires.counted c.requires.unused (length-objects m.objects.store) c.requires.place
-    (place_value c.pointer_of-o.result.0 k c.pointer_of-o.ensures) (c.class_of-class.ensures ∙ ap (λ (t : Table). Ref (object_of t x).class) c.leave.ensures.objects) c.leave.ensures.counts) small
+    let t = objects_of m.objects in
+    hand_some (slice_set t c.args.k None) (all_roots (counted_view m)) (object_of t (value c.pointer_of-o.result)).fields (counts_of c.leave.new.self) c.class_of-class.result.0
+    (in_hand m c.leave.new.objects (counts_of c.leave.new.self) c.args.k c.pointer_of-o.result c.class_of-class.result c.requires.counted c.requires.unused c.requires.place c.pointer_of-o.ensures c.class_of-class.ensures c.leave.ensures.objects c.leave.ensures.counts) small
 
 pub lower_fields-requires-clause-live : goal.lower_fields-requires-clause-live
 lower_fields-requires-clause-live c =
@@ -74,8 +73,7 @@ lower_fields-requires-clause-counted c =
     subst (λ (t : Table). IsCounted (slice_set t (c.pointer_of-o.result.0 / 2) None) (all_roots v) (object_of t x).fields (counts_of c.lower.new.counts)) (sym (c.lower.ensures.objects ∙ c.leave.ensures.objects))
     (subst (λ n. IsCounted (slice_set v.objects n None) (all_roots v) (object_of v.objects x).fields (counts_of c.lower.new.counts)) (sym half)
     (lowered_to (slice_set v.objects k None) (all_roots v) (object_of v.objects x).fields (counts_of c.leave.new.self) (counts_of c.lower.new.counts) (value c.class_of-class.result)
-    (in_hand v (numbers_of m) (counts_of c.leave.new.self) k x (value c.class_of-class.result) c.requires.counted c.requires.unused (length-objects m.objects.store) c.requires.place
-    (place_value c.pointer_of-o.result.0 k c.pointer_of-o.ensures) (c.class_of-class.ensures ∙ ap (λ (t : Table). Ref (object_of t x).class) c.leave.ensures.objects) c.leave.ensures.counts) c.lower.ensures.counts))
+    (in_hand m c.leave.new.objects (counts_of c.leave.new.self) c.args.k c.pointer_of-o.result c.class_of-class.result c.requires.counted c.requires.unused c.requires.place c.pointer_of-o.ensures c.class_of-class.ensures c.leave.ensures.objects c.leave.ensures.counts) c.lower.ensures.counts))
 
 pub remove-requires : goal.remove-requires
 remove-requires c =

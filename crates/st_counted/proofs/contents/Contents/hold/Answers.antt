@@ -1,21 +1,19 @@
-use Rattle.std.proofs.Common.{◌≡◌, ◌∙◌, ap, ◌/◌, [], ◌∷◌, refl, sym, subst, arith}
+use Rattle.std.proofs.Common.{◌≡◌, ◌∙◌, ap, ◌/◌, [], refl, sym, subst, arith}
 use Rattle.std.proofs.lemmas.Bool.{eqb-true}
 use Rattle.st_model.specs.Table.{Table}
 use Rattle.st_model.specs.View.{with_held}
 use Rattle.st_counted.specs.Held.{held_of}
-use Rattle.st_model.specs.Values.{Value, value, value_of}
+use Rattle.st_model.specs.Values.{value, value_of}
 use Rattle.st_counted.specs.Contents.{counts_of}
-use Rattle.st_counted.specs.References.{all_roots, references, IsCounted}
+use Rattle.st_counted.specs.References.{all_roots, IsCounted}
 use Rattle.st_counted.specs.Counted.{counted_view, numbers_of}
-use Rattle.st_counted.proofs.Tallying.{known_counted, hand_counted, hand_some}
-use Rattle.st_counted.proofs.Rooting.{counted_few, counted_held, held_already}
-use Rattle.st_counted.proofs.Storing.{raised_to, lowered_to}
+use Rattle.st_counted.proofs.Tallying.{hand_counted, hand_some}
+use Rattle.st_counted.proofs.Rooting.{counted_few, held_already}
+use Rattle.st_counted.proofs.Storing.{name_counted, held, lowered_to}
 use Rattle.st_counted.proofs.contents.Contents.hold.Goals as goal
 
 pub raise-requires-clause-counted : goal.raise-requires-clause-counted
-raise-requires-clause-counted c small =
-    let v = counted_view c.args.self.now in
-    known_counted v.objects (references v.objects (all_roots v) []) (numbers_of c.args.self.now) c.args.o.0 c.requires.counted.tallied c.requires.known small
+raise-requires-clause-counted c small = name_counted c.args.self.now c.args.o c.requires.counted c.requires.known small
 
 pub raise-requires-clause-room : goal.raise-requires-clause-room
 raise-requires-clause-room c =
@@ -26,36 +24,24 @@ raise-requires-clause-room c =
 pub lower-requires-clause-counted : goal.lower-requires-clause-counted
 lower-requires-clause-counted c small =
     let m = c.args.self.now in
-    let v = counted_view m in
     let w = counted_view (record m { roots = c.hold.new.self }) in
     let cs1 = counts_of c.raise.new.counts in
-    hand_counted w.objects (all_roots w) [] cs1 c.held-old.result.0
-    (subst (λ (x : Value). IsCounted w.objects (all_roots w) (x ∷ []) cs1) (sym c.held-old.ensures)
-    (counted_held v w [] cs1 c.args.place (value c.args.o) (raised_to v.objects (all_roots v) [] (numbers_of m) cs1 (value c.args.o) 1 c.requires.counted c.requires.known c.raise.ensures.counts)
-    c.requires.place c.requires.whole.pending refl c.hold.ensures refl)) small
+    hand_counted w.objects (all_roots w) [] cs1 c.held-old.result.0 (held (counted_view m) w (numbers_of m) cs1 c.args.place (value c.args.o) (value c.held-old.result) c.requires.counted c.requires.known c.requires.place c.requires.whole.pending c.raise.ensures.counts refl c.hold.ensures refl c.held-old.ensures) small
 
 pub lower-requires-clause-some : goal.lower-requires-clause-some
 lower-requires-clause-some c small =
     let m = c.args.self.now in
-    let v = counted_view m in
     let w = counted_view (record m { roots = c.hold.new.self }) in
     let cs1 = counts_of c.raise.new.counts in
-    hand_some w.objects (all_roots w) [] cs1 c.held-old.result.0
-    (subst (λ (x : Value). IsCounted w.objects (all_roots w) (x ∷ []) cs1) (sym c.held-old.ensures)
-    (counted_held v w [] cs1 c.args.place (value c.args.o) (raised_to v.objects (all_roots v) [] (numbers_of m) cs1 (value c.args.o) 1 c.requires.counted c.requires.known c.raise.ensures.counts)
-    c.requires.place c.requires.whole.pending refl c.hold.ensures refl)) small
+    hand_some w.objects (all_roots w) [] cs1 c.held-old.result.0 (held (counted_view m) w (numbers_of m) cs1 c.args.place (value c.args.o) (value c.held-old.result) c.requires.counted c.requires.known c.requires.place c.requires.whole.pending c.raise.ensures.counts refl c.hold.ensures refl c.held-old.ensures) small
 
 pub returns-clause-counted : goal.returns-clause-counted
 returns-clause-counted c =
     let m = c.args.self.now in
-    let v = counted_view m in
     let w = counted_view (record m { roots = c.hold.new.self }) in
     let cs1 = counts_of c.raise.new.counts in
     subst (λ (t : Table). IsCounted t (all_roots w) [] (counts_of c.lower.new.counts)) (sym (c.lower.ensures.objects ∙ c.raise.ensures.objects))
-    (lowered_to w.objects (all_roots w) [] cs1 (counts_of c.lower.new.counts) (value c.held-old.result)
-    (subst (λ (x : Value). IsCounted w.objects (all_roots w) (x ∷ []) cs1) (sym c.held-old.ensures)
-    (counted_held v w [] cs1 c.args.place (value c.args.o) (raised_to v.objects (all_roots v) [] (numbers_of m) cs1 (value c.args.o) 1 c.requires.counted c.requires.known c.raise.ensures.counts)
-    c.requires.place c.requires.whole.pending refl c.hold.ensures refl)) c.lower.ensures.counts)
+    (lowered_to w.objects (all_roots w) [] cs1 (counts_of c.lower.new.counts) (value c.held-old.result) (held (counted_view m) w (numbers_of m) cs1 c.args.place (value c.args.o) (value c.held-old.result) c.requires.counted c.requires.known c.requires.place c.requires.whole.pending c.raise.ensures.counts refl c.hold.ensures refl c.held-old.ensures) c.lower.ensures.counts)
 
 -- what is held already stays
 pub returns-then-eq-clause-held : goal.returns-then-eq-clause-held

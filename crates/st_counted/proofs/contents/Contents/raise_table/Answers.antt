@@ -6,7 +6,8 @@ use Rattle.st_counted.specs.Counts.{number_at}
 use Rattle.st_counted.specs.Contents.{counts_of}
 use Rattle.st_counted.specs.References.{times}
 use Rattle.st_counted.specs.Counted.{counted_view, numbers_of}
-use Rattle.st_counted.proofs.Tallying.{test_other, known_counted, entered_tally, tally_same}
+use Rattle.st_counted.proofs.Linked.{test_other}
+use Rattle.st_counted.proofs.Tallying.{known_counted, entered_tally, tally_same}
 use Rattle.st_counted.proofs.Finishing.{raised_tally}
 use Rattle.st_counted.proofs.contents.Contents.raise_table.Goals as goal
 

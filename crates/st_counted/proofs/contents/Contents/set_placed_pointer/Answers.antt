@@ -1,25 +1,27 @@
-use Rattle.std.proofs.Common.{◌/◌, [], ap, sym, ◌∙◌, subst, is_some, arith}
+use Rattle.std.proofs.Common.{◌≡◌, ℕ, true, ◌∷◌, ◌/◌, [], refl, sym, ◌∙◌, subst, arith}
+use Rattle.std.specs.Prelude.{Some, slice_get}
+use Rattle.st_model.specs.declared.oop.Oop.{Oop}
 use Rattle.st_model.specs.Values.{value}
-use Rattle.st_model.specs.Table.{Table, entry}
+use Rattle.st_model.specs.View.{IsKnown, is_live, object_of, with_stored}
+use Rattle.st_heap.specs.declared.objects.Objects.{Objects}
+use Rattle.st_counted.specs.declared.contents.Contents.{Contents}
+use Rattle.st_model.specs.Table.{Table}
 use Rattle.st_counted.specs.Contents.{counts_of}
 use Rattle.st_heap.specs.Tables.{objects_of}
-use Rattle.st_counted.specs.References.{all_roots, references, IsCounted}
-use Rattle.st_counted.specs.Counted.{counted_view, numbers_of}
-use Rattle.st_counted.proofs.Tallying.{known_counted, hand_counted, hand_some}
-use Rattle.st_counted.proofs.Listing.{relinked, live_with}
+use Rattle.st_counted.specs.References.{all_roots, raised_by, IsCounted}
+use Rattle.st_counted.specs.Counted.{counted_view, numbers_of, AllCounted}
+use Rattle.st_counted.proofs.Tallying.{hand_counted, hand_some}
+use Rattle.st_counted.proofs.Listing.{stored_listed}
 use Rattle.st_counted.proofs.Rooting.{counted_few}
-use Rattle.st_counted.proofs.Storing.{stored, lowered_to}
+use Rattle.st_counted.proofs.Storing.{name_counted, stored, lowered_to}
 use Rattle.st_counted.proofs.contents.Contents.set_placed_pointer.Goals as goal
 
 pub raise-requires-clause-counted : goal.raise-requires-clause-counted
-raise-requires-clause-counted c small =
-    let v = counted_view c.args.self.now in
-    known_counted v.objects (references v.objects (all_roots v) []) (numbers_of c.args.self.now) c.args.v.0 c.requires.counted.tallied c.requires.known small
+raise-requires-clause-counted c small = name_counted c.args.self.now c.args.v c.requires.counted c.requires.known small
 
 pub raise-requires-clause-room : goal.raise-requires-clause-room
 raise-requires-clause-room c =
-    let v = counted_view c.args.self.now in
-    let a = counted_few v [] (numbers_of c.args.self.now) (c.args.v.0 / 2) c.requires.whole c.requires.counted in omega (arith, a)
+    let a = counted_few (counted_view c.args.self.now) [] (numbers_of c.args.self.now) (c.args.v.0 / 2) c.requires.whole c.requires.counted in omega (arith, a)
 
 pub lower-requires-clause-counted : goal.lower-requires-clause-counted
 lower-requires-clause-counted c small =
@@ -46,10 +48,7 @@ returns-clause-counted c =
 -- the links stay where a field is stored
 pub raise-requires-clause-listed : goal.raise-requires-clause-listed
 raise-requires-clause-listed c =
-    let m = c.args.self.now in
-    let e = c.set_placed_field.ensures in
-    relinked m.objects c.set_placed_field.new.self m.counts c.requires.listed e.links
-    (λ k counted. ap (λ (t : Table). is_some (entry t k)) e.objects ∙ live_with (objects_of m.objects) (value c.args.o) c.args.at (value c.args.v) k ∙ c.requires.listed.stored k counted)
+    let e = c.set_placed_field.ensures in stored_listed c.args.self.now.objects c.set_placed_field.new.self c.args.self.now.counts (value c.args.o) c.args.at (value c.args.v) c.requires.listed e.links e.objects
 
 pub returns-clause-objects : goal.returns-clause-objects
 returns-clause-objects c = c.lower.ensures.objects ∙ c.raise.ensures.objects ∙ c.set_placed_field.ensures.objects
@@ -59,3 +58,52 @@ returns-clause-room c = λ h. c.lower.ensures.room ∙ c.raise.ensures.room ∙ 
 
 pub returns-clause-places : goal.returns-clause-places
 returns-clause-places c = λ k. c.lower.ensures.places k ∙ c.raise.ensures.places k ∙ c.set_placed_field.ensures.places k
+
+-- the same where nothing referred to what is stored
+pub names_unused-requires : goal.names_unused-requires
+names_unused-requires c small = name_counted c.args.self.now c.args.v c.requires.counted c.requires.known small
+
+pub count_store-requires-clause-counted : goal.count_store-requires-clause-counted
+count_store-requires-clause-counted c small = name_counted c.args.self.now c.args.v c.requires.counted c.requires.known small
+
+pub count_store-requires-clause-room : goal.count_store-requires-clause-room
+count_store-requires-clause-room c =
+    let a = counted_few (counted_view c.args.self.now) [] (numbers_of c.args.self.now) (c.args.v.0 / 2) c.requires.whole c.requires.counted in omega (arith, a)
+
+pub count_store-requires-clause-listed : goal.count_store-requires-clause-listed
+count_store-requires-clause-listed c =
+    let e = c.set_placed_field.ensures in stored_listed c.args.self.now.objects c.set_placed_field.new.self c.args.self.now.counts (value c.args.o) c.args.at (value c.args.v) c.requires.listed e.links e.objects
+
+-- what the field held is in hand once the new value is counted
+old_in_hand : (m : Contents) (now : Objects) (o y old : Oop) (i : ℕ) → AllCounted m → IsKnown (objects_of m.objects) (value y) → is_live (objects_of m.objects) (value o) ≡ true → slice_get (object_of (objects_of m.objects) (value o)).fields i ≡ Some (value old)
+    → objects_of now ≡ with_stored (objects_of m.objects) (value o) i (value y) → IsCounted (objects_of now) (all_roots (counted_view m)) (value old ∷ []) (raised_by (numbers_of m) (value y) 1)
+old_in_hand m now o y old i h known live there is = stored (counted_view m) (numbers_of m) (raised_by (numbers_of m) (value y) 1) (objects_of now) (value o) i (value y) (value old) h known live there refl is
+
+pub count_store-requires-clause-stood : goal.count_store-requires-clause-stood
+count_store-requires-clause-stood c small =
+    let m = c.args.self.now in
+    let now = c.set_placed_field.new.self in
+    hand_counted (objects_of now) (all_roots (counted_view m)) [] (raised_by (numbers_of m) (value c.args.v) 1) c.placed_field-old.result.0 (old_in_hand m now c.args.o c.args.v c.placed_field-old.result c.args.at c.requires.counted c.requires.known c.requires.live c.placed_field-old.ensures c.set_placed_field.ensures.objects) small
+
+pub count_store-requires-clause-some : goal.count_store-requires-clause-some
+count_store-requires-clause-some c small =
+    let m = c.args.self.now in
+    let now = c.set_placed_field.new.self in
+    hand_some (objects_of now) (all_roots (counted_view m)) [] (raised_by (numbers_of m) (value c.args.v) 1) c.placed_field-old.result.0 (old_in_hand m now c.args.o c.args.v c.placed_field-old.result c.args.at c.requires.counted c.requires.known c.requires.live c.placed_field-old.ensures c.set_placed_field.ensures.objects) small
+
+pub returns-then-names_unused-clause-counted : goal.returns-then-names_unused-clause-counted
+returns-then-names_unused-clause-counted c =
+    let m = c.args.self.now in
+    let now = c.set_placed_field.new.self in
+    let roots = all_roots (counted_view m) in
+    subst (λ (u : Table). IsCounted u roots [] (counts_of c.count_store.new.counts)) (sym c.count_store.ensures.objects)
+    (lowered_to (objects_of now) roots [] (raised_by (numbers_of m) (value c.args.v) 1) (counts_of c.count_store.new.counts) (value c.placed_field-old.result) (old_in_hand m now c.args.o c.args.v c.placed_field-old.result c.args.at c.requires.counted c.requires.known c.requires.live c.placed_field-old.ensures c.set_placed_field.ensures.objects) c.count_store.ensures.counts)
+
+pub returns-then-names_unused-clause-objects : goal.returns-then-names_unused-clause-objects
+returns-then-names_unused-clause-objects c = c.count_store.ensures.objects ∙ c.set_placed_field.ensures.objects
+
+pub returns-then-names_unused-clause-room : goal.returns-then-names_unused-clause-room
+returns-then-names_unused-clause-room c = λ h. c.count_store.ensures.room ∙ c.set_placed_field.ensures.room ∙ h
+
+pub returns-then-names_unused-clause-places : goal.returns-then-names_unused-clause-places
+returns-then-names_unused-clause-places c = λ k. c.count_store.ensures.places k ∙ c.set_placed_field.ensures.places k

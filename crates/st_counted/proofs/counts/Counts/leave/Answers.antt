@@ -1,15 +1,12 @@
-use Rattle.std.proofs.Common.{None, refl, ap, sym, ◌∙◌, subst, false, arith}
-use Rattle.st_table.specs.Entries.{place}
-use Rattle.st_heap.specs.Links.{next_of, before_of}
+use Rattle.std.proofs.Common.{None, refl, ap, ◌∙◌, false, arith}
 use Rattle.st_heap.specs.Tables.{objects_of}
 use Rattle.st_model.specs.View.{is_live}
 use Rattle.st_counted.specs.Counts.{count_at}
-use Rattle.st_counted.specs.Links.{IsEnd}
 use Rattle.st_counted.proofs.Swept.{place_value}
 use Rattle.st_counted.proofs.Listing.{half_of, live_place, next_end, before_end, listed_without}
-use Rattle.st_counted.proofs.ZeroList.{zero_counted, not_here}
+use Rattle.st_counted.proofs.ZeroList.{zero_counted}
 use Rattle.st_counted.specs.Slots.{counts_in}
-use Rattle.st_counted.proofs.Slots.{counted_slot, counts_set, as_many, none_first_still}
+use Rattle.st_counted.proofs.Slots.{counted_slot, counts_set, counts_still}
 use Rattle.st_counted.proofs.counts.Counts.leave.Goals as goal
 
 pub index_mut-requires : goal.index_mut-requires
@@ -21,10 +18,9 @@ index_mut-requires c =
 pub invariant_of-self : goal.invariant_of-self
 invariant_of-self c =
     let s = c.args.self.now in
-    let k = c.args.k in
     let cs = counts_in s.counts.items in
-    let is = counts_set s.counts.items k (record { number = c.index_mut.result.now.number; counted = false }) in
-    record { places = as_many cs _ k None is s.places; none_first = none_first_still cs _ k None is s.none_first (not_here cs k s.none_first (zero_counted (count_at cs k) c.requires.unused)) }
+    let is = counts_set s.counts.items c.args.k (record { number = c.index_mut.result.now.number; counted = false }) in
+    counts_still cs _ c.args.k None is s.places s.none_first (zero_counted (count_at cs c.args.k) c.requires.unused)
 
 pub unlink-self-requires-clause-live : goal.unlink-self-requires-clause-live
 unlink-self-requires-clause-live c =
@@ -34,17 +30,11 @@ unlink-self-requires-clause-live c =
 
 pub unlink-self-requires-clause-next : goal.unlink-self-requires-clause-next
 unlink-self-requires-clause-next c =
-    let s = c.args.self.now in
-    let o = c.args.objects.now in
-    let k = c.args.k in
-    subst (λ j. IsEnd o (next_of o.store j)) (sym (half_of c.pointer_of.result.0 k c.pointer_of.ensures)) (next_end o (place s.first) k (counts_in s.counts.items) c.requires.listed.list c.requires.listed.stored c.requires.unused)
+    next_end c.args.objects.now c.args.self.now c.pointer_of.result.0 c.args.k c.pointer_of.ensures c.requires.listed c.requires.unused
 
 pub unlink-self-requires-clause-before : goal.unlink-self-requires-clause-before
 unlink-self-requires-clause-before c =
-    let s = c.args.self.now in
-    let o = c.args.objects.now in
-    let k = c.args.k in
-    subst (λ j. IsEnd o (before_of o.store j)) (sym (half_of c.pointer_of.result.0 k c.pointer_of.ensures)) (before_end o (place s.first) k (counts_in s.counts.items) c.requires.listed.list c.requires.listed.stored c.requires.unused)
+    before_end c.args.objects.now c.args.self.now c.pointer_of.result.0 c.args.k c.pointer_of.ensures c.requires.listed c.requires.unused
 
 pub returns-clause-listed : goal.returns-clause-listed
 returns-clause-listed c =

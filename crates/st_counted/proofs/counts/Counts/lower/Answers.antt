@@ -1,53 +1,32 @@
-use Rattle.std.proofs.Common.{◌≡◌, ◌≢◌, ◌-◌, false, Some, refl, ap, ◌∙◌, is_some, arith}
-use Rattle.st_model.specs.Table.{entry}
+use Rattle.std.proofs.Common.{◌-◌, false, Some, refl, ◌∙◌}
 use Rattle.st_table.specs.Entries.{place}
-use Rattle.st_heap.specs.Tables.{objects_of}
-use Rattle.st_counted.specs.Counts.{count_at, number_at, is_unused}
+use Rattle.st_counted.specs.Counts.{is_unused}
 use Rattle.st_counted.proofs.Linked.{test_other}
-use Rattle.st_counted.proofs.Listing.{half_of, first_end, listed_with, listed_still_with}
-use Rattle.st_counted.proofs.ZeroList.{counted_within, not_here, number_zero, test_of}
+use Rattle.st_counted.proofs.Listing.{first_end, listed_with, listed_still_with}
+use Rattle.st_counted.proofs.ZeroList.{counted_within, lowered_used, test_of}
 use Rattle.st_counted.specs.Slots.{counts_in}
-use Rattle.st_counted.proofs.Slots.{as_many, none_first_still}
+use Rattle.st_counted.proofs.Slots.{counts_still}
 use Rattle.st_counted.proofs.counts.Counts.lower.Goals as goal
 
 pub invariant_of-self : goal.invariant_of-self
 invariant_of-self c =
-    let s = c.args.self.now in
-    let k = c.args.k in
-    let cs = counts_in s.counts.items in
-    let n = c.count.result - c.args.by in
-    let is = c.set_count.ensures in
-    record { places = as_many cs _ k (Some n) is s.places; none_first = none_first_still cs _ k (Some n) is s.none_first (not_here cs k s.none_first c.requires.counted) }
+    let s = c.args.self.now in counts_still (counts_in s.counts.items) _ c.args.k (Some (c.count.result - c.args.by)) c.set_count.ensures s.places s.none_first c.requires.counted
 
-pub link-self-requires-clause-stored : goal.link-self-requires-clause-stored
-link-self-requires-clause-stored c = ap (λ j. is_some (entry (objects_of c.args.objects.now) j)) (half_of c.pointer_of.result.0 c.args.k c.pointer_of.ensures) ∙ c.requires.listed.stored c.args.k c.requires.counted
-
-pub link-self-requires-clause-head : goal.link-self-requires-clause-head
-link-self-requires-clause-head c =
+pub list-requires-clause-head : goal.list-requires-clause-head
+list-requires-clause-head c =
     let s = c.args.self.now in first_end c.args.objects.now (place s.first) (counts_in s.counts.items) c.requires.listed.list c.requires.listed.stored
 
 pub returns-then-count-eq0-clause-listed : goal.returns-then-count-eq0-clause-listed
 returns-then-count-eq0-clause-listed c =
     let s = c.args.self.now in
-    let k = c.args.k in
-    let cs = counts_in s.counts.items in
-    let n = c.count.result - c.args.by in
-    let some = c.requires.some in
-    let most = c.requires.most in
-    let more : number_at cs k ≢ 0 = λ q. absurd (omega (arith, q, some, most)) in
-    let was : is_unused cs k ≡ false = number_zero (count_at cs k) c.requires.counted ∙ test_other (number_at cs k) 0 more in
-    let first = c.link-self.ensures.head in
-    listed_with c.args.objects.now c.link-self.new.objects s _ c.pointer_of.result.0 k (Some n) c.requires.listed (counted_within cs k c.requires.counted) (c.requires.listed.stored k c.requires.counted) was (test_of n 0 c.if-count-eq0.true) (half_of c.pointer_of.result.0 k c.pointer_of.ensures) (ap (λ o. o.0) first) c.set_count.ensures
-    c.link-self.ensures.objects c.link-self.ensures.holds
+    let r = c.requires in
+    let was = lowered_used (counts_in s.counts.items) c.args.k c.args.by r.counted r.some r.most in
+    listed_with c.args.objects.now c.list.new.objects s c.list.new.self c.args.k (Some (c.count.result - c.args.by)) r.listed (counted_within (counts_in s.counts.items) c.args.k r.counted) (r.listed.stored c.args.k r.counted)
+    (test_of (c.count.result - c.args.by) 0 c.if-count-eq0.true) (c.list.ensures.counts ∙ c.set_count.ensures) c.list.ensures.objects (c.list.ensures.holds (is_unused (counts_in s.counts.items)) r.listed.list was)
 
 pub returns-else-count-eq0-clause-listed : goal.returns-else-count-eq0-clause-listed
 returns-else-count-eq0-clause-listed c =
     let s = c.args.self.now in
-    let k = c.args.k in
-    let cs = counts_in s.counts.items in
-    let n = c.count.result - c.args.by in
-    let some = c.requires.some in
-    let most = c.requires.most in
-    let more : number_at cs k ≢ 0 = λ q. absurd (omega (arith, q, some, most)) in
-    let was : is_unused cs k ≡ false = number_zero (count_at cs k) c.requires.counted ∙ test_other (number_at cs k) 0 more in
-    listed_still_with c.args.objects.now s _ k (Some n) false c.requires.listed c.requires.counted (test_other n 0 c.if-count-eq0.false) was refl c.set_count.ensures
+    let r = c.requires in
+    let was = lowered_used (counts_in s.counts.items) c.args.k c.args.by r.counted r.some r.most in
+    listed_still_with c.args.objects.now s _ c.args.k (Some (c.count.result - c.args.by)) false r.listed r.counted (test_other (c.count.result - c.args.by) 0 c.if-count-eq0.false) was refl c.set_count.ensures

@@ -1,31 +1,12 @@
-use Rattle.std.proofs.Common.{◌∙◌, ◌<◌, [], refl, sym, subst, arith}
+use Rattle.std.proofs.Common.{arith}
 use Rattle.st_model.specs.Values.{value}
 use Rattle.st_model.specs.View.{object_of}
-use Rattle.st_model.proofs.FormedLemmas.{unit_limit-byte}
-use Rattle.st_model.proofs.WholeLemmas.{whole_unit}
-use Rattle.st_model.specs.Table.{Table}
-use Rattle.st_counted.specs.References.{all_roots, references, IsCounted}
-use Rattle.st_heap.specs.Tables.{objects_of}
-use Rattle.st_counted.proofs.Listing.{relinked, tally_stored}
-use Rattle.st_counted.specs.Counted.{counted_view, numbers_of}
-use Rattle.st_counted.proofs.Referring.{counted_unit}
+use Rattle.st_counted.specs.Counted.{counted_view}
+use Rattle.st_counted.proofs.Kept.{kept_unit}
+use Rattle.st_counted.proofs.Units.{byte_fits}
 use Rattle.st_counted.proofs.memory.CountedMemoryMemory.set_byte.Goals as goal
 
 pub invariant_of-self : goal.invariant_of-self
 invariant_of-self c =
-    let m = c.args.self.now in
-    let now = c.set_byte.new.self in
-    let v = counted_view m.contents in
-    let x = value c.args.o in
-    let e = c.set_byte.ensures in
-    let b = c.args.v in
-    let small : b < 256 = omega arith in
-    let counted : IsCounted (objects_of now) (all_roots v) [] (numbers_of m.contents) =
-    subst (λ (t : Table). IsCounted t (all_roots v) [] (numbers_of m.contents)) (sym e.objects) (counted_unit v.objects (all_roots v) [] (numbers_of m.contents) x _ _ m.counted c.requires.live) in
-    record {
-      whole = whole_unit v (counted_view (record m.contents { objects = now })) x _ b m.whole c.requires.live
-          (subst (λ n. b < n) (sym (unit_limit-byte (object_of v.objects x).kind c.requires.kind)) small) e.objects refl refl;
-      room = c.set_byte.ensures.room ∙ m.room;
-      counted = counted;
-      listed = relinked m.contents.objects now m.contents.counts m.listed c.set_byte.ensures.links (tally_stored now (references (objects_of now) (all_roots v) []) (numbers_of m.contents) counted.tallied);
-    }
+    let small = byte_fits (object_of (counted_view c.args.self.now.contents).objects (value c.args.o)) c.args.v c.requires.kind (omega arith) in
+    let e = c.set_byte.ensures in kept_unit c.args.self.now c.set_byte.new.self (value c.args.o) _ c.args.v c.requires.live small e.objects e.room e.links

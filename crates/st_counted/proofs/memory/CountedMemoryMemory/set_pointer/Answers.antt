@@ -1,25 +1,16 @@
-use Rattle.std.proofs.Common.{◌<◌, ap, arith}
-use Rattle.st_model.specs.View.{head_of}
-use Rattle.st_counted.specs.declared.contents.Head.{Head}
+use Rattle.std.proofs.Common.{arith}
 use Rattle.st_model.specs.Values.{value}
-use Rattle.st_model.proofs.Pointers.{IsWord-value_of}
-use Rattle.st_model.proofs.WholeLemmas.{whole_stored}
-use Rattle.st_counted.specs.Counted.{counted_view}
+use Rattle.st_counted.proofs.Kept.{whole_field}
 use Rattle.st_counted.proofs.Placed.{all_stand}
 use Rattle.st_counted.proofs.memory.CountedMemoryMemory.set_pointer.Goals as goal
 
 pub invariant_of-self : goal.invariant_of-self
 invariant_of-self c =
     let m = c.args.self.now in
-    let v = counted_view m.contents in
-    let w = counted_view c.set_pointer.new.self in
-    let word : c.args.v.0 < 65536 = omega arith in
-    record {
-      whole = whole_stored v w (value c.args.o) c.args.at (value c.args.v) m.whole c.requires.live c.requires.known c.requires.header (IsWord-value_of c.args.v.0 word) c.set_pointer.ensures.objects c.set_pointer.ensures.held (ap (λ (h : Head). head_of h.capacity h.globals h.symbols) c.set_pointer.ensures.head);
-      room = c.set_pointer.ensures.room m.room;
-      counted = c.set_pointer.ensures.counted;
-      listed = c.set_pointer.ensures.listed;
-    }
+    let r = c.requires in
+    let e = c.set_pointer.ensures in
+    let whole = whole_field m.contents c.set_pointer.new.self (value c.args.o) c.args.at c.args.v m.whole r.live r.known r.header (omega arith) e.objects e.held e.head in
+    record { whole = whole; room = e.room m.room; counted = e.counted; listed = e.listed }
 
 pub returns-clause-places : goal.returns-clause-places
 returns-clause-places c = all_stand c.args.self.now.contents.objects c.set_pointer.new.self.objects c.set_pointer.ensures.places

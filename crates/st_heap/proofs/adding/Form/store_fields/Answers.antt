@@ -1,35 +1,23 @@
-use Rattle.std.proofs.Common.{◌≡◌, ◌+◌, ◌/◌, ◌≤◌, List, Some, None, length, take, get_or, set, refl, sym, ap, ◌∙◌, arith}
-use Rattle.std.specs.Prelude.{ℕ, unwrap_or, is_some, true}
-use Rattle.std.proofs.lemmas.List.{set-set, get_or-set_same, length-take-le}
+use Rattle.std.proofs.Common.{◌≡◌, ◌/◌, List, Some, length, take, set, sym, ap, ◌∙◌, arith}
+use Rattle.std.specs.Prelude.{ℕ, is_some}
+use Rattle.std.proofs.lemmas.List.{set-set}
 use Rattle.st_cells.specs.Words.{with_run}
-use Rattle.st_heap.specs.Stored.{Stored, run, slot, stored, nothing_stored, with_cells}
+use Rattle.st_heap.specs.Stored.{Stored, run, with_cells}
 use Rattle.st_heap.specs.Stores.{stored_of}
 use Rattle.st_heap.specs.Fresh.{new_cell}
 use Rattle.st_heap.proofs.Runs.{length-run}
-use Rattle.st_heap.proofs.StoredLaying.{all_over, laid, laid_is}
+use Rattle.st_heap.proofs.StoredLaying.{all_over, laid, laid_is, slot_taken, stored_taken, length_taken}
 use Rattle.st_heap.proofs.adding.Form.store_fields.Goals as goal
 
 pub write-requires-clause-there : goal.write-requires-clause-there
 write-requires-clause-there c =
-    let k = c.args.at.0 / 2 in
-    let all = stored_of c.args.store.now in
     let f = c.args.self.now in
-    let t = c.take.ensures.stored in
-    let s : Stored = record { kind = f.kind; odd = f.odd; cells = t.cells } in
-    record {
-      even = c.requires.unused.even;
-      there = ap (λ xs. is_some (slot xs k)) t.is ∙ ap is_some (get_or-set_same all k (Some s) None c.requires.unused.last);
-    }
+    record { even = c.requires.unused.even; there = ap is_some (slot_taken (stored_of c.args.store.now) (stored_of c.take.new.self) (c.args.at.0 / 2) f.kind f.odd f.words c.take.ensures.stored c.requires.unused.last) }
 
 pub write-requires-clause-range : goal.write-requires-clause-range
 write-requires-clause-range c =
-    let k = c.args.at.0 / 2 in
-    let all = stored_of c.args.store.now in
     let f = c.args.self.now in
-    let t = c.take.ensures.stored in
-    let s : Stored = record { kind = f.kind; odd = f.odd; cells = t.cells } in
-    let here : stored (stored_of c.take.new.self) k ≡ s = ap (λ x. unwrap_or x nothing_stored) (ap (λ xs. get_or xs k None) t.is ∙ get_or-set_same all k (Some s) None c.requires.unused.last) in
-    let size : length (stored (stored_of c.take.new.self) k).cells ≡ f.words = ap (λ (x : Stored). length x.cells) here ∙ t.long in
+    let size = length_taken (stored_of c.args.store.now) (stored_of c.take.new.self) (c.args.at.0 / 2) f.kind f.odd f.words c.take.ensures.stored c.requires.unused.last in
     let words = length-run (new_cell f) f.words in
     let is = laid_is f c.requires.plain c.requires.fields c.requires.few in
     let taken : length (take f.words (laid f c.requires.plain c.requires.fields c.requires.few)) ≡ f.words = ap (λ (xs : List ℕ). length xs) is ∙ words in
@@ -42,7 +30,7 @@ returns-clause-stored c =
     let f = c.args.self.now in
     let t = c.take.ensures.stored in
     let s : Stored = record { kind = f.kind; odd = f.odd; cells = t.cells } in
-    let here : stored (stored_of c.take.new.self) k ≡ s = ap (λ x. unwrap_or x nothing_stored) (ap (λ xs. get_or xs k None) t.is ∙ get_or-set_same all k (Some s) None c.requires.unused.last) in
+    let here = stored_taken (stored_of c.args.store.now) (stored_of c.take.new.self) (c.args.at.0 / 2) f.kind f.odd f.words c.take.ensures.stored c.requires.unused.last in
     let is = laid_is f c.requires.plain c.requires.fields c.requires.few in
     let ws : List ℕ = take f.words (laid f c.requires.plain c.requires.fields c.requires.few) in
     let size : length ws ≡ length t.cells = ap (λ (xs : List ℕ). length xs) is ∙ length-run (new_cell f) f.words ∙ sym t.long in

@@ -1,8 +1,9 @@
-use Rattle.std.proofs.Common.{◌≡◌, ◌≢◌, ◌+◌, List, sym, ap, ◌∙◌, subst, arith}
+use Rattle.std.proofs.Common.{◌≡◌, sym, ap, ◌∙◌, arith}
 use Rattle.st_heap.specs.declared.block.Block.{Block}
-use Rattle.st_heap.specs.Blocks.{none, block, moved, IsClosedBelow, IsAbove}
+use Rattle.st_heap.specs.Blocks.{none, block}
+use Rattle.st_heap.specs.Heaps.{blocks_of}
 use Rattle.st_heap.proofs.Laying.{laid_set, none_fits, held_set, taken_unowned, tied_forget}
-use Rattle.st_heap.proofs.Moving.{closed_moved, above_moved}
+use Rattle.st_heap.proofs.Moving.{read_closed, read_above}
 use Rattle.st_heap.proofs.heap.Heap.close.Goals as goal
 
 pub invariant_of-self : goal.invariant_of-self
@@ -21,21 +22,7 @@ returns-then-block-eq0-clause-tied c =
     tied_forget c.args.t.now c.args.self.now.blocks.items c.args.k c.requires.tied c.requires.within hole
 
 pub returns-clause-closed : goal.returns-clause-closed
-returns-clause-closed c =
-    let self = c.args.self.now in
-    let bs = self.blocks.items in
-    let owned : (block bs c.args.k).owner.0 ≢ 0 = λ z. c.if-block-eq0.false (ap (λ (b : Block). b.owner.0) c.read_block-block.ensures ∙ z) in
-    let down = c.requires.above c.args.k (omega arith) (self.laid.owned c.args.k owned) in
-    let P : List Block → Type 0 = λ new. IsClosedBelow new (c.args.k + 1) (c.args.to + c.read_block-block.result.len) in
-    let Q : Block → Type 0 = λ b. IsClosedBelow (moved bs c.args.k c.args.to) (c.args.k + 1) (c.args.to + b.len) in
-    subst P (sym c.move_block.ensures.blocks) (subst Q (sym c.read_block-block.ensures) (closed_moved self.words bs self.end self.free c.args.k c.args.to self.laid c.requires.within owned down c.requires.closed))
+returns-clause-closed c = read_closed c.args.self.now c.args.k c.args.to c.requires.within c.requires.closed c.requires.above c.read_block-block.result c.read_block-block.ensures c.if-block-eq0.false (blocks_of c.move_block.new.self) c.move_block.ensures.blocks
 
 pub returns-clause-above : goal.returns-clause-above
-returns-clause-above c =
-    let self = c.args.self.now in
-    let bs = self.blocks.items in
-    let owned : (block bs c.args.k).owner.0 ≢ 0 = λ z. c.if-block-eq0.false (ap (λ (b : Block). b.owner.0) c.read_block-block.ensures ∙ z) in
-    let down = c.requires.above c.args.k (omega arith) (self.laid.owned c.args.k owned) in
-    let P : List Block → Type 0 = λ new. IsAbove new (c.args.k + 1) (c.args.to + c.read_block-block.result.len) in
-    let Q : Block → Type 0 = λ b. IsAbove (moved bs c.args.k c.args.to) (c.args.k + 1) (c.args.to + b.len) in
-    subst P (sym c.move_block.ensures.blocks) (subst Q (sym c.read_block-block.ensures) (above_moved self.words bs self.end self.free c.args.k c.args.to self.laid c.requires.within owned down c.requires.closed))
+returns-clause-above c = read_above c.args.self.now c.args.k c.args.to c.requires.within c.requires.closed c.requires.above c.read_block-block.result c.read_block-block.ensures c.if-block-eq0.false (blocks_of c.move_block.new.self) c.move_block.ensures.blocks

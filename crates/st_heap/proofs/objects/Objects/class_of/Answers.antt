@@ -1,7 +1,8 @@
-use Rattle.std.proofs.Common.{◌≡◌, ◌/◌, ◌%◌, sym, ap, ◌∙◌, arith}
+use Rattle.std.proofs.Common.{◌≡◌, ◌/◌, ◌%◌, sym, ap, ◌∙◌}
 use Rattle.st_model.specs.Objects.{Object}
 use Rattle.st_model.specs.Values.{Ref}
 use Rattle.st_heap.proofs.Living.{live_stored, known, even_value}
+use Rattle.st_heap.proofs.Parts.{class_within}
 use Rattle.st_heap.specs.Stores.{stored_of}
 use Rattle.st_heap.proofs.objects.Objects.class_of.Goals as goal
 
@@ -9,9 +10,7 @@ pub word-requires-clause-there : goal.word-requires-clause-there
 word-requires-clause-there c = live_stored (stored_of c.args.self.now.store) c.args.o c.requires
 
 pub word-requires-clause-range : goal.word-requires-clause-range
-word-requires-clause-range c =
-    let k = known (stored_of c.args.self.now.store) c.args.o c.args.self.now.sound c.requires in
-    let f = k.sound.fields in omega (arith, f)
+word-requires-clause-range c = class_within c.args.self.now c.args.o c.requires
 
 pub returns : goal.returns
 returns c =

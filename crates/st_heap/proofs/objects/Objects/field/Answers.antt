@@ -1,42 +1,20 @@
-use Rattle.std.proofs.Common.{◌/◌, Some, length, sym, ap, ◌∙◌, arith}
-use Rattle.st_model.specs.Objects.{Object}
-use Rattle.st_heap.specs.Stored.{stored}
+use Rattle.std.proofs.Common.{Some, sym, ap, ◌∙◌, arith}
 use Rattle.st_model.specs.Values.{value_of}
-use Rattle.std.specs.Prelude.{slice_get}
-use Rattle.st_heap.proofs.Forming.{length-fields}
-use Rattle.st_heap.proofs.Living.{live_stored, known, field_is}
 use Rattle.st_heap.specs.Stores.{stored_of}
+use Rattle.st_heap.proofs.Living.{live_stored}
+use Rattle.st_heap.proofs.Parts.{field_within, field_read}
 use Rattle.st_heap.proofs.objects.Objects.field.Goals as goal
 
 pub overflow_add-at : goal.overflow_add-at
 overflow_add-at c =
-    let s = stored (stored_of c.args.self.now.store) (c.args.o.0 / 2) in
-    let k = known (stored_of c.args.self.now.store) c.args.o c.args.self.now.sound c.requires.live in
-    let long = ap (λ (o : Object). length o.fields) k.is ∙ length-fields s in
-    let range = c.requires.range in
-    let f = k.sound.fields in
-    let small = k.sound.small in
-    record { fits = omega (arith, long, range, f, small) }
+    let small = (field_within c.args.self.now c.args.o c.requires.live c.args.at c.requires.range).1 in
+    record { fits = omega (arith, small) }
 
 pub word-requires-clause-there : goal.word-requires-clause-there
 word-requires-clause-there c = live_stored (stored_of c.args.self.now.store) c.args.o c.requires.live
 
 pub word-requires-clause-range : goal.word-requires-clause-range
-word-requires-clause-range c =
-    let s = stored (stored_of c.args.self.now.store) (c.args.o.0 / 2) in
-    let k = known (stored_of c.args.self.now.store) c.args.o c.args.self.now.sound c.requires.live in
-    let long = ap (λ (o : Object). length o.fields) k.is ∙ length-fields s in
-    let range = c.requires.range in
-    let f = k.sound.fields in
-    let small = k.sound.small in
-    omega (arith, long, range, f)
+word-requires-clause-range c = (field_within c.args.self.now c.args.o c.requires.live c.args.at c.requires.range).0
 
 pub returns : goal.returns
-returns c =
-    let s = stored (stored_of c.args.self.now.store) (c.args.o.0 / 2) in
-    let k = known (stored_of c.args.self.now.store) c.args.o c.args.self.now.sound c.requires.live in
-    let long = ap (λ (o : Object). length o.fields) k.is ∙ length-fields s in
-    let range = c.requires.range in
-    let f = k.sound.fields in
-    let small = k.sound.small in
-    ap (λ (o : Object). slice_get o.fields c.args.at) k.is ∙ field_is s c.args.at (omega (arith, long, range)) ∙ ap (λ w. Some (value_of w)) (sym c.word.ensures)
+returns c = field_read c.args.self.now c.args.o c.requires.live c.args.at c.requires.range ∙ ap (λ w. Some (value_of w)) (sym c.word.ensures)

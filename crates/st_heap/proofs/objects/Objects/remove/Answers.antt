@@ -1,9 +1,10 @@
-use Rattle.std.proofs.Common.{◌/◌, List, Option, None, sym, ap, ◌∙◌, subst, arith}
+use Rattle.std.proofs.Common.{◌/◌, List, Option, None, sym, ap, ◌∙◌, subst}
 use Rattle.st_heap.specs.Stored.{Stored}
 use Rattle.st_heap.specs.Forms.{AllSound}
 use Rattle.st_heap.specs.Forms.{objects_in}
-use Rattle.st_heap.proofs.Living.{live_stored, known}
+use Rattle.st_heap.proofs.Living.{live_stored}
 use Rattle.st_heap.proofs.Changing.{sound_without, set_objects}
+use Rattle.st_heap.proofs.Parts.{size_within, size_word}
 use Rattle.st_heap.specs.Stores.{stored_of}
 use Rattle.st_heap.proofs.objects.Objects.remove.Goals as goal
 
@@ -11,17 +12,13 @@ pub word-requires-clause-there : goal.word-requires-clause-there
 word-requires-clause-there c = live_stored (stored_of c.args.self.now.store) c.args.o c.requires
 
 pub word-requires-clause-range : goal.word-requires-clause-range
-word-requires-clause-range c =
-    let k = known (stored_of c.args.self.now.store) c.args.o c.args.self.now.sound c.requires in
-    let f = k.sound.fields in omega (arith, f)
+word-requires-clause-range c = size_within c.args.self.now c.args.o c.requires
 
 pub free-requires-clause-there : goal.free-requires-clause-there
 free-requires-clause-there c = live_stored (stored_of c.args.self.now.store) c.args.o c.requires
 
 pub free-requires-clause-size : goal.free-requires-clause-size
-free-requires-clause-size c =
-    let k = known (stored_of c.args.self.now.store) c.args.o c.args.self.now.sound c.requires in
-    c.from-words.ensures ∙ c.word.ensures ∙ k.sound.size
+free-requires-clause-size c = c.from-words.ensures ∙ c.word.ensures ∙ size_word c.args.self.now c.args.o c.requires
 
 pub invariant_of-self : goal.invariant_of-self
 invariant_of-self c =

@@ -1,53 +1,15 @@
-use Rattle.std.proofs.Common.{◌+◌, ◌/◌, ◌≤◌, length, take, drop, sym, ap, ◌∙◌, arith}
-use Rattle.st_heap.specs.Blocks.{block_at}
-use Rattle.st_heap.specs.Heaps.{words_of, blocks_of}
-use Rattle.st_heap.specs.Stored.{Stored}
-use Rattle.st_heap.proofs.Storing.{stored_entry, length_entry}
-use Rattle.st_heap.proofs.Stretches.{holds_run, run_within, run_read}
-use Rattle.st_heap.proofs.Tying.{tied_of}
+use Rattle.std.proofs.Common.{◌/◌, length, ap, ◌∙◌, arith}
+use Rattle.st_heap.specs.Places.{place_in}
+use Rattle.st_heap.proofs.Standing.{range_held, range_small, range_read}
 use Rattle.st_heap.proofs.store.Store.read.Goals as goal
 
 pub overflow_add-at : goal.overflow_add-at
 overflow_add-at c =
-    let s = c.args.self.now in
-    let ws = words_of s.heap in
-    let bs = blocks_of s.heap in
-    let k = c.args.o.0 / 2 in
-    let e = c.entry-at.result in
-    let is = c.entry-at.ensures in
-    let tied = tied_of s.table bs s.tied in
-    let r = c.requires.range in
-    let long = length_entry ws bs s.table k e is in
-    let below : c.args.i + length c.args.into.now ≤ (block_at bs e.at).len = omega (arith, r, long) in
-    let within = run_within bs s.heap.end s.heap.free s.table tied k e is ws s.heap.laid c.args.i (length c.args.into.now) below in
-    let small = s.heap.laid.small in
-    record { fits = omega (arith, within, small) }
+    let small = range_small c.args.self.now (c.args.o.0 / 2) c.entry-at.result.at (ap place_in c.entry-at.ensures) c.args.i (length c.args.into.now) c.requires.range in
+    record { fits = omega (arith, small) }
 
 pub read-requires : goal.read-requires
-read-requires c =
-    let s = c.args.self.now in
-    let ws = words_of s.heap in
-    let bs = blocks_of s.heap in
-    let k = c.args.o.0 / 2 in
-    let e = c.entry-at.result in
-    let is = c.entry-at.ensures in
-    let tied = tied_of s.table bs s.tied in
-    let r = c.requires.range in
-    let long = length_entry ws bs s.table k e is in
-    let below : c.args.i + length c.args.into.now ≤ (block_at bs e.at).len = omega (arith, r, long) in
-    holds_run bs s.heap.end s.heap.free s.table tied k e is c.args.i (length c.args.into.now) below
+read-requires c = range_held c.args.self.now (c.args.o.0 / 2) c.entry-at.result.at (ap place_in c.entry-at.ensures) c.args.i (length c.args.into.now) c.requires.range
 
 pub returns : goal.returns
-returns c =
-    let s = c.args.self.now in
-    let ws = words_of s.heap in
-    let bs = blocks_of s.heap in
-    let k = c.args.o.0 / 2 in
-    let e = c.entry-at.result in
-    let is = c.entry-at.ensures in
-    let tied = tied_of s.table bs s.tied in
-    let r = c.requires.range in
-    let long = length_entry ws bs s.table k e is in
-    let below : c.args.i + length c.args.into.now ≤ (block_at bs e.at).len = omega (arith, r, long) in
-    c.read.ensures ∙ run_read bs s.heap.end s.heap.free s.table tied k e is ws s.heap.laid c.args.i (length c.args.into.now) below
-    ∙ ap (λ (t : Stored). take (length c.args.into.now) (drop c.args.i t.cells)) (sym (stored_entry ws bs s.table k e is))
+returns c = c.read.ensures ∙ range_read c.args.self.now (c.args.o.0 / 2) c.entry-at.result.at (ap place_in c.entry-at.ensures) c.args.i (length c.args.into.now) c.requires.range

@@ -1,14 +1,8 @@
-use Rattle.std.proofs.Common.{◌≡◌, ◌/◌, List, Option, None, length, get_or, sym, ap, ◌∙◌, subst, length-set}
-use Rattle.std.proofs.lemmas.List.{get_or-set_same, get_or-set_other}
-use Rattle.st_table.specs.declared.entry.Entry.{Entry}
+use Rattle.std.proofs.Common.{◌/◌, None, get_or, ◌∙◌}
 use Rattle.st_table.specs.Entries.{with_before}
-use Rattle.st_heap.specs.Blocks.{IsTied}
 use Rattle.st_heap.specs.Heaps.{words_of, blocks_of}
-use Rattle.st_heap.specs.Stored.{stored_all, used_of}
 use Rattle.st_heap.specs.Links.{next_in, before_in}
-use Rattle.st_heap.proofs.Linking.{stored_before, tied_before, before_here, next_beside, set_alike, stored_entered, entered_inside}
-use Rattle.st_heap.proofs.Tying.{tied_of, are_tied}
-use Rattle.st_heap.proofs.Placed.{places_before}
+use Rattle.st_heap.proofs.Linking.{before_relinks, before_here, next_beside, stored_entered, has_entry, relinked_stored, relinked_stays, relinked_here, relinked_other, relinked_beside, relinked_places}
 use Rattle.st_heap.proofs.store.Store.set_before.Goals as goal
 
 pub set_before-requires : goal.set_before-requires
@@ -17,39 +11,18 @@ set_before-requires c =
 
 pub invariant_of-self : goal.invariant_of-self
 invariant_of-self c =
-    let s = c.args.self.now in
-    let ws = words_of s.heap in
-    let bs = blocks_of s.heap in
-    let k = c.args.o.0 / 2 in
-    let is = c.set_before.ensures in
-    let there = stored_entered ws bs s.table k c.requires in
-    let now : stored_all ws bs c.set_before.new.self ≡ stored_all ws bs s.table = ap (λ (es : List (Option Entry)). stored_all ws bs es) is ∙ stored_before ws bs s.table k c.args.before in
-    record {
-      tied = are_tied c.set_before.new.self bs (subst (λ (es : List (Option Entry)). IsTied es bs) (sym is) (tied_before s.table bs k c.args.before (tied_of s.table bs s.tied) there));
-      places = ap (λ (es : List (Option Entry)). length es) is ∙ length-set s.table k (with_before (get_or s.table k None) c.args.before) ∙ s.places;
-      counted = s.counted ∙ sym (ap used_of now);
-      held = s.held;
-    }
+    let stays = relinked_stays (λ x. with_before x c.args.before) (before_relinks c.args.before) c.args.self.now (c.args.o.0 / 2) c.set_before.new.self c.set_before.ensures c.requires in
+    record { tied = stays.tied; places = stays.places; counted = stays.counted; held = c.args.self.now.held }
 
 pub returns-clause-stored : goal.returns-clause-stored
-returns-clause-stored c =
-    let s = c.args.self.now in
-    let ws = words_of s.heap in
-    let bs = blocks_of s.heap in
-    ap (λ (es : List (Option Entry)). stored_all ws bs es) c.set_before.ensures ∙ stored_before ws bs s.table (c.args.o.0 / 2) c.args.before
+returns-clause-stored c = relinked_stored (λ x. with_before x c.args.before) (before_relinks c.args.before) c.args.self.now (c.args.o.0 / 2) c.set_before.new.self c.set_before.ensures c.requires
 
 pub returns-clause-links : goal.returns-clause-links
-returns-clause-links c =
-    let s = c.args.self.now in
-    let k = c.args.o.0 / 2 in
-    let is = c.set_before.ensures in
-    let x = with_before (get_or s.table k None) c.args.before in
-    let there = stored_entered (words_of s.heap) (blocks_of s.heap) s.table k c.requires in
-    record {
-      here = ap (λ (es : List (Option Entry)). before_in (get_or es k None)) is ∙ ap before_in (get_or-set_same s.table k x None (entered_inside s.table k there)) ∙ before_here (get_or s.table k None) c.args.before there;
-      others = λ j ne. ap (λ (es : List (Option Entry)). before_in (get_or es j None)) is ∙ ap before_in (get_or-set_other s.table k j x None ne);
-      next = λ j. ap (λ (es : List (Option Entry)). next_in (get_or es j None)) is ∙ set_alike next_in s.table k x (next_beside (get_or s.table k None) c.args.before) j;
-    }
+returns-clause-links c = record {
+  here = relinked_here (λ x. with_before x c.args.before) (before_relinks c.args.before) c.args.self.now (c.args.o.0 / 2) c.set_before.new.self c.set_before.ensures c.requires before_in ∙ before_here (get_or c.args.self.now.table (c.args.o.0 / 2) None) c.args.before (has_entry (λ x. with_before x c.args.before) (before_relinks c.args.before) c.args.self.now (c.args.o.0 / 2) c.set_before.new.self c.set_before.ensures c.requires);
+  others = relinked_other (λ x. with_before x c.args.before) (before_relinks c.args.before) c.args.self.now (c.args.o.0 / 2) c.set_before.new.self c.set_before.ensures c.requires before_in;
+  next = relinked_beside (λ x. with_before x c.args.before) (before_relinks c.args.before) c.args.self.now (c.args.o.0 / 2) c.set_before.new.self c.set_before.ensures c.requires next_in (λ x. next_beside x c.args.before);
+}
 
 pub returns-clause-places : goal.returns-clause-places
-returns-clause-places c = places_before c.args.self.now.table c.set_before.new.self (c.args.o.0 / 2) c.args.before c.set_before.ensures
+returns-clause-places c = relinked_places (λ x. with_before x c.args.before) (before_relinks c.args.before) c.args.self.now (c.args.o.0 / 2) c.set_before.new.self c.set_before.ensures c.requires

@@ -1,60 +1,21 @@
-use Rattle.std.proofs.Common.{◌/◌, List, Some, set, sym, ap, ◌∙◌, subst, arith, length-set}
-use Rattle.st_heap.specs.declared.block.Block.{Block}
-use Rattle.st_heap.specs.Blocks.{held}
-use Rattle.st_heap.specs.Heaps.{words_of, blocks_of}
-use Rattle.st_heap.specs.Stored.{Stored, stored_at, stored_all, with_cell, used_of, AreTied}
-use Rattle.st_heap.proofs.Storing.{entry_below, within_words, holds_entry, stored_entry, slot_entry, word_set, words_set}
-use Rattle.st_heap.proofs.Totals.{used_kept}
-use Rattle.st_heap.proofs.Tying.{tied_of}
+use Rattle.std.proofs.Common.{◌/◌, ap, arith}
+use Rattle.st_heap.specs.Places.{place_in}
+use Rattle.st_heap.proofs.Standing.{word_held, word_small, word_written, word_stays}
 use Rattle.st_heap.proofs.store.Store.set_word.Goals as goal
 
 pub overflow_add-at : goal.overflow_add-at
 overflow_add-at c =
-    let s = c.args.self.now in
-    let ws = words_of s.heap in
-    let bs = blocks_of s.heap in
-    let k = c.args.o.0 / 2 in
-    let e = c.entry-at.result in
-    let below = entry_below ws bs s.table k e c.args.i c.entry-at.ensures c.requires.range in
-    let within = within_words ws bs s.heap.end s.heap.free s.table s.heap.laid (tied_of s.table bs s.tied) k e c.args.i c.entry-at.ensures below in
-    let small = s.heap.laid.small in
-    record { fits = omega (arith, within, small) }
+    let small = word_small c.args.self.now (c.args.o.0 / 2) c.entry-at.result.at (ap place_in c.entry-at.ensures) c.args.i c.requires.range in
+    record { fits = omega (arith, small) }
 
 pub set_word-requires : goal.set_word-requires
-set_word-requires c =
-    let s = c.args.self.now in
-    let ws = words_of s.heap in
-    let bs = blocks_of s.heap in
-    let k = c.args.o.0 / 2 in
-    let e = c.entry-at.result in
-    let below = entry_below ws bs s.table k e c.args.i c.entry-at.ensures c.requires.range in
-    holds_entry ws bs s.heap.end s.heap.free s.table s.heap.laid (tied_of s.table bs s.tied) k e c.args.i c.entry-at.ensures below
+set_word-requires c = word_held c.args.self.now (c.args.o.0 / 2) c.entry-at.result.at (ap place_in c.entry-at.ensures) c.args.i c.requires.range
 
 pub invariant_of-self : goal.invariant_of-self
 invariant_of-self c =
     let s = c.args.self.now in
-    let ws = words_of s.heap in
-    let bs = blocks_of s.heap in
-    let k = c.args.o.0 / 2 in
-    let e = c.entry-at.result in
-    let is = c.entry-at.ensures in
-    let below = entry_below ws bs s.table k e c.args.i is c.requires.range in
-    let now = words_set s.heap c.set_word.new.self s.table e c.args.i c.args.w c.set_word.ensures.words c.set_word.ensures.blocks ∙ word_set ws bs s.heap.end s.heap.free s.table s.heap.laid (tied_of s.table bs s.tied) k e c.args.i c.args.w is below in
-    record {
-      tied = subst (λ (b : List Block). AreTied s.table b) (sym c.set_word.ensures.blocks) s.tied;
-      places = s.places;
-      counted = s.counted ∙ sym (ap used_of now ∙ used_kept (stored_all ws bs s.table) k (stored_at ws bs e) (with_cell (stored_at ws bs e) c.args.i c.args.w) (slot_entry ws bs s.table k e is) (length-set (stored_at ws bs e).cells c.args.i c.args.w));
-      held = ap held c.set_word.ensures.blocks ∙ s.held;
-    }
+    let stays = word_stays s (c.args.o.0 / 2) c.entry-at.result.at (ap place_in c.entry-at.ensures) c.set_word.new.self c.args.i c.args.w c.requires.range c.set_word.ensures.words c.set_word.ensures.blocks in
+    record { tied = stays.tied; places = s.places; counted = stays.counted; held = stays.held }
 
 pub returns-clause-stored : goal.returns-clause-stored
-returns-clause-stored c =
-    let s = c.args.self.now in
-    let ws = words_of s.heap in
-    let bs = blocks_of s.heap in
-    let k = c.args.o.0 / 2 in
-    let e = c.entry-at.result in
-    let is = c.entry-at.ensures in
-    let below = entry_below ws bs s.table k e c.args.i is c.requires.range in
-    words_set s.heap c.set_word.new.self s.table e c.args.i c.args.w c.set_word.ensures.words c.set_word.ensures.blocks ∙ word_set ws bs s.heap.end s.heap.free s.table s.heap.laid (tied_of s.table bs s.tied) k e c.args.i c.args.w is below
-    ∙ ap (λ (t : Stored). set (stored_all ws bs s.table) k (Some (with_cell t c.args.i c.args.w))) (sym (stored_entry ws bs s.table k e is))
+returns-clause-stored c = word_written c.args.self.now (c.args.o.0 / 2) c.entry-at.result.at (ap place_in c.entry-at.ensures) c.set_word.new.self c.args.i c.args.w c.requires.range c.set_word.ensures.words c.set_word.ensures.blocks

@@ -1,11 +1,12 @@
-use Rattle.std.proofs.Common.{◌≢◌, ◌/◌, ◌<◌, length, refl, ap, ◌∙◌, arith}
+use Rattle.std.proofs.Common.{◌/◌, ◌<◌, length, refl, ap, ◌∙◌, arith}
 use Rattle.st_model.specs.Objects.{words_of}
 use Rattle.st_model.specs.Formed.{fresh}
 use Rattle.st_model.specs.Table.{total_used}
 use Rattle.st_model.specs.Values.{value}
-use Rattle.st_model.proofs.FormedLemmas.{formed_fresh, fresh_parts}
-use Rattle.st_model.proofs.Pointers.{value_of-even, even_word}
-use Rattle.st_model.proofs.LoadingLemmas.{loading_placed, total_used-with_object}
+use Rattle.st_model.proofs.FormedLemmas.{fresh_parts}
+use Rattle.st_model.proofs.Pointers.{value_of-even}
+use Rattle.st_model.proofs.LoadingLemmas.{total_used-with_object}
+use Rattle.st_counted.proofs.Units.{loading_fresh}
 use Rattle.st_plain.specs.ListsPlain.{objects_of, extent_of}
 use Rattle.st_plain.specs.Plain.{plain_view}
 use Rattle.st_plain.proofs.Fresh.{pointer_within}
@@ -17,20 +18,15 @@ invariant_of-self c =
     let l = c.args.self.now in
     let now = c.place.new.self in
     let v = plain_view l.contents in
-    let w = plain_view (record l.contents { objects = now }) in
     let e = c.place.ensures in
     let r = c.requires in
     let class = c.args.class.0 / 2 in
     let o = fresh class c.args.kind c.args.size c.args.literals in
-    let x = value c.args.at in
-    let named = value_of-even c.args.at.0 r.even in
-    let even = even_word c.args.at.0 r.even in
-    let not_none : c.args.at.0 / 2 ≢ 0 = λ q. r.borne (omega (arith, q, even)) in
     let small : c.args.at.0 < 65536 = omega arith in
     record {
-      loading = loading_placed v w x (c.args.at.0 / 2) o l.loading named not_none (omega (arith, small)) r.free (formed_fresh class c.args.kind c.args.size c.args.literals r.makeable) r.entries r.words e.objects refl refl;
+      loading = loading_fresh v (plain_view (record l.contents { objects = now })) c.args.at.0 class c.args.kind c.args.size c.args.literals l.loading r.even r.borne small r.free r.makeable r.entries r.words e.objects refl refl;
       room = room_less (extent_of l.contents.objects) (extent_of now) (total_used words_of v.objects) (total_used words_of (objects_of now)) l.contents.head.capacity.words (length o.fields) (length o.units) (words_of o) l.room e.extent
-          (ap (total_used words_of) e.objects ∙ total_used-with_object v.objects x (c.args.at.0 / 2) o named (pointer_within l.contents.objects c.args.at.0 small) r.free)
+          (ap (total_used words_of) e.objects ∙ total_used-with_object v.objects (value c.args.at) (c.args.at.0 / 2) o (value_of-even c.args.at.0 r.even) (pointer_within l.contents.objects c.args.at.0 small) r.free)
           (fresh_parts class c.args.kind c.args.size c.args.literals);
       spare = l.spare;
     }

@@ -1,15 +1,10 @@
-use Rattle.std.proofs.Common.{◌<◌, subst, arith}
+use Rattle.std.proofs.Common.{arith}
 use Rattle.st_model.specs.Values.{value}
-use Rattle.st_model.specs.View.{object_of}
-use Rattle.st_model.proofs.FormedLemmas.{unit_limit-byte}
-use Rattle.st_model.proofs.WholeLemmas.{formed_live}
+use Rattle.st_counted.proofs.Units.{byte_small}
 use Rattle.st_plain.specs.Plain.{plain_view}
 use Rattle.st_plain.proofs.memory.PlainMemoryMemory.byte.Goals as goal
 
 pub overflow_cast-result : goal.overflow_cast-result
 overflow_cast-result c =
-    let v = plain_view c.args.self.now.contents in
-    let o = object_of v.objects (value c.args.o) in
-    let below = (formed_live v c.args.self.now.whole (value c.args.o) c.requires.live).units _ c.unit.result c.unit.ensures in
-    let small : c.unit.result < 256 = subst (λ n. c.unit.result < n) (unit_limit-byte o.kind c.requires.kind) below in
-    omega arith
+    let m = c.args.self.now in
+    let small = byte_small (plain_view m.contents) (value c.args.o) _ c.unit.result m.whole c.requires.live c.requires.kind c.unit.ensures in omega (arith, small)

@@ -1,14 +1,9 @@
 use Rattle.st_model.specs.Values.{value}
-use Rattle.st_model.specs.View.{object_of}
-use Rattle.st_model.proofs.FormedLemmas.{words_range}
-use Rattle.st_model.proofs.WholeLemmas.{formed_live}
 use Rattle.st_plain.specs.Plain.{plain_view}
+use Rattle.st_plain.proofs.Filled.{word_within}
 use Rattle.st_plain.proofs.memory.PlainMemoryMemory.word.Goals as goal
 
 pub unit-requires : goal.unit-requires
 unit-requires c =
-    let v = plain_view c.args.self.now.contents in
-    record {
-      live = c.requires.live;
-      range = words_range (object_of v.objects (value c.args.o)) c.args.at (formed_live v c.args.self.now.whole (value c.args.o) c.requires.live) c.requires.kind c.requires.range;
-    }
+    let m = c.args.self.now in
+    let r = c.requires in record { live = r.live; range = word_within (plain_view m.contents) (value c.args.o) c.args.at m.whole r.live r.kind r.range }
