@@ -7,7 +7,8 @@ use Rattle.st_model.specs.Calls.{Does}
 use Rattle.st_model.specs.View.{View}
 use Rattle.st_frames.specs.Shown.{shown}
 use Rattle.st_frames.proofs.Stored.{loaded}
-use Rattle.st_step.proofs.Stepped.{done_after, ready_after, there_after}
+use Rattle.st_control.proofs.Framed.{ready_after}
+use Rattle.st_step.proofs.Stepped.{done_after, there_after}
 use Rattle.st_step.proofs.stepping.try_step.Goals as goal
 
 pub returns-in_err-end-clause-step : goal.returns-in_err-end-clause-step
