@@ -1,6 +1,6 @@
 -- A row over a memory and its registers: what it begins with, and what it leaves.
-use Rattle.std.proofs.Common.{◌≡◌, ◌<◌, ℕ, true, Ok, Err, refl, sym, ap, subst, ◌∙◌}
-use Rattle.std.specs.Prelude.{if◌then◌else◌, ◌/◌, ◌%◌, ◌==◌, ◌&&◌, Result, ◌+◌, length}
+use Rattle.std.proofs.Common.{◌≡◌, true, Ok, Err, refl, sym, ap, subst, ◌∙◌}
+use Rattle.std.specs.Prelude.{Result, ◌+◌, length}
 use Rattle.st_model.specs.declared.dead.Dead.{Dead}
 use Rattle.st_model.specs.declared.demand.Demand.{Demand}
 use Rattle.st_model.specs.declared.deed.Deed.{Deed}
@@ -10,7 +10,7 @@ use Rattle.st_model.specs.declared.word.Word.{Word}
 use Rattle.st_model.specs.Values.{word, IsLive}
 use Rattle.st_model.specs.Objects.{one, words_of}
 use Rattle.st_model.specs.Outcomes.{Outcome, end_of}
-use Rattle.st_model.specs.Machine.{World, Head, State, Transition, Died, Went, is_there, used}
+use Rattle.st_model.specs.Machine.{World, Head, State, Step, Transition, Died, Went, is_there, used}
 use Rattle.st_model.specs.Births.{Births, births}
 use Rattle.st_model.specs.Steps.{are_there}
 use Rattle.st_model.specs.Table.{Table, table, apart, bounded_table, total_used}
@@ -31,8 +31,14 @@ use Rattle.st_frames.specs.Narrow.{IsNarrow}
 use Rattle.st_frames.specs.Rows.{row_state, registers_in, with_left}
 use Rattle.st_frames.specs.Shown.{shown, registers_of, IsReady}
 use Rattle.st_frames.proofs.Closed.{is_closed}
+use Rattle.st_frames.proofs.Stored.{loaded}
 use Rattle.st_step.specs.Planned.{PlansOver, Plans, PlansBirths, plus}
 use Rattle.st_frames.proofs.There.{word_there, all_four}
+
+-- a row that begins with what a memory shows
+pub from_row : {A : Type 0} (m : Step Table A) (v : View) (f : Frame) (w : World) (r : Words) (x : Transition (State Table) A) → registers_in r ≡ registers_of f → r.world.now ≡ w
+    → m.run (row_state v.objects v.head r) ≡ x → m.run (shown v f w) ≡ x
+from_row m v f w r x same world does = ap (λ (s : State Table). m.run s) (sym (loaded v f w r same world)) ∙ does
 
 -- what a plan says
 
