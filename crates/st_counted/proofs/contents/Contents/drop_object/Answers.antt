@@ -41,19 +41,18 @@ class_of-class-requires c =
     ∙ ap (is_live v.objects) (place_value c.pointer_of-o.result.0 c.args.k c.pointer_of-o.ensures)
     ∙ unused_live v.objects (references v.objects (all_roots v) []) (numbers_of c.args.self.now) c.args.k c.requires.counted.tallied c.requires.unused
 
-pub lower-requires-clause-counted : goal.lower-requires-clause-counted
-lower-requires-clause-counted c small =
+pub lower-requires : goal.lower-requires
+lower-requires c =
     let m = c.args.self.now in
     let t = objects_of m.objects in
-    hand_counted (slice_set t c.args.k None) (all_roots (counted_view m)) (object_of t (value c.pointer_of-o.result)).fields (counts_of c.leave.new.self) c.class_of-class.result.0
-    (in_hand m c.leave.new.objects (counts_of c.leave.new.self) c.args.k c.pointer_of-o.result c.class_of-class.result c.requires.counted c.requires.unused c.requires.place c.pointer_of-o.ensures c.class_of-class.ensures c.leave.ensures.objects c.leave.ensures.counts) small
-
-pub lower-requires-clause-some : goal.lower-requires-clause-some
-lower-requires-clause-some c small =
-    let m = c.args.self.now in
-    let t = objects_of m.objects in
-    hand_some (slice_set t c.args.k None) (all_roots (counted_view m)) (object_of t (value c.pointer_of-o.result)).fields (counts_of c.leave.new.self) c.class_of-class.result.0
-    (in_hand m c.leave.new.objects (counts_of c.leave.new.self) c.args.k c.pointer_of-o.result c.class_of-class.result c.requires.counted c.requires.unused c.requires.place c.pointer_of-o.ensures c.class_of-class.ensures c.leave.ensures.objects c.leave.ensures.counts) small
+    let rest = slice_set t c.args.k None in
+    let fields = (object_of t (value c.pointer_of-o.result)).fields in
+    let hand = in_hand m c.leave.new.objects (counts_of c.leave.new.self) c.args.k c.pointer_of-o.result c.class_of-class.result c.requires.counted c.requires.unused c.requires.place c.pointer_of-o.ensures c.class_of-class.ensures c.leave.ensures.objects c.leave.ensures.counts in
+    record {
+      counted = hand_counted rest (all_roots (counted_view m)) fields (counts_of c.leave.new.self) c.class_of-class.result.0 hand;
+      some = hand_some rest (all_roots (counted_view m)) fields (counts_of c.leave.new.self) c.class_of-class.result.0 hand;
+      listed = c.leave.ensures.listed;
+    }
 
 pub lower_fields-requires-clause-live : goal.lower_fields-requires-clause-live
 lower_fields-requires-clause-live c =

@@ -23,19 +23,18 @@ pub raise-requires-clause-room : goal.raise-requires-clause-room
 raise-requires-clause-room c =
     let a = counted_few (counted_view c.args.self.now) [] (numbers_of c.args.self.now) (c.args.v.0 / 2) c.requires.whole c.requires.counted in omega (arith, a)
 
-pub lower-requires-clause-counted : goal.lower-requires-clause-counted
-lower-requires-clause-counted c small =
+pub lower-requires : goal.lower-requires
+lower-requires c =
     let v = counted_view c.args.self.now in
-    hand_counted (objects_of c.set_placed_field.new.self) (all_roots v) [] (counts_of c.raise.new.counts) c.placed_field-old.result.0
-    (stored v (numbers_of c.args.self.now) (counts_of c.raise.new.counts) (objects_of c.set_placed_field.new.self) (value c.args.o) c.args.at (value c.args.v) (value c.placed_field-old.result)
-    c.requires.counted c.requires.known c.requires.live c.placed_field-old.ensures c.raise.ensures.counts c.set_placed_field.ensures.objects) small
-
-pub lower-requires-clause-some : goal.lower-requires-clause-some
-lower-requires-clause-some c small =
-    let v = counted_view c.args.self.now in
-    hand_some (objects_of c.set_placed_field.new.self) (all_roots v) [] (counts_of c.raise.new.counts) c.placed_field-old.result.0
-    (stored v (numbers_of c.args.self.now) (counts_of c.raise.new.counts) (objects_of c.set_placed_field.new.self) (value c.args.o) c.args.at (value c.args.v) (value c.placed_field-old.result)
-    c.requires.counted c.requires.known c.requires.live c.placed_field-old.ensures c.raise.ensures.counts c.set_placed_field.ensures.objects) small
+    let now = objects_of c.set_placed_field.new.self in
+    let cs1 = counts_of c.raise.new.counts in
+    let hand = stored v (numbers_of c.args.self.now) cs1 now (value c.args.o) c.args.at (value c.args.v) (value c.placed_field-old.result)
+    c.requires.counted c.requires.known c.requires.live c.placed_field-old.ensures c.raise.ensures.counts c.set_placed_field.ensures.objects in
+    record {
+      counted = hand_counted now (all_roots v) [] cs1 c.placed_field-old.result.0 hand;
+      some = hand_some now (all_roots v) [] cs1 c.placed_field-old.result.0 hand;
+      listed = c.raise.ensures.listed;
+    }
 
 pub returns-clause-counted : goal.returns-clause-counted
 returns-clause-counted c =
@@ -63,33 +62,26 @@ returns-clause-places c = λ k. c.lower.ensures.places k ∙ c.raise.ensures.pla
 pub names_unused-requires : goal.names_unused-requires
 names_unused-requires c small = name_counted c.args.self.now c.args.v c.requires.counted c.requires.known small
 
-pub count_store-requires-clause-counted : goal.count_store-requires-clause-counted
-count_store-requires-clause-counted c small = name_counted c.args.self.now c.args.v c.requires.counted c.requires.known small
-
-pub count_store-requires-clause-room : goal.count_store-requires-clause-room
-count_store-requires-clause-room c =
-    let a = counted_few (counted_view c.args.self.now) [] (numbers_of c.args.self.now) (c.args.v.0 / 2) c.requires.whole c.requires.counted in omega (arith, a)
-
-pub count_store-requires-clause-listed : goal.count_store-requires-clause-listed
-count_store-requires-clause-listed c =
-    let e = c.set_placed_field.ensures in stored_listed c.args.self.now.objects c.set_placed_field.new.self c.args.self.now.counts (value c.args.o) c.args.at (value c.args.v) c.requires.listed e.links e.objects
-
 -- what the field held is in hand once the new value is counted
 old_in_hand : (m : Contents) (now : Objects) (o y old : Oop) (i : ℕ) → AllCounted m → IsKnown (objects_of m.objects) (value y) → is_live (objects_of m.objects) (value o) ≡ true → slice_get (object_of (objects_of m.objects) (value o)).fields i ≡ Some (value old)
     → objects_of now ≡ with_stored (objects_of m.objects) (value o) i (value y) → IsCounted (objects_of now) (all_roots (counted_view m)) (value old ∷ []) (raised_by (numbers_of m) (value y) 1)
 old_in_hand m now o y old i h known live there is = stored (counted_view m) (numbers_of m) (raised_by (numbers_of m) (value y) 1) (objects_of now) (value o) i (value y) (value old) h known live there refl is
 
-pub count_store-requires-clause-stood : goal.count_store-requires-clause-stood
-count_store-requires-clause-stood c small =
+pub count_store-requires : goal.count_store-requires
+count_store-requires c =
     let m = c.args.self.now in
     let now = c.set_placed_field.new.self in
-    hand_counted (objects_of now) (all_roots (counted_view m)) [] (raised_by (numbers_of m) (value c.args.v) 1) c.placed_field-old.result.0 (old_in_hand m now c.args.o c.args.v c.placed_field-old.result c.args.at c.requires.counted c.requires.known c.requires.live c.placed_field-old.ensures c.set_placed_field.ensures.objects) small
-
-pub count_store-requires-clause-some : goal.count_store-requires-clause-some
-count_store-requires-clause-some c small =
-    let m = c.args.self.now in
-    let now = c.set_placed_field.new.self in
-    hand_some (objects_of now) (all_roots (counted_view m)) [] (raised_by (numbers_of m) (value c.args.v) 1) c.placed_field-old.result.0 (old_in_hand m now c.args.o c.args.v c.placed_field-old.result c.args.at c.requires.counted c.requires.known c.requires.live c.placed_field-old.ensures c.set_placed_field.ensures.objects) small
+    let e = c.set_placed_field.ensures in
+    let few = counted_few (counted_view m) [] (numbers_of m) (c.args.v.0 / 2) c.requires.whole c.requires.counted in
+    let more = raised_by (numbers_of m) (value c.args.v) 1 in
+    let hand = old_in_hand m now c.args.o c.args.v c.placed_field-old.result c.args.at c.requires.counted c.requires.known c.requires.live c.placed_field-old.ensures e.objects in
+    record {
+      counted = name_counted m c.args.v c.requires.counted c.requires.known;
+      room = omega (arith, few);
+      listed = stored_listed m.objects now m.counts (value c.args.o) c.args.at (value c.args.v) c.requires.listed e.links e.objects;
+      stood = hand_counted (objects_of now) (all_roots (counted_view m)) [] more c.placed_field-old.result.0 hand;
+      some = hand_some (objects_of now) (all_roots (counted_view m)) [] more c.placed_field-old.result.0 hand;
+    }
 
 pub returns-then-names_unused-clause-counted : goal.returns-then-names_unused-clause-counted
 returns-then-names_unused-clause-counted c =
