@@ -7,6 +7,24 @@ ghost use Rattle.st_model.specs.Storage.{body_words, method_words};
 
 use st_model::{Kind, Word};
 
+/// An object, and the index of one of its elements.
+#[derive(Clone, Copy)]
+pub struct Indexed {
+    /// The object.
+    pub object: Word,
+    /// The index.
+    pub index: Word,
+}
+
+/// A value, and where it is put.
+#[derive(Clone, Copy)]
+pub struct Put {
+    /// Where it is put.
+    pub indexed: Indexed,
+    /// The value.
+    pub value: Word,
+}
+
 /// What a value is as an element of an object.
 #[derive(Clone, Copy)]
 pub struct Element {
