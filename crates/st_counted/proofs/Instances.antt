@@ -51,6 +51,11 @@ same_word w u n p q =
     halves : {x y z : ℕ} → Ref x ≡ Ref z → Ref y ≡ Ref z → x ≡ y
     halves e f = cc
 
+-- none of the class is above `start` up to `after`
+pub record HasNone (t : Table) (class : Value) (start after : ℕ) : Type 0 where
+  pub on : start ≤ after
+  pub none : (q : Oop) → start < q.0 → q.0 ≤ after → is_instance t class (value q) ≡ false
+
 -- of a live object that follows the last one that was looked at, and of what is below it
 module _ (t : Table) (class : Value) (start after : ℕ) (before : (q : Oop) → start < q.0 → q.0 ≤ after → is_instance t class (value q) ≡ false) where
   -- none is below it

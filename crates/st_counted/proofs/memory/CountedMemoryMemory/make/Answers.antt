@@ -1,5 +1,4 @@
 use Rattle.std.proofs.Common.{ap, ◌/◌}
-use Rattle.st_model.specs.Values.{value}
 use Rattle.st_model.specs.View.{head_of}
 use Rattle.st_model.proofs.Making.{whole_made}
 use Rattle.st_counted.specs.declared.contents.Head.{Head}
