@@ -5,9 +5,7 @@ use Rattle.st_table.proofs.Search.{marked_same, marked_other, read_any}
 use Rattle.st_table.proofs.free_map.set_bit.Goals as goal
 
 pub returns-clause-set : goal.returns-clause-set
-returns-clause-set c =
-    let ws = c.args.words.now.items in let k = c.args.k in let within = c.requires in
-    marked_same ws k _ _ (omega (arith, within)) (bit_at_set_same w64 c.index_mut.result.now (k % 64) (omega arith))
+returns-clause-set c = marked_same c.args.words.now.items c.args.k _ _ (omega (arith, c.requires)) (bit_at_set_same w64 c.index_mut.result.now (c.args.k % 64) (omega arith))
 
 pub returns-clause-others : goal.returns-clause-others
 returns-clause-others c i ne =

@@ -85,8 +85,8 @@ loop-i-preserved c =
                 (subst (λ (l : Contents). IsCounted t (all_roots v) (replicate c.loop-i.nils nil ++ left) (numbers_of l)) (sym w.self-is) less);
             few = omega (arith, w.nils-is, i.few);
             listed = subst (λ (l : Contents). IsListed l.objects l.counts) (sym w.self-is) w.lower.ensures.listed;
-            rest = subst (λ (l : Contents). SameButLinks m l) (sym w.self-is) (record { objects = w.lower.ensures.objects ∙ i.rest.objects; room = w.lower.ensures.room ∙ i.rest.room; roots = i.rest.roots; head = i.rest.head });
-            places = subst (λ (l : Contents). SamePlaces m.objects.store l.objects.store) (sym w.self-is) (λ k. w.lower.ensures.places k ∙ i.places k);
+            rest = subst (λ (l : Contents). SameButLinks m l) (sym w.self-is) (record { objects = w.lower.ensures.rest.objects ∙ i.rest.objects; room = w.lower.ensures.rest.room ∙ i.rest.room; roots = i.rest.roots; head = i.rest.head });
+            places = subst (λ (l : Contents). SamePlaces m.objects.store l.objects.store) (sym w.self-is) (λ k. w.lower.ensures.rest.places k ∙ i.places k);
           }
     ]
 
@@ -121,7 +121,7 @@ returns-then-nils-gt0-clause-counted c =
     let e = c.lower-then-nils-gt0.ensures in
     let cs = counts_of c.lower-then-nils-gt0.new.self in
     moved m (record c.loop-i.self { objects = c.lower-then-nils-gt0.new.objects }) (place c.args.o) [] cs
-    (record { objects = e.objects ∙ i.rest.objects; room = e.room ∙ i.rest.room; roots = i.rest.roots; head = i.rest.head })
+    (record { objects = e.rest.objects ∙ i.rest.objects; room = e.rest.room ∙ i.rest.room; roots = i.rest.roots; head = i.rest.head })
     (subst (λ ns. IsCounted t (all_roots v) [] ns) (sym e.counts)
     (without_nils t (all_roots v) (numbers_of c.loop-i.self) c.loop-i.nils (omega (arith, some)) (all_met t (all_roots v) _ c.loop-i.nils c.loop-i.i fields (omega (arith, count)) i.counted)))
 
@@ -129,7 +129,7 @@ pub returns-then-nils-gt0-clause-rest : goal.returns-then-nils-gt0-clause-rest
 returns-then-nils-gt0-clause-rest c =
     let i = c.loop-i.invariant in
     let e = c.lower-then-nils-gt0.ensures in
-    record { objects = e.objects ∙ i.rest.objects; room = e.room ∙ i.rest.room; roots = i.rest.roots; head = i.rest.head }
+    record { objects = e.rest.objects ∙ i.rest.objects; room = e.rest.room ∙ i.rest.room; roots = i.rest.roots; head = i.rest.head }
 
 pub returns-else-nils-gt0-clause-counted : goal.returns-else-nils-gt0-clause-counted
 returns-else-nils-gt0-clause-counted c =
@@ -145,4 +145,4 @@ returns-else-nils-gt0-clause-counted c =
     (all_met t (all_roots v) _ c.loop-i.nils c.loop-i.i fields (omega (arith, count)) i.counted))
 
 pub returns-then-nils-gt0-clause-places : goal.returns-then-nils-gt0-clause-places
-returns-then-nils-gt0-clause-places c = λ k. c.lower-then-nils-gt0.ensures.places k ∙ c.loop-i.invariant.places k
+returns-then-nils-gt0-clause-places c = λ k. c.lower-then-nils-gt0.ensures.rest.places k ∙ c.loop-i.invariant.places k
