@@ -224,7 +224,7 @@ fn method_shape<O: Objects>(
     ensures does { RowReads O.Objects.own
         (method_shape O.names (word class) (word count) (word header))
         method_shape_in m.now r.now result }
-    ensures class { IfOk result (λ s. word class ≡ Ref (place_of MethodClass)) }
+    ensures class { IfOk result (λ s. s.class ≡ class) }
 {
     let methods = page(m, PageObject::MethodClass);
     if !class.same(methods) {
@@ -235,28 +235,26 @@ fn method_shape<O: Objects>(
     if 65533 < method_words(header % 64, bytes) {
         return Err(Dead::Field);
     }
-    Ok(MethodShape { header, bytes })
+    Ok(MethodShape {
+        class,
+        header,
+        bytes,
+    })
 }
 
 /// A new Method, whose header is left to be stored. Where there is no room for it, nil is no Method of so many literals, or
 /// becomes one with this header.
 #[tactic(auto, using(st_frames::proofs::Doing::rows, st_frames::proofs::Tries::counts, crate::proofs::Makeable::methods), unfolding(st_model::specs::Storage::new_method))]
-fn new_method<O: Objects>(
-    m: &mut O,
-    r: &Registers,
-    class: Word,
-    shape: MethodShape,
-) -> Result<Answer, Dead>
-    requires class { word class ≡ Ref (place_of MethodClass) }
+fn new_method<O: Objects>(m: &mut O, r: &Registers, shape: MethodShape) -> Result<Answer, Dead>
     requires room { 1 ≤ O.room m.old }
-    ensures does { RowLeaves O.Objects.own (new_method O.names (word class) (method_shape_in shape))
+    ensures does { RowLeaves O.Objects.own (new_method O.names (word shape.class) (method_shape_in shape))
         answer_word answer_deed m.old r.now result m.new r.now }
     ensures takes { Takes O.Objects.own 1 m.old m.new }
     ensures plain { IfOk result (λ a. copies_pixels a.deed ≡ false) }
 {
     let literals = shape.header % 64;
     let word = m.make(
-        class,
+        shape.class,
         Kind::Method,
         2 * literals + 2 + shape.bytes,
         literals,
@@ -265,25 +263,6 @@ fn new_method<O: Objects>(
     check_header(m, r, word, header)?;
     let deed = store_method_field(m, r, word, 0, header)?;
     Ok(Answer { word, deed })
-}
-
-/// Answers a new Method.
-#[tactic(auto, using(st_frames::proofs::Doing::rows), unfolding(st_frames::specs::Answering::succeed_by))]
-fn answer_method<O: Objects>(
-    m: &mut O,
-    r: &mut Registers,
-    class: Word,
-    shape: MethodShape,
-) -> Result<Tried, Dead>
-    requires class { word class ≡ Ref (place_of MethodClass) }
-    requires room { 2 ≤ O.room m.old }
-    ensures does { RowLeaves O.Objects.own
-        (succeed_by O.names 2 (new_method O.names (word class) (method_shape_in shape)))
-        is_done deed_of_trial m.old r.old result m.new r.new }
-    ensures takes { Takes O.Objects.own 2 m.old m.new }
-{
-    let answer = new_method(m, r, class, shape)?;
-    succeed_leaving(m, r, 2, answer)
 }
 
 /// Primitive 79: a new Method with the header that the second argument says, and as many bytes as the first.
@@ -298,7 +277,10 @@ pub fn primitive_new_method<O: Objects>(m: &mut O, r: &mut Registers) -> Result<
     let count = under(m, r, 1)?;
     let header = top(m, r)?;
     match method_shape(m, r, receiver, count, header) {
-        Ok(shape) => answer_method(m, r, receiver, shape),
+        Ok(shape) => {
+            let answer = new_method(m, r, shape)?;
+            succeed_leaving(m, r, 2, answer)
+        }
         Err(_) => Ok(Tried::Failed),
     }
 }
