@@ -7,7 +7,7 @@ use Rattle.st_memory.proofs.bytes.copy_from_first.Goals as goal
 pub loop-done-init : goal.loop-done-init
 loop-done-init g c = record {
   few = omega arith;
-  objects = none_laid (g.M.Memory.view c.args.m.now).objects (value c.args.source) c.args.from (value c.args.target) c.args.to c.requires.target.live;
+  objects = none_laid (g.M.Memory.view c.args.m.now).objects (value c.args.source) c.args.from (value c.args.target) c.args.to c.requires.bytes.target.live;
   held = refl;
   head = refl;
 }
@@ -15,7 +15,7 @@ loop-done-init g c = record {
 pub copy_piece-requires : goal.copy_piece-requires
 copy_piece-requires g c =
     let count = c.min-count.ensures in
-    let both = both_have _ _ _ _ c.args.from c.args.to c.args.n _ _ _ c.requires.source c.requires.target c.loop-done.invariant.objects c.loop-done.done c.min-count.result (omega (arith, count, c.loop-done-test.true)) in
+    let both = both_have _ _ _ _ c.args.from c.args.to c.args.n _ _ _ c.requires.bytes.source c.requires.bytes.target c.loop-done.invariant.objects c.loop-done.done c.min-count.result (omega (arith, count, c.loop-done-test.true)) in
     record { source = both.0; target = both.1; few = omega (arith, count) }
 
 pub loop-done-preserved : goal.loop-done-preserved
@@ -28,15 +28,19 @@ loop-done-preserved g c =
     let low : c.loop-done.done + c.min-count.result ≤ c.args.n = omega (arith, count, t) in
     record {
       few = low;
-      objects = first_more old now new (value c.args.source) (value c.args.target) c.args.from c.args.to c.args.n c.loop-done.done c.min-count.result c.requires.source c.requires.target low
+      objects = first_more old now new (value c.args.source) (value c.args.target) c.args.from c.args.to c.args.n c.loop-done.done c.min-count.result c.requires.bytes.source c.requires.bytes.target low
           c.requires.down c.loop-done.invariant.objects c.copy_piece.ensures.objects;
       held = c.copy_piece.ensures.held ∙ c.loop-done.invariant.held;
       head = c.copy_piece.ensures.head ∙ c.loop-done.invariant.head;
     }
 
-pub returns-clause-objects : goal.returns-clause-objects
-returns-clause-objects g c =
+pub returns : goal.returns
+returns g c =
     let l = c.loop-done-test.false in
     let f = c.loop-done.invariant.few in
     let e : c.loop-done.done ≡ c.args.n = omega (arith, l, f) in
-    c.loop-done.invariant.objects ∙ ap (with_bytes_of (g.M.Memory.view c.args.m.now).objects (value c.args.source) c.args.from (value c.args.target) c.args.to) e
+    record {
+      objects = c.loop-done.invariant.objects ∙ ap (with_bytes_of (g.M.Memory.view c.args.m.now).objects (value c.args.source) c.args.from (value c.args.target) c.args.to) e;
+      held = c.loop-done.invariant.held;
+      head = c.loop-done.invariant.head;
+    }
