@@ -3,8 +3,8 @@ use Rattle.std.proofs.Common.{ℕ, Bool, true, false}
 use Rattle.st_model.specs.Values.{Value}
 use Rattle.st_model.specs.Objects.{Object}
 use Rattle.st_model.specs.BitBlt.{fetch_words, fetch_positive, read_form, read_unless, read_form_if_any, fetch_form, fetch_destination, fetch_halftone, fetch_rule, fetch_axis, read_copy, store_painted, paint_and_answer, primitive_copy_bits}
-use Rattle.st_simulation.proofs.Present.{bare, full}
-use Rattle.st_simulation.proofs.PresentSteps.{There, SureAnswer, sures, parts, primitive-sure, positive_small-sure}
+use Rattle.st_simulation.proofs.Present.{bare, full, There, SureAnswer}
+use Rattle.st_simulation.proofs.PresentSteps.{sures, parts, primitive-sure, positive_small-sure}
 
 module _ (o : Object) (lives : ℕ → Type 0) where
   read_form-sure : (n : ℕ) (v : Value) → There o lives n v → SureAnswer o lives n (read_form bare v) (read_form (full o) v)

@@ -133,11 +133,7 @@ run_step n (Went a c) (Went b s) h f = rw h.0 (on_step b h f)
         → ((c' : State Table) (s' : State Births) → Went a c ≡ Went (With outcome.Went) c' → Shows c' s' → EndsShown (run_of foreseen_cycle n c') (run_of (cycle births) n s'))
         → EndsShown (and_on (Went (renamed_ending (pointer_of s.memory) b) c) (λ c'. run_of foreseen_cycle n c')) (and_on (Went b s) (λ s'. run_of (cycle births) n s'))
     on_step (With outcome.Went) h f = f c s (ap (λ x. Went x c) h.0) h.1
-    on_step (With outcome.Snapshot) h f = (refl, h.1, tt)
-    on_step (With outcome.Quit) h f = (refl, h.1, tt)
-    on_step (With outcome.Debugger) h f = (refl, h.1, tt)
-    on_step (With (outcome.Say v)) h f = (refl, h.1, h.2)
-    on_step (Space demand left) h f = (refl, h.1, tt)
+    on_step b h f = (refl, h.1, h.2)
 
 -- what a cycle leaves that was done is sound, as what it began with was
 
@@ -226,11 +222,7 @@ counted_step n (Went a c) (Went b s) h f = rw h.0 (on_step b h f)
         → ((c' : State Table) (s' : State Births) → Went a c ≡ Went (With outcome.Went) c' → Shows c' s' → finished_of foreseen_cycle n c' ≡ finished_of (cycle births) n s')
         → counted (Went (renamed_ending (pointer_of s.memory) b) c) (λ c'. finished_of foreseen_cycle n c') ≡ counted (Went b s) (λ s'. finished_of (cycle births) n s')
     on_step (With outcome.Went) h f = ap (λ x. suc x) (f c s (ap (λ x. Went x c) h.0) h.1)
-    on_step (With outcome.Snapshot) h f = refl
-    on_step (With outcome.Quit) h f = refl
-    on_step (With outcome.Debugger) h f = refl
-    on_step (With (outcome.Say v)) h f = refl
-    on_step (Space demand left) h f = refl
+    on_step b h f = refl
 
 pub finished_shown : (n : ℕ) (c : State Table) (s : State Births) → Shows c s → IsSound c → c.head.entries ≤ 32767 → finished_of foreseen_cycle n c ≡ finished births n s
 unfolding finished_of finished

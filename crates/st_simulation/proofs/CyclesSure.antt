@@ -6,8 +6,8 @@ use Rattle.st_model.specs.Contexts.{scheduled_context, fetch_scheduled_registers
 use Rattle.st_model.specs.Processes.{scheduler, scheduled_process, let_wait, leave_process, enter_process, switch_to_process}
 use Rattle.st_model.specs.Cycles.{signal_if_any, signal_next, signal_newest, switch_unless_nil, switch_if_waiting, check_process_switch}
 use Rattle.st_model.specs.Saving.{store_active, store_process}
-use Rattle.st_simulation.proofs.Present.{bare, full}
-use Rattle.st_simulation.proofs.PresentSteps.{There, ThereIfAny, SureAnswer, sures, parts, switch-sure, store_context_registers-sure, fetch_context_registers-sure}
+use Rattle.st_simulation.proofs.Present.{bare, full, There, ThereIfAny, SureAnswer}
+use Rattle.st_simulation.proofs.PresentSteps.{sures, parts, switch-sure, store_context_registers-sure, fetch_context_registers-sure}
 use Rattle.st_simulation.proofs.ProcessesSure.{signal-sure}
 
 module _ (o : Object) (lives : ℕ → Type 0) where

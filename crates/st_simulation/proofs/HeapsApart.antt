@@ -14,9 +14,9 @@ use Rattle.st_model.proofs.TableLemmas.{shape, tail, coming, to_come, entry_befo
 use Rattle.st_model.proofs.BirthLemmas.{pointer_of-borne, borne_before, object_there, object_within, length-replaced, bearer-replaced, length-born, born-last, born-other, bearer-born, object_past, is_borne-of, borne-bearer}
 use Rattle.std.proofs.lemmas.List.{take_all}
 use Rattle.st_simulation.proofs.Totals.{total_matches, words_of-renamed}
-use Rattle.st_model.proofs.Names.{any_values, any_object, map_all, map_object, same_object, same_registers, same_head, same_world}
+use Rattle.st_model.proofs.Names.{any_values, any_object, map_object, same_object}
 use Rattle.st_simulation.proofs.HeapsSame.{Naming, HeapSame, ObjectsSame, entry_shown, replaced-objects, replaced-same, born-same, next_is_live, borne_by_live, number_cases, order_cases, weight_there, one_renamed}
-use Rattle.st_simulation.proofs.Started.{lives, named, named-kept, named-later, naming, heaps_start}
+use Rattle.st_simulation.proofs.Started.{lives, named, named-kept, named-later, naming, heaps_start, shown_states}
 
 -- the names of the births from the first new one on lie behind all places
 abbrev pub named_apart : Births → Table → ℕ → ℕ
@@ -376,12 +376,4 @@ module _ (c : State Table) (s : State Births) (w : Shows c s) (places : length c
   }
 
   pub states_apart : StateSame apart_simulation s c
-  states_apart = record {
-    memory = apart_start;
-    limits = tt;
-    there = any_values (roots_of s);
-    roots = map_all (IsKept s.memory) (lives s.memory) now_live (roots_of s) w.roots;
-    registers = w.registers ∙ same_registers (IsKept s.memory) (pointer_of s.memory) (named_apart s.memory c.memory) pointer_kept s.registers s.head s.world w.roots;
-    world = w.world ∙ same_world (IsKept s.memory) (pointer_of s.memory) (named_apart s.memory c.memory) pointer_kept s.registers s.head s.world w.roots;
-    head = w.head ∙ same_head (IsKept s.memory) (pointer_of s.memory) (named_apart s.memory c.memory) pointer_kept s.registers s.head s.world w.roots;
-  }
+  states_apart = shown_states c s w apart_simulation apart_start tt (any_values (roots_of s)) now_live pointer_kept

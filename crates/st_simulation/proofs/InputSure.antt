@@ -5,8 +5,8 @@ use Rattle.st_model.specs.Values.{Value, Small, Ref}
 use Rattle.st_model.specs.Objects.{Object}
 use Rattle.st_model.specs.Processes.{check_fields}
 use Rattle.st_model.specs.Input.{mouse_point, always, primitive_mouse_point, Place, place_in, move_mouse, primitive_move_mouse, check_truth, primitive_link_cursor, hold_and_answer, primitive_input_semaphore, primitive_sample_interval, word_that_waits, take_word, primitive_input_word, check_four_bytes, store_time, store_seconds, primitive_second_clock, store_milliseconds, primitive_millisecond_clock, Timing, Rings, can_be_signalled, ring, ring_or_wait, timing, signal_once, set_timer, set_timer_and_answer, primitive_timer, primitive_be_cursor, primitive_be_display, Low, low_space, set_low_space, primitive_low_space, input}
-use Rattle.st_simulation.proofs.Present.{bare, full}
-use Rattle.st_simulation.proofs.PresentSteps.{There, SureValue, SureAnswer, sures, parts, primitive-sure, taking-sure, check_bytes-sure, bits_or_die-sure, positive_small-sure, positive_value-sure, number-sure, new_point-sure}
+use Rattle.st_simulation.proofs.Present.{bare, full, There, SureValue, SureAnswer}
+use Rattle.st_simulation.proofs.PresentSteps.{sures, parts, primitive-sure, taking-sure, check_bytes-sure, bits_or_die-sure, positive_small-sure, positive_value-sure, number-sure, new_point-sure}
 
 module _ (o : Object) (lives : ℕ → Type 0) where
   place_in-sure : (n : ℕ) (a : Value) → There o lives n a → SureAnswer o lives n (place_in bare a) (place_in (full o) a)

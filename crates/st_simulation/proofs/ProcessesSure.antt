@@ -4,8 +4,8 @@ use Rattle.std.specs.Prelude.{ℤ, pos}
 use Rattle.st_model.specs.Values.{Value}
 use Rattle.st_model.specs.Objects.{Object}
 use Rattle.st_model.specs.Processes.{scheduler, scheduled_process, active_or_new, active_process, link_first, add_last, unlink_first, take_first, ready_lists, list_number, sleep, let_wait, resume_over, resume, add_excess, wake_first, signal, go_on_with, highest_goes_on, suspend, check_fields, signal_and_answer, primitive_signal, excess_of, wait_in, take_excess, wait_and_answer, primitive_wait, resume_and_answer, primitive_resume, check_active, suspend_and_answer, primitive_suspend, processes}
-use Rattle.st_simulation.proofs.Present.{bare, full}
-use Rattle.st_simulation.proofs.PresentSteps.{There, SureValue, SureAnswer, sures, parts, primitive-sure, taking-sure}
+use Rattle.st_simulation.proofs.Present.{bare, full, There, SureValue, SureAnswer}
+use Rattle.st_simulation.proofs.PresentSteps.{sures, parts, primitive-sure, taking-sure}
 
 module _ (o : Object) (lives : ℕ → Type 0) where
   active_or_new-sure : (n : ℕ) (p : Value) (b : Bool) → There o lives n p → SureValue o lives n (active_or_new bare p b) (active_or_new (full o) p b)

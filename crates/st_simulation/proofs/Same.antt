@@ -378,50 +378,50 @@ module _ {H K : Type 0} {M : ObjectMemory H} {N : ObjectMemory K} (sim : Simulat
   pub over_object : (a : Object) → IsLiveObject sim.live a
   over_object a = record { class = sim.over_live h a.class o; fields = over_values a.fields }
 
-pub get-renamed : {H K : Type 0} {M : ObjectMemory H} {N : ObjectMemory K} (sim : Simulation M N) (vs : List Value) (i : ℕ) → slice_get (renamed_all sim.name vs) i ≡ renamed_option sim.name (slice_get vs i)
-get-renamed sim [] i = refl
-get-renamed sim (v ∷ vs) zero = refl
-get-renamed sim (v ∷ vs) (suc i) = get-renamed sim vs i
+pub get-renamed : (f : ℕ → ℕ) (vs : List Value) (i : ℕ) → slice_get (renamed_all f vs) i ≡ renamed_option f (slice_get vs i)
+get-renamed f [] i = refl
+get-renamed f (v ∷ vs) zero = refl
+get-renamed f (v ∷ vs) (suc i) = get-renamed f vs i
 
-pub get_is_live : {H K : Type 0} {M : ObjectMemory H} {N : ObjectMemory K} (sim : Simulation M N) (vs : List Value) (i : ℕ) → AllLive sim.live vs → IsLiveOption sim.live (slice_get vs i)
-get_is_live sim [] i h = tt
-get_is_live sim (v ∷ vs) zero h = h.0
-get_is_live sim (v ∷ vs) (suc i) h = get_is_live sim vs i h.1
+pub get_is_live : (live : ℕ → Type 0) (vs : List Value) (i : ℕ) → AllLive live vs → IsLiveOption live (slice_get vs i)
+get_is_live live [] i h = tt
+get_is_live live (v ∷ vs) zero h = h.0
+get_is_live live (v ∷ vs) (suc i) h = get_is_live live vs i h.1
 
-module _ {H K : Type 0} {M : ObjectMemory H} {N : ObjectMemory K} (sim : Simulation M N) where
-  -- what stands for one another
+-- what stands for one another
+module _ (live : ℕ → Type 0) (f : ℕ → ℕ) where
+  pub small-named : (n : ℕ) → ValueNamed live f (Small n) (Small n)
+  small-named n = record { live = tt; is = refl }
 
-  pub small-same : (n : ℕ) → ValueSame sim (Small n) (Small n)
-  small-same n = record { live = tt; is = refl }
+  pub small_integer-named : (n : ℤ) → ValueNamed live f (small_integer n) (small_integer n)
+  small_integer-named (pos n) = record { live = tt; is = refl }
+  small_integer-named (negsuc n) = record { live = tt; is = refl }
 
-  pub small_integer-same : (n : ℤ) → ValueSame sim (small_integer n) (small_integer n)
-  small_integer-same (pos n) = record { live = tt; is = refl }
-  small_integer-same (negsuc n) = record { live = tt; is = refl }
+  pub no_values-named : ValuesNamed live f [] []
+  no_values-named = record { live = tt; is = refl }
 
-  pub class-same : (o : Object) → IsLiveObject sim.live o → ValueSame sim (Ref o.class) (Ref (sim.name o.class))
-  class-same o h = record { live = h.class; is = refl }
+  pub values-named : (v w : Value) (vs ws : List Value) → ValueNamed live f v w → ValuesNamed live f vs ws → ValuesNamed live f (v ∷ vs) (w ∷ ws)
+  values-named v w vs ws h k = record { live = (h.live, k.live); is = λ i. h.is i ∷ k.is i }
 
-  pub no_values-same : ValuesSame sim [] []
-  no_values-same = record { live = tt; is = refl }
+  pub none-named : OptionNamed live f None None
+  none-named = record { live = tt; is = refl }
 
-  pub values-same : (v w : Value) (vs ws : List Value) → ValueSame sim v w → ValuesSame sim vs ws → ValuesSame sim (v ∷ vs) (w ∷ ws)
-  values-same v w vs ws h k = record { live = (h.live, k.live); is = λ i. h.is i ∷ k.is i }
+  pub some-named : (v w : Value) → ValueNamed live f v w → OptionNamed live f (Some v) (Some w)
+  some-named v w h = record { live = h.live; is = λ i. Some (h.is i) }
 
-  pub none-same : OptionalSame sim None None
-  none-same = record { live = tt; is = refl }
+  pub field-named : (o : Object) (i : ℕ) → IsLiveObject live o → OptionNamed live f (slice_get o.fields i) (slice_get (renamed_all f o.fields) i)
+  field-named o i h = record { live = get_is_live live o.fields i h.fields; is = get-renamed f o.fields i }
 
-  pub some-same : (v w : Value) → ValueSame sim v w → OptionalSame sim (Some v) (Some w)
-  some-same v w h = record { live = h.live; is = λ i. Some (h.is i) }
-
-  pub field-same : (o : Object) (i : ℕ) → IsLiveObject sim.live o → OptionalSame sim (slice_get o.fields i) (slice_get (renamed_all sim.name o.fields) i)
-  field-same o i h = record { live = get_is_live sim o.fields i h.fields; is = get-renamed sim o.fields i }
-
-  pub registers-same : (a h m r a' h' m' r' : Value) (ip : ℤ) (sp : ℕ) → ValueSame sim a a' → ValueSame sim h h' → ValueSame sim m m' → ValueSame sim r r'
-      → RegistersSame sim (record { active = a; home = h; method = m; receiver = r; ip = ip; sp = sp }) (record { active = a'; home = h'; method = m'; receiver = r'; ip = ip; sp = sp })
-  registers-same a h m r a' h' m' r' ip sp x y z w = record {
+  pub registers-named : (a h m r a' h' m' r' : Value) (ip : ℤ) (sp : ℕ) → ValueNamed live f a a' → ValueNamed live f h h' → ValueNamed live f m m' → ValueNamed live f r r'
+      → RegistersNamed live f (record { active = a; home = h; method = m; receiver = r; ip = ip; sp = sp }) (record { active = a'; home = h'; method = m'; receiver = r'; ip = ip; sp = sp })
+  registers-named a h m r a' h' m' r' ip sp x y z w = record {
     live = (x.live, y.live, z.live, w.live);
     is = λ i. record { active = x.is i; home = y.is i; method = z.is i; receiver = w.is i; ip = ip; sp = sp };
   }
+
+module _ {H K : Type 0} {M : ObjectMemory H} {N : ObjectMemory K} (sim : Simulation M N) where
+  pub class-same : (o : Object) → IsLiveObject sim.live o → ValueSame sim (Ref o.class) (Ref (sim.name o.class))
+  class-same o h = record { live = h.class; is = refl }
 
   -- changes of the world
 
@@ -536,4 +536,4 @@ module _ {H K : Type 0} {M : ObjectMemory H} {N : ObjectMemory K} (sim : Simulat
   tried_itself-same m n h k = tried-same _ _ _ _ (tt, refl) (λ a l. (tt, refl)) m n h k
 
 -- what a search of steps that do the same goes by
-pub ruleset steps_same = (then_value-same, then_values-same, then_object-same, then_answer-same, then_option-same, then_registers-same, then_call-same, then_any_call-same, then_unit-same, if-same, tried_value-same, tried_itself-same, die-same, answer_value-same, answer_values-same, answer_option-same, answer_registers-same, answer_object-same, answer_itself-same, answer_call-same, answer_some_call-same, answer_no_call-same, went-same, say_value-same, same_value-same, small-same, small_integer-same, class-same, no_values-same, values-same, none-same, some-same, field-same, registers-same, hold-same, add_signal-same, take_signal-same, set_due-same, set_low-same, move_mouse-same, add_word-same, take_word-same, second_clock-same, millisecond_clock-same, length-renamed, code_byte-renamed)
+pub ruleset steps_same = (then_value-same, then_values-same, then_object-same, then_answer-same, then_option-same, then_registers-same, then_call-same, then_any_call-same, then_unit-same, if-same, tried_value-same, tried_itself-same, die-same, answer_value-same, answer_values-same, answer_option-same, answer_registers-same, answer_object-same, answer_itself-same, answer_call-same, answer_some_call-same, answer_no_call-same, went-same, say_value-same, same_value-same, small-named, small_integer-named, class-same, no_values-named, values-named, none-named, some-named, field-named, registers-named, hold-same, add_signal-same, take_signal-same, set_due-same, set_low-same, move_mouse-same, add_word-same, take_word-same, second_clock-same, millisecond_clock-same, length-renamed, code_byte-renamed)

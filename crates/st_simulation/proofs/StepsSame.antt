@@ -367,11 +367,11 @@ module _ {H K : Type 0} {M : ObjectMemory H} {N : ObjectMemory K} (sim : Simulat
   unfolding newest_signal
   newest_signal-same = record {
     go = λ s t st. inr (
-      get_is_live sim s.world.devices.pending (length s.world.devices.pending - 1) (device_part _ (head_roots s.head) _ st.roots.1.1.1.1).1.1.1.1.1.1,
+      get_is_live sim.live s.world.devices.pending (length s.world.devices.pending - 1) (device_part _ (head_roots s.head) _ st.roots.1.1.1.1).1.1.1.1.1.1,
       ap (λ w. newest_of w.devices.pending) st.world ∙ newest-renamed sim s.world.devices.pending,
       st,
     );
-    stay = λ s o. (get_is_live sim s.world.devices.pending (length s.world.devices.pending - 1) (over_values sim s.memory o s.world.devices.pending), o);
+    stay = λ s o. (get_is_live sim.live s.world.devices.pending (length s.world.devices.pending - 1) (over_values sim s.memory o s.world.devices.pending), o);
   }
 
   pub count_signals-same : SameAnswer sim count_signals count_signals
