@@ -15,8 +15,8 @@ use Rattle.st_browse.specs.Asked.{IsTextFor}
 use Rattle.st_browse.specs.Decompiling.{IsKeptOrMade, IsShown}
 use Rattle.st_session.specs.Decompiled.{made_text}
 use Rattle.st_session.proofs.Written.{made_is}
-use Rattle.st_install.specs.Syntax.{IsSyntax, syntax}
-use Rattle.st_install.proofs.Syntaxes.{is, only}
+use Rattle.st_grammar.specs.Syntax.{IsSyntax, syntax}
+use Rattle.st_grammar.proofs.Syntaxes.{is, only}
 use Rattle.st_session.specs.Sources.{selector_of, is_named, is_of, or_earlier, last_text, kept_text, or_made, shown_text, text_for}
 use Rattle.st_changes.proofs.KeptLast.{all_cons}
 use Rattle.st_changes.proofs.Lasts.{none_of}

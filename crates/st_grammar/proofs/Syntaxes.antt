@@ -11,8 +11,8 @@ use Rattle.st_grammar.specs.Reading.{Stop, whole_at}
 use Rattle.st_grammar.specs.Texts.{HasFirst, HasFault, words, first_fault, is_before}
 use Rattle.st_grammar.proofs.Theorems.{whole_method, whole_fault}
 use Rattle.st_grammar.proofs.Faulty.{tree_determined, first_determined, tree_or_fault}
-use Rattle.st_install.specs.Syntax.{IsSyntax, scan_of, words_of, stopped, tree_or_first, syntax}
-use Rattle.st_install.proofs.Scanned.{scans}
+use Rattle.st_grammar.specs.Syntax.{IsSyntax, scan_of, words_of, stopped, tree_or_first, syntax}
+use Rattle.st_grammar.proofs.Scanned.{scans}
 
 either : (b : Bool) (f g : Fault) → (if b then Some g else Some f) ≡ Some (if b then g else f)
 either true f g = refl
