@@ -1,10 +1,8 @@
-ghost use Rattle.std.specs.Prelude.{◌≡◌, ◌<◌, length, true, false, IfSome, IfNone};
-ghost use Rattle.st_model.specs.Values.{value, word};
-ghost use Rattle.st_model.specs.Objects.{is_method};
-ghost use Rattle.st_model.specs.View.{is_live, object_of};
-ghost use Rattle.st_model.specs.Machine.{is_there};
-ghost use Rattle.st_model.specs.Table.{table};
+ghost use Rattle.std.specs.Prelude.{◌≡◌, ◌<◌, length, IfSome};
+ghost use Rattle.st_model.specs.{Values.{value, word}, Objects.is_method, View.object_of};
+ghost use Rattle.st_model.specs.{Machine.is_there, Table.table};
 ghost use Rattle.st_model.specs.Deeds.{changed_by, header_stored, literal_stored};
+ghost use Rattle.st_input.specs.Named.{NamesKind};
 
 use crate::named::object_named;
 use st_memory::{Memory, live_value};
@@ -13,12 +11,8 @@ use st_model::{Oop, Word, literals};
 /// The Method that a word names, where one is there.
 #[tactic(auto, using(crate::proofs::Done::named_objects))]
 fn method_named<M: Memory>(m: &M, named: Word) -> Option<Oop>
-    ensures same { IfSome result (λ o. value o ≡ word named) }
-    ensures live { IfSome result (λ o. is_live (M.view m.now).objects (value o) ≡ true) }
-    ensures kind { IfSome result (λ o. is_method (object_of (M.view m.now).objects (value o)).kind ≡ true) }
+    ensures named { NamesKind is_method (M.view m.now).objects (word named) result }
     ensures header { IfSome result (λ o. 0 < length (object_of (M.view m.now).objects (value o)).fields) }
-    ensures none { IfNone result (is_live (M.view m.now).objects (word named) ≡ true
-        → is_method (object_of (M.view m.now).objects (word named)).kind ≡ false) }
 {
     let object = object_named(m, named)?;
     if m.kind(object).is_method() {
@@ -35,13 +29,11 @@ pub fn store_header<M: Memory>(m: &mut M, method: Word, header: Word)
     ensures held { (M.view m.new).held ≡ (M.view m.old).held }
     ensures head { (M.view m.new).head ≡ (M.view m.old).head }
 {
-    let target = match method_named(m, method) {
-        Some(target) => target,
-        None => return,
+    let Some(target) = method_named(m, method) else {
+        return;
     };
-    let header = match live_value(m, header) {
-        Some(header) => header,
-        None => return,
+    let Some(header) = live_value(m, header) else {
+        return;
     };
     if !header.is_small() {
         return;
@@ -60,13 +52,11 @@ pub fn store_literal<M: Memory>(m: &mut M, method: Word, number: u32, stored: Wo
     ensures held { (M.view m.new).held ≡ (M.view m.old).held }
     ensures head { (M.view m.new).head ≡ (M.view m.old).head }
 {
-    let target = match method_named(m, method) {
-        Some(target) => target,
-        None => return,
+    let Some(target) = method_named(m, method) else {
+        return;
     };
-    let literal = match live_value(m, stored) {
-        Some(literal) => literal,
-        None => return,
+    let Some(literal) = live_value(m, stored) else {
+        return;
     };
     if number < literals(m.pointer(target, 0)) {
         m.set_pointer(target, number + 1, literal);

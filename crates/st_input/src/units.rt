@@ -1,9 +1,6 @@
 ghost use Rattle.std.specs.Prelude.{◌≡◌, true};
-ghost use Rattle.st_model.specs.Values.{value, word};
-ghost use Rattle.st_model.specs.Objects.{has_bytes};
-ghost use Rattle.st_model.specs.View.{is_live};
-ghost use Rattle.st_model.specs.Primitives.{bytes_of_number};
-ghost use Rattle.st_model.specs.Input.{four_bytes};
+ghost use Rattle.st_model.specs.{Values.{value, word}, Objects.has_bytes, View.is_live};
+ghost use Rattle.st_model.specs.{Primitives.bytes_of_number, Input.four_bytes};
 ghost use Rattle.st_model.specs.Deeds.{changed_by, word_stored, byte_stored, bytes_stored};
 
 use crate::named::object_named;
@@ -18,9 +15,8 @@ pub fn store_word<M: Memory>(m: &mut M, object: Word, place: u32, stored: u16)
     ensures held { (M.view m.new).held ≡ (M.view m.old).held }
     ensures head { (M.view m.new).head ≡ (M.view m.old).head }
 {
-    let target = match object_named(m, object) {
-        Some(target) => target,
-        None => return,
+    let Some(target) = object_named(m, object) else {
+        return;
     };
     if !m.kind(target).is_words() {
         return;

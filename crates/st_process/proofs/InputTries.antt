@@ -1,15 +1,35 @@
 -- Primitives on devices and clocks whose conditions hold.
-use Rattle.std.proofs.Common.{◌≡◌, ℕ, Bool}
+use Rattle.std.proofs.Common.{◌≡◌, ℕ, Bool, refl}
+use Rattle.st_model.specs.declared.dead.Dead.{Dead}
 use Rattle.st_model.specs.declared.device.Device.TheVariants as device
 use Rattle.st_model.specs.Values.{Value}
-use Rattle.st_model.specs.Machine.{ObjectMemory, State, Transition, Went, after, ◌>>=◌}
+use Rattle.st_model.specs.Machine.{ObjectMemory, State, Transition, Step, Died, Went, after, answer, ◌>>=◌, ◌>>◌}
 use Rattle.st_model.specs.Table.{Table}
 use Rattle.st_model.specs.Steps.{top, under}
 use Rattle.st_model.specs.Primitives.{bits_or_die}
 use Rattle.st_model.specs.Processes.{check_fields}
-use Rattle.st_model.specs.Input.{check_truth, primitive_link_cursor, primitive_sample_interval, Place, place_in, move_mouse, primitive_move_mouse, hold_and_answer, primitive_input_semaphore, word_that_waits, take_word, primitive_input_word, check_four_bytes, store_seconds, primitive_second_clock, store_milliseconds, primitive_millisecond_clock, Timing, timing, set_timer_and_answer, primitive_timer, primitive_be_cursor, primitive_be_display, Low, low_space, set_low_space, primitive_low_space}
+use Rattle.st_model.specs.Input.{check_truth, primitive_link_cursor, primitive_sample_interval, Place, place_in, move_mouse, primitive_move_mouse, hold_and_answer, primitive_input_semaphore, word_that_waits, take_word, primitive_input_word, check_four_bytes, store_seconds, primitive_second_clock, store_milliseconds, primitive_millisecond_clock, Timing, timing, set_timer, set_timer_and_answer, primitive_timer, primitive_be_cursor, primitive_be_display, Low, low_space, set_low_space, primitive_low_space}
 use Rattle.st_frames.specs.Answering.{succeed_by, succeed_with}
 use Rattle.st_frames.proofs.Tries.{primitive-done, primitive-same}
+
+-- an effect, and then its answer
+module _ (m : ObjectMemory Table) (n : ℕ) (step : Step Table Value) (s : State Table) where
+  pub answered : (v : Value) (t : State Table) (y : Transition (State Table) Bool) → step.run s ≡ Went v t → (succeed_with m n v).run t ≡ y → (succeed_by m n step).run s ≡ y
+  unfolding succeed_by ◌>>=◌ after
+  answered v t y e h = rw e h
+
+  pub unanswered : (k : Dead) → step.run s ≡ Died k → (succeed_by m n step).run s ≡ Died k
+  unfolding succeed_by ◌>>=◌ after
+  unanswered k e = rw e refl
+
+module _ (m : ObjectMemory Table) (v w : Value) (a : Timing) (s : State Table) where
+  pub timer-set : (t : State Table) → (set_timer m w a).run s ≡ Went tt t → (set_timer_and_answer m w a v).run s ≡ Went v t
+  unfolding set_timer_and_answer ◌>>◌ ◌>>=◌ after answer
+  timer-set t e = rw e refl
+
+  pub timer-unset : (k : Dead) → (set_timer m w a).run s ≡ Died k → (set_timer_and_answer m w a v).run s ≡ Died k
+  unfolding set_timer_and_answer ◌>>◌ ◌>>=◌ after
+  timer-unset k e = rw e refl
 
 pub tried-move_mouse : (m : ObjectMemory Table) (v w : Value) (a : Place) (s : State Table) (y : Transition (State Table) Bool) → (under m 1).run s ≡ Went v s → (top m).run s ≡ Went w s → (place_in m w).run s ≡ Went a s → (succeed_by m 1 (move_mouse m v a)).run s ≡ y
     → (primitive_move_mouse m).run s ≡ y

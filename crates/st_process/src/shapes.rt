@@ -2,6 +2,8 @@
 
 ghost use Rattle.std.specs.Prelude.{◌≤◌};
 
+use st_model::Word;
+
 /// A place, from the left and from the top.
 #[derive(Clone, Copy)]
 pub struct Place {
@@ -13,9 +15,20 @@ pub struct Place {
     pub ghost top: { y ≤ 16383 },
 }
 
-/// Space is low below so many free entries and words.
+/// A process, and the list that it is in or goes into.
+#[derive(Clone, Copy)]
+pub struct Link {
+    /// The process.
+    pub process: Word,
+    /// The list.
+    pub list: Word,
+}
+
+/// Space is low below so many free entries and words, and then a semaphore is signalled.
 #[derive(Clone, Copy)]
 pub struct Low {
+    /// The semaphore.
+    pub semaphore: Word,
     /// Free entries.
     pub entries: u32,
     /// Free words.

@@ -126,27 +126,6 @@ fn set_timer<O: Objects>(
     }
 }
 
-/// Sets the timer, and answers the receiver.
-#[tactic(auto, using(st_frames::proofs::Doing::rows), unfolding(st_frames::specs::Answering::succeed_by, st_model::specs::Input::set_timer_and_answer))]
-fn answer_timer<O: Objects>(
-    m: &mut O,
-    r: &mut Registers,
-    semaphore: Word,
-    timing: Timing,
-    receiver: Word,
-) -> Result<Tried, Dead>
-    requires left { HasRoom r.old.world.now timing }
-    requires room { 1 ≤ O.room m.old }
-    ensures does { RowLeaves O.Objects.own (succeed_by O.names 2
-        (set_timer_and_answer O.names (word semaphore) (timing_in timing) (word receiver)))
-        is_done deed_of_trial m.old r.old result m.new r.new }
-    ensures takes { Takes O.Objects.own 1 m.old m.new }
-{
-    let deed = set_timer(m, r, semaphore, timing)?;
-    let word = receiver;
-    succeed_leaving(m, r, 2, Answer { word, deed })
-}
-
 /// Primitive 100: the first argument is to be signalled once the millisecond clock is at least the second.
 #[tactic(auto, using(st_frames::proofs::Tries::effects), unfolding(st_model::specs::Input::primitive_timer))]
 pub fn primitive_timer<O: Objects>(m: &mut O, r: &mut Registers) -> Result<Tried, Dead>
@@ -159,7 +138,11 @@ pub fn primitive_timer<O: Objects>(m: &mut O, r: &mut Registers) -> Result<Tried
     let semaphore = under(m, r, 1)?;
     let bytes = top(m, r)?;
     match find_timing(m, r, semaphore, bytes) {
-        Ok(timing) => answer_timer(m, r, semaphore, timing, receiver),
+        Ok(timing) => {
+            let deed = set_timer(m, r, semaphore, timing)?;
+            let word = receiver;
+            succeed_leaving(m, r, 2, Answer { word, deed })
+        }
         Err(_) => Ok(Tried::Failed),
     }
 }

@@ -3,7 +3,7 @@
 -- The second may be bounded, and then doesn't make what the first makes beyond the capacities. From there on nothing is
 -- said of the second, and of the first that it stays beyond them, since no step drops anything.
 use Rattle.std.proofs.Common.{◌≡◌, ℕ, List, [], ◌∷◌, zero, suc, Option, Some, None, Bool, true, false, refl, ap, ◌∙◌, arith, length, is_some, ◌⊎◌, inl, inr}
-use Rattle.std.specs.Prelude.{if◌then◌else◌, slice_get, slice_set, ◌==◌, ◌&&◌, ℤ, pos, negsuc}
+use Rattle.std.specs.Prelude.{if◌then◌else◌, slice_get, slice_set, ◌==◌, ℤ, pos, negsuc}
 use Rattle.std.proofs.lemmas.Bool.Decides.{nat_tests}
 use Rattle.std.specs.Option.{option_map}
 use Rattle.st_model.specs.declared.dead.Dead.{Dead}

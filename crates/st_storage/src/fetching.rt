@@ -7,6 +7,7 @@ ghost use Rattle.st_frames.specs.Rows.{RowLeaves, Takes};
 
 use crate::elements::{count_elements, place_at, place_behind_fixed};
 use crate::large::answer_integer;
+use crate::shapes::Indexed;
 use st_frames::{Answer, Registers, number, small, succeed_leaving, top, under};
 use st_memory::Objects;
 use st_model::{Dead, Deed, Kind, Tried, Word};
@@ -71,10 +72,10 @@ pub fn primitive_at<O: Objects>(m: &mut O, r: &mut Registers) -> Result<Tried, D
     ensures takes { Takes O.Objects.own 2 m.old m.new }
     ensures still { IfOk result (λ t. is_done t ≡ false → m.new ≡ m.old) }
 {
-    let receiver = under(m, r, 1)?;
+    let object = under(m, r, 1)?;
     let index = top(m, r)?;
-    match place_behind_fixed(m, r, receiver, index) {
-        Ok(place) => answer_element(m, r, receiver, place),
+    match place_behind_fixed(m, r, Indexed { object, index }) {
+        Ok(place) => answer_element(m, r, object, place),
         Err(_) => Ok(Tried::Failed),
     }
 }
@@ -90,10 +91,10 @@ pub fn primitive_instance_variable_at<O: Objects>(
         is_done deed_of_trial m.old r.old result m.new r.new }
     ensures takes { Takes O.Objects.own 2 m.old m.new }
 {
-    let receiver = under(m, r, 1)?;
+    let object = under(m, r, 1)?;
     let index = top(m, r)?;
-    match place_at(m, r, receiver, 0, index) {
-        Ok(place) => answer_element(m, r, receiver, place),
+    match place_at(m, r, Indexed { object, index }, 0) {
+        Ok(place) => answer_element(m, r, object, place),
         Err(_) => Ok(Tried::Failed),
     }
 }

@@ -7,20 +7,20 @@ use Rattle.st_model.specs.Deeds.{changed_by, literal_stored}
 use Rattle.st_input.proofs.Headers.{no_literal, absent_literal, literal_past, literal_here}
 use Rattle.st_input.proofs.methods.store_literal.Goals as goal
 
-pub returns-in-None-clause-objects : goal.returns-in-None-clause-objects
-returns-in-None-clause-objects g c =
+pub returns-in_default-clause-objects : goal.returns-in_default-clause-objects
+returns-in_default-clause-objects g c =
     let t = (g.M.Memory.view c.args.m.now).objects in
-    no_literal t (word c.args.method) c.in-None.ensures.none c.args.number (word c.args.stored) (is_there table t (word c.args.stored))
+    no_literal t (word c.args.method) c.in_default.ensures.named.none c.args.number (word c.args.stored) (is_there table t (word c.args.stored))
 
-pub returns-in-None-live_value-clause-objects : goal.returns-in-None-live_value-clause-objects
-returns-in-None-live_value-clause-objects g c =
+pub returns-in_default-live_value-clause-objects : goal.returns-in_default-live_value-clause-objects
+returns-in_default-live_value-clause-objects g c =
     let t = (g.M.Memory.view c.args.m.now).objects in
-    absent_literal t (word c.args.method) (word c.args.stored) c.args.number (is_there table t (word c.args.stored)) c.in-None-live_value.ensures.gone
+    absent_literal t (word c.args.method) (word c.args.stored) c.args.number (is_there table t (word c.args.stored)) c.in_default-live_value.ensures.gone
 
 pub returns-then-number-literals-clause-objects : goal.returns-then-number-literals-clause-objects
 returns-then-number-literals-clause-objects g c =
     let t = (g.M.Memory.view c.args.m.now).objects in
-    let a = c.in-Some.ensures in
+    let a = c.in-Some.ensures.named in
     let b = c.in-Some-live_value.ensures in
     let known = is_there table t (word c.args.stored) in
     c.set_pointer.ensures.objects
@@ -30,7 +30,7 @@ returns-then-number-literals-clause-objects g c =
 pub returns-else-number-literals-clause-objects : goal.returns-else-number-literals-clause-objects
 returns-else-number-literals-clause-objects g c =
     let t = (g.M.Memory.view c.args.m.now).objects in
-    let a = c.in-Some.ensures in
+    let a = c.in-Some.ensures.named in
     let count = (c.pointer.ensures.header a.kind refl).1 in
     let past : length (object_of t (value c.in-Some.target)).fields ≤ c.args.number + 1 = let l = c.if-number-literals.false in let n = c.literals.ensures.count in omega (arith, l, n, count) in
     let known = is_there table t (word c.args.stored) in

@@ -1,33 +1,14 @@
 use Rattle.std.proofs.Common.{◌≡◌, ◌+◌, ◌-◌, ◌≤◌, refl, ap, ◌∙◌, subst, arith}
 use Rattle.st_model.specs.Values.{value}
-use Rattle.st_model.specs.View.{object_of}
-use Rattle.st_memory.specs.Copied.{laid, units_from, with_bytes_of}
-use Rattle.st_memory.proofs.Laying.{has_source, has_target, length-with, none_laid, last_more}
+use Rattle.st_memory.specs.Copied.{with_bytes_of}
+use Rattle.st_memory.proofs.Laying.{both_have, none_laid, last_more}
 use Rattle.st_memory.proofs.bytes.copy_from_last.Goals as goal
 
-pub copy_piece-requires-clause-source : goal.copy_piece-requires-clause-source
-copy_piece-requires-clause-source g c =
-    let old = (g.M.Memory.view c.args.m.now).objects in
-    let now = (g.M.Memory.view c.loop-left.m).objects in
-    let s = value c.args.source in
-    let v = value c.args.target in
-    let us = laid (c.args.to + c.loop-left.left) (units_from old s (c.args.from + c.loop-left.left) (c.args.n - c.loop-left.left)) (object_of old v).units in
-    let same = length-with old s (c.args.from + c.loop-left.left) v (c.args.to + c.loop-left.left) (c.args.n - c.loop-left.left) in
+pub copy_piece-requires : goal.copy_piece-requires
+copy_piece-requires g c =
     let count = c.min-count.ensures in
-    let f = c.loop-left.invariant.few in
-    has_source old now s v c.args.from c.args.to c.args.n us c.requires.source c.requires.target same c.loop-left.invariant.objects (c.loop-left.left - c.min-count.result) c.min-count.result (omega (arith, count, f))
-
-pub copy_piece-requires-clause-target : goal.copy_piece-requires-clause-target
-copy_piece-requires-clause-target g c =
-    let old = (g.M.Memory.view c.args.m.now).objects in
-    let now = (g.M.Memory.view c.loop-left.m).objects in
-    let s = value c.args.source in
-    let v = value c.args.target in
-    let us = laid (c.args.to + c.loop-left.left) (units_from old s (c.args.from + c.loop-left.left) (c.args.n - c.loop-left.left)) (object_of old v).units in
-    let same = length-with old s (c.args.from + c.loop-left.left) v (c.args.to + c.loop-left.left) (c.args.n - c.loop-left.left) in
-    let count = c.min-count.ensures in
-    let f = c.loop-left.invariant.few in
-    has_target old now s v c.args.from c.args.to c.args.n us c.requires.source c.requires.target same c.loop-left.invariant.objects (c.loop-left.left - c.min-count.result) c.min-count.result (omega (arith, count, f))
+    let both = both_have _ _ _ _ c.args.from c.args.to c.args.n _ _ _ c.requires.source c.requires.target c.loop-left.invariant.objects (c.loop-left.left - c.min-count.result) c.min-count.result (omega (arith, count, c.loop-left.invariant.few)) in
+    record { source = both.0; target = both.1; few = omega (arith, count) }
 
 pub loop-left-init : goal.loop-left-init
 loop-left-init g c =

@@ -1,11 +1,8 @@
-use Rattle.std.proofs.Common.{refl, suc, subst, ap, ◌∙◌, sym, arith, ◌≡◌, ◌<◌, ◌+◌, length}
-use Rattle.std.proofs.lemmas.Bool.{false≢true}
+use Rattle.std.proofs.Common.{refl, suc, subst, ◌∙◌, arith, ◌≡◌, ◌<◌, ◌+◌, length}
 use Rattle.st_model.specs.Values.{value}
-use Rattle.st_model.specs.Objects.{is_pointers}
 use Rattle.st_model.specs.View.{with_fields, fields_from, object_of}
-use Rattle.st_memory.proofs.Copying.{live_after, count_after, kind_after, first_more}
+use Rattle.st_memory.proofs.Copying.{live_after, count_after, header_after, first_more}
 use Rattle.st_memory.proofs.transfer.copy_from_first.Goals as goal
-use Rattle.st_model.proofs.KindTests.{no_method}
 
 pub loop-done-init : goal.loop-done-init
 unfolding with_fields fields_from
@@ -36,10 +33,7 @@ set_pointer-requires-clause-range g c =
     rw (count_after (g.M.Memory.view c.args.m.now).objects (g.M.Memory.view c.loop-done.m).objects (value c.args.target) c.args.to c.args.n (fields_from (g.M.Memory.view c.args.m.now).objects (value c.args.source) c.args.from c.loop-done.done) c.args.to c.requires.target c.loop-done.invariant.objects (value c.args.target)) d
 
 pub set_pointer-requires-clause-header : goal.set_pointer-requires-clause-header
-set_pointer-requires-clause-header g c =
-    let k = kind_after (g.M.Memory.view c.args.m.now).objects (g.M.Memory.view c.loop-done.m).objects (value c.args.target) c.args.to c.args.n (fields_from (g.M.Memory.view c.args.m.now).objects (value c.args.source) c.args.from c.loop-done.done) c.args.to c.requires.target c.loop-done.invariant.objects (value c.args.target) in
-    let m = no_method (object_of (g.M.Memory.view c.loop-done.m).objects (value c.args.target)).kind (ap is_pointers k ∙ c.requires.target.kind) in
-    λ e. absurd (false≢true (sym m ∙ e))
+set_pointer-requires-clause-header g c = header_after _ _ (value c.args.target) _ _ _ _ c.requires.target c.loop-done.invariant.objects _ _
 
 pub loop-done-preserved : goal.loop-done-preserved
 loop-done-preserved g c = record {

@@ -1,11 +1,8 @@
-use Rattle.std.proofs.Common.{refl, suc, subst, ap, ◌∙◌, sym, arith, ◌≡◌, ◌<◌, ◌+◌, ◌-◌, length}
-use Rattle.std.proofs.lemmas.Bool.{false≢true}
+use Rattle.std.proofs.Common.{refl, suc, subst, ◌∙◌, arith, ◌≡◌, ◌<◌, ◌+◌, ◌-◌, length}
 use Rattle.st_model.specs.Values.{value}
-use Rattle.st_model.specs.Objects.{is_pointers}
 use Rattle.st_model.specs.View.{with_fields, fields_from, object_of}
-use Rattle.st_memory.proofs.Copying.{live_after, count_after, kind_after, last_more, none_yet, all_done}
+use Rattle.st_memory.proofs.Copying.{live_after, count_after, header_after, last_more, none_yet, all_done}
 use Rattle.st_memory.proofs.transfer.copy_from_last.Goals as goal
-use Rattle.st_model.proofs.KindTests.{no_method}
 
 pub loop-left-init : goal.loop-left-init
 loop-left-init g c = record {
@@ -45,10 +42,7 @@ set_pointer-requires-clause-range g c =
     rw (count_after (g.M.Memory.view c.args.m.now).objects (g.M.Memory.view c.loop-left.m).objects (value c.args.target) c.args.to c.args.n (fields_from (g.M.Memory.view c.args.m.now).objects (value c.args.source) (c.args.from + c.loop-left.left) (c.args.n - c.loop-left.left)) (c.args.to + c.loop-left.left) c.requires.target c.loop-left.invariant.objects (value c.args.target)) d
 
 pub set_pointer-requires-clause-header : goal.set_pointer-requires-clause-header
-set_pointer-requires-clause-header g c =
-    let k = kind_after (g.M.Memory.view c.args.m.now).objects (g.M.Memory.view c.loop-left.m).objects (value c.args.target) c.args.to c.args.n (fields_from (g.M.Memory.view c.args.m.now).objects (value c.args.source) (c.args.from + c.loop-left.left) (c.args.n - c.loop-left.left)) (c.args.to + c.loop-left.left) c.requires.target c.loop-left.invariant.objects (value c.args.target) in
-    let m = no_method (object_of (g.M.Memory.view c.loop-left.m).objects (value c.args.target)).kind (ap is_pointers k ∙ c.requires.target.kind) in
-    λ e. absurd (false≢true (sym m ∙ e))
+set_pointer-requires-clause-header g c = header_after _ _ (value c.args.target) _ _ _ _ c.requires.target c.loop-left.invariant.objects _ _
 
 pub loop-left-preserved : goal.loop-left-preserved
 loop-left-preserved g c =
