@@ -9,4 +9,4 @@ pub returns-in-Err-At : goal.returns-in-Err-At
 returns-in-Err-At c selector has = subst (λ (e : SyntaxFault). IsOnly has.tree (Err e)) c.in-Err-At.field-0-is (c.in-Err-At.ensures.only has.tree (means_tree c.args.text.now has.tree has.means))
 
 pub returns-in-Ok : goal.returns-in-Ok
-returns-in-Ok c = record { tree = method_view c.in-Ok.field-0; means = reads_tree c.args.text.now (method_view c.in-Ok.field-0) c.in-Ok.ensures.tree; is = refl }
+returns-in-Ok c = record { tree = method_view c.in-Ok.tree; means = reads_tree c.args.text.now (method_view c.in-Ok.tree) c.in-Ok.ensures.tree; is = refl }
