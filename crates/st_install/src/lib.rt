@@ -28,7 +28,7 @@ mod symbols;
 mod unprepared;
 
 pub use defining::{carry_out, define};
-pub use definition_laws::{one_syntax, special_messages};
+pub use definition_laws::special_messages;
 pub use installing::install;
 pub use laws::{install_gains, install_shows_births};
 pub use plan::Ready;

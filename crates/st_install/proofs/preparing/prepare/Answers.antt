@@ -6,7 +6,7 @@ use Rattle.st_code.specs.MethodDrafts.{parts_view}
 use Rattle.st_chunk.specs.ScriptDefinitions.{definition_of}
 use Rattle.st_install.specs.Unprepareds.{by_install, by_syntax, by_code}
 use Rattle.st_install.specs.Prepareds.{PreparesAs}
-use Rattle.st_install.proofs.Syntaxes.{only}
+use Rattle.st_grammar.proofs.Syntaxes.{only}
 use Rattle.st_install.proofs.Readying.{ready_by_name}
 use Rattle.st_install.proofs.Exits.{class_refuses, syntax_refuses, names_refuse, code_refuses, code_seen, ready_refuses}
 use Rattle.st_install.proofs.preparing.prepare.Goals as goal
