@@ -59,7 +59,7 @@ slice_get-set_same [] i y h = absurd (omega (arith, h))
 slice_get-set_same (x ∷ xs) zero y h = refl
 slice_get-set_same (x ∷ xs) (suc i) y h = slice_get-set_same xs i y (omega arith)
 
-slice_get-set_other : {A : Type 0} (xs : List A) (i j : ℕ) (y : A) → j ≢ i → slice_get (set xs i y) j ≡ slice_get xs j
+pub slice_get-set_other : {A : Type 0} (xs : List A) (i j : ℕ) (y : A) → j ≢ i → slice_get (set xs i y) j ≡ slice_get xs j
 slice_get-set_other [] i j y n = refl
 slice_get-set_other (x ∷ xs) zero zero y n = absurd (n refl)
 slice_get-set_other (x ∷ xs) zero (suc j) y n = refl
@@ -127,16 +127,11 @@ module _ (es : List (Option Entry)) (size_fields size_units end nf nu : ℕ) (la
       ]
     ]
 
-    still_empty : (j : ℕ) → top ≤ j → slot (set es k (Some e)) j ≡ None
-    still_empty j l =
-        let other : j ≢ k = omega arith in
-        slot-set_other es k j (Some e) other ∙ laid.empty j (omega arith)
-
     pub place_laid_out : IsLaidOut (set es k (Some e)) size_fields size_units top (nf + fields) (nu + units)
     place_laid_out = record {
       places = length-set es k (Some e) ∙ laid.places;
       within = within;
-      empty = still_empty;
+      empty = λ j l. let other : j ≢ k = omega arith in slot-set_other es k j (Some e) other ∙ laid.empty j (omega arith);
       placed = all_placed;
       apart = all_apart;
       fields_end = fields_end;
