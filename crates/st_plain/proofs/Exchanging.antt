@@ -109,8 +109,7 @@ module _ (es : List (Option Entry)) (a b : ℕ) (e f : Entry) (at_a : slot es a 
     apart = λ i j c d ne h g. laid.apart (other_of a b i) (other_of a b j) c d (other_of-distinct a b i j ne) (sym (slice_get-new i) ∙ h) (sym (slice_get-new j) ∙ g);
     fields_end = laid.fields_end;
     units_end = laid.units_end;
-    few_fields = laid.few_fields;
-    few_units = laid.few_units;
+    bounded = laid.bounded;
   }
 
   module _ (p : List Oop) (u : List ℕ) where
