@@ -1,8 +1,7 @@
-ghost use Rattle.std.specs.Prelude.{◌≡◌};
 ghost use Rattle.st_model.specs.Values.{word};
 ghost use Rattle.st_model.specs.Objects.{is_bytes};
-ghost use Rattle.st_model.specs.Deeds.{changed_by, bytes_replaced, bytes_from};
-ghost use Rattle.st_input.specs.Named.{NamesKind};
+ghost use Rattle.st_model.specs.Deeds.{bytes_replaced, bytes_from};
+ghost use Rattle.st_input.specs.{Named.NamesKind, Holding.ChangesOne};
 
 use crate::named::object_named;
 use st_memory::{Memory, copy_bytes};
@@ -30,11 +29,8 @@ pub fn replace_bytes<M: Memory>(
     from: u32,
     count: u32,
 )
-    ensures objects { let old = (M.view m.old).objects in
-        (M.view m.new).objects
-        ≡ changed_by (bytes_replaced to (bytes_from old (word source) from count)) old (word target) }
-    ensures held { (M.view m.new).held ≡ (M.view m.old).held }
-    ensures head { (M.view m.new).head ≡ (M.view m.old).head }
+    ensures { ChangesOne (M.view m.old) (M.view m.new)
+        (bytes_replaced to (bytes_from (M.view m.old).objects (word source) from count)) (word target) }
 {
     let Some(into) = bytes_named(m, target) else {
         return;

@@ -1,8 +1,8 @@
-ghost use Rattle.std.specs.Prelude.{◌≡◌, ◌<◌, length, IfSome};
+ghost use Rattle.std.specs.Prelude.{◌<◌, length, IfSome};
 ghost use Rattle.st_model.specs.{Values.{value, word}, Objects.is_method, View.object_of};
 ghost use Rattle.st_model.specs.{Machine.is_there, Table.table};
-ghost use Rattle.st_model.specs.Deeds.{changed_by, header_stored, literal_stored};
-ghost use Rattle.st_input.specs.Named.{NamesKind};
+ghost use Rattle.st_model.specs.Deeds.{header_stored, literal_stored};
+ghost use Rattle.st_input.specs.{Named.NamesKind, Holding.ChangesOne};
 
 use crate::named::object_named;
 use st_memory::{Memory, live_value};
@@ -24,10 +24,7 @@ fn method_named<M: Memory>(m: &M, named: Word) -> Option<Oop>
 
 /// Stores another header in a Method, where it counts as many literals.
 pub fn store_header<M: Memory>(m: &mut M, method: Word, header: Word)
-    ensures objects { (M.view m.new).objects
-        ≡ changed_by (header_stored (word header)) (M.view m.old).objects (word method) }
-    ensures held { (M.view m.new).held ≡ (M.view m.old).held }
-    ensures head { (M.view m.new).head ≡ (M.view m.old).head }
+    ensures { ChangesOne (M.view m.old) (M.view m.new) (header_stored (word header)) (word method) }
 {
     let Some(target) = method_named(m, method) else {
         return;
@@ -45,12 +42,8 @@ pub fn store_header<M: Memory>(m: &mut M, method: Word, header: Word)
 
 /// Stores a value that is there in a literal of a Method, counted from 0.
 pub fn store_literal<M: Memory>(m: &mut M, method: Word, number: u32, stored: Word)
-    ensures objects { let old = (M.view m.old).objects in
-        (M.view m.new).objects
-        ≡ changed_by (literal_stored number (word stored) (is_there table old (word stored)))
-        old (word method) }
-    ensures held { (M.view m.new).held ≡ (M.view m.old).held }
-    ensures head { (M.view m.new).head ≡ (M.view m.old).head }
+    ensures { let known = is_there table (M.view m.old).objects (word stored) in
+        ChangesOne (M.view m.old) (M.view m.new) (literal_stored number (word stored) known) (word method) }
 {
     let Some(target) = method_named(m, method) else {
         return;
