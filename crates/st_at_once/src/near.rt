@@ -122,7 +122,8 @@ impl<'a, M: Memory> Near<'a, M> {
     #[inline(always)]
     pub(crate) fn find_code(&self, method: Word, ip: i32) -> Option<Body>
         ensures same { IfSome result (λ b. value b.object ≡ word method) }
-        ensures code { IfSome result (λ b. IsCodeAt (M.view self.now.memory.now).objects (value b.object) ip) }
+        ensures code { IfSome result (λ b.
+            IsCodeAt (M.view self.now.memory.now).objects (value b.object) ip) }
         ensures place { IfSome result (λ b. M.stands self.now.memory.now (value b.object) b.place) }
     {
         self.stand();

@@ -4,25 +4,25 @@ ghost use Rattle.st_model.specs.Bytecodes.{return_receiver, return_constant, ret
 ghost use Rattle.st_frames.specs.Rows.{RowLeaves, Takes, executed_return_changes};
 
 use crate::execute::execute_if_any;
-use st_control::{constant_value, return_to_caller, return_to_sender};
+use st_control::{constant_value, return_past};
 use st_frames::{Registers, pop};
 use st_memory::Objects;
 use st_model::{Constant, Dead, StepEnd};
 
 /// Returns the receiver to the sender.
-#[tactic(auto, using(st_frames::proofs::Doing::rows), unfolding(st_model::specs::Bytecodes::return_receiver, st_model::specs::Executing::executed_if_any))]
+#[tactic(auto, using(st_control::proofs::Returning::returning), unfolding(st_model::specs::Bytecodes::return_receiver, st_model::specs::Executing::executed_if_any))]
 pub fn return_receiver<O: Objects>(m: &mut O, r: &mut Registers) -> Result<StepEnd, Dead>
     requires room { executed_return_changes ≤ O.room m.old }
     ensures does { RowLeaves O.Objects.own (executed_if_any O.names (return_receiver O.names))
         end_of deed_of_end m.old r.old result m.new r.new }
     ensures takes { Takes O.Objects.own executed_return_changes m.old m.new }
 {
-    let call = return_to_sender(m, r, r.receiver)?;
+    let call = return_past(m, r, r.home, r.receiver)?;
     execute_if_any(m, r, call)
 }
 
 /// Returns a constant to the sender.
-#[tactic(auto, using(st_frames::proofs::Doing::rows), unfolding(st_model::specs::Bytecodes::return_constant, st_model::specs::Executing::executed_if_any))]
+#[tactic(auto, using(st_control::proofs::Returning::returning), unfolding(st_model::specs::Bytecodes::return_constant, st_model::specs::Executing::executed_if_any))]
 pub fn return_constant<O: Objects>(
     m: &mut O,
     r: &mut Registers,
@@ -34,12 +34,12 @@ pub fn return_constant<O: Objects>(
     ensures takes { Takes O.Objects.own executed_return_changes m.old m.new }
 {
     let x = constant_value(m, r, constant);
-    let call = return_to_sender(m, r, x)?;
+    let call = return_past(m, r, r.home, x)?;
     execute_if_any(m, r, call)
 }
 
 /// Pops, and returns the word to the sender.
-#[tactic(auto, using(st_frames::proofs::Doing::rows), unfolding(st_model::specs::Bytecodes::return_top_to_sender, st_model::specs::Executing::executed_if_any))]
+#[tactic(auto, using(st_control::proofs::Returning::returning), unfolding(st_model::specs::Bytecodes::return_top_to_sender, st_model::specs::Executing::executed_if_any))]
 pub fn return_top_to_sender<O: Objects>(m: &mut O, r: &mut Registers) -> Result<StepEnd, Dead>
     requires room { executed_return_changes ≤ O.room m.old }
     ensures does { RowLeaves O.Objects.own (executed_if_any O.names (return_top_to_sender O.names))
@@ -47,12 +47,12 @@ pub fn return_top_to_sender<O: Objects>(m: &mut O, r: &mut Registers) -> Result<
     ensures takes { Takes O.Objects.own executed_return_changes m.old m.new }
 {
     let x = pop(m, r)?;
-    let call = return_to_sender(m, r, x)?;
+    let call = return_past(m, r, r.home, x)?;
     execute_if_any(m, r, call)
 }
 
 /// Pops, and returns the word to the caller.
-#[tactic(auto, using(st_frames::proofs::Doing::rows), unfolding(st_model::specs::Bytecodes::return_top_to_caller, st_model::specs::Executing::executed_if_any))]
+#[tactic(auto, using(st_control::proofs::Returning::returning), unfolding(st_model::specs::Bytecodes::return_top_to_caller, st_model::specs::Executing::executed_if_any))]
 pub fn return_top_to_caller<O: Objects>(m: &mut O, r: &mut Registers) -> Result<StepEnd, Dead>
     requires room { executed_return_changes ≤ O.room m.old }
     ensures does { RowLeaves O.Objects.own (executed_if_any O.names (return_top_to_caller O.names))
@@ -60,6 +60,6 @@ pub fn return_top_to_caller<O: Objects>(m: &mut O, r: &mut Registers) -> Result<
     ensures takes { Takes O.Objects.own executed_return_changes m.old m.new }
 {
     let x = pop(m, r)?;
-    let call = return_to_caller(m, r, x)?;
+    let call = return_past(m, r, r.active, x)?;
     execute_if_any(m, r, call)
 }
