@@ -223,13 +223,9 @@ module _ (o : Object) (lives : ℕ → Type 0) where
   stack_place-sure n c (pos i) h = search parts depth 24 fits 4000
   stack_place-sure n c (negsuc i) h = search parts depth 24 fits 4000
 
-  pub fetch_stack_pointer-sure : (n : ℕ) (c : Value) → There o lives n c → SureAnswer o lives n (fetch_stack_pointer bare c) (fetch_stack_pointer (full o) c)
-  unfolding fetch_stack_pointer
-  fetch_stack_pointer-sure n c h0 = search (parts, stack_place-sure) depth 24 fits 4000
-
   pub context_registers-sure : (n : ℕ) (c : Value) → There o lives n c → SureRegisters o lives n (context_registers bare c) (context_registers (full o) c)
-  unfolding context_registers
-  context_registers-sure n c h0 = search (parts, home_of-sure, fetch_stack_pointer-sure) depth 32 fits 4000
+  unfolding context_registers fetch_stack_pointer
+  context_registers-sure n c h0 = search (parts, home_of-sure, stack_place-sure) depth 40 fits 4000
 
   pub fetch_context_registers-sure : (n : ℕ) (c : Value) → There o lives n c → SureAnswer o lives n (fetch_context_registers bare c) (fetch_context_registers (full o) c)
   unfolding fetch_context_registers
