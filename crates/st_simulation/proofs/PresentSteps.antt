@@ -223,13 +223,9 @@ module _ (o : Object) (lives : ℕ → Type 0) where
   stack_place-sure n c (pos i) h = search parts depth 24 fits 4000
   stack_place-sure n c (negsuc i) h = search parts depth 24 fits 4000
 
-  pub fetch_stack_pointer-sure : (n : ℕ) (c : Value) → There o lives n c → SureAnswer o lives n (fetch_stack_pointer bare c) (fetch_stack_pointer (full o) c)
-  unfolding fetch_stack_pointer
-  fetch_stack_pointer-sure n c h0 = search (parts, stack_place-sure) depth 24 fits 4000
-
   pub context_registers-sure : (n : ℕ) (c : Value) → There o lives n c → SureRegisters o lives n (context_registers bare c) (context_registers (full o) c)
-  unfolding context_registers
-  context_registers-sure n c h0 = search (parts, home_of-sure, fetch_stack_pointer-sure) depth 32 fits 4000
+  unfolding context_registers fetch_stack_pointer
+  context_registers-sure n c h0 = search (parts, home_of-sure, stack_place-sure) depth 40 fits 4000
 
   pub fetch_context_registers-sure : (n : ℕ) (c : Value) → There o lives n c → SureAnswer o lives n (fetch_context_registers bare c) (fetch_context_registers (full o) c)
   unfolding fetch_context_registers
@@ -621,13 +617,9 @@ module _ (o : Object) (lives : ℕ → Type 0) where
   unfolding is_at_end
   is_at_end-sure n r h0 = search (numbers_sure, has_characters-sure) depth 32 fits 4000
 
-  pub place_in_method-sure : (n : ℕ) (r : Value) (a : Value) → There o lives n r → There o lives n a → SureAnswer o lives n (place_in_method bare r a) (place_in_method (full o) r a)
-  unfolding place_in_method method_place
-  place_in_method-sure n r a h0 h1 = search (numbers_sure, count_literals-sure) depth 32 fits 4000
-
   pub header_or_literal-sure : (n : ℕ) (r : Value) (a : Value) → There o lives n r → There o lives n a → SureValue o lives n (header_or_literal bare r a) (header_or_literal (full o) r a)
-  unfolding header_or_literal
-  header_or_literal-sure n r a h0 h1 = search (numbers_sure, place_in_method-sure) depth 24 fits 4000
+  unfolding header_or_literal place_in_method method_place
+  header_or_literal-sure n r a h0 h1 = search (numbers_sure, count_literals-sure) depth 40 fits 4000
 
   pub check_header-sure : (n : ℕ) (r : Value) (b : Value) → There o lives n r → There o lives n b → SureAnswer o lives n (check_header bare r b) (check_header (full o) r b)
   unfolding check_header
@@ -639,20 +631,16 @@ module _ (o : Object) (lives : ℕ → Type 0) where
   check_method_field-sure n r b false h0 h1 = search sures depth 24 fits 4000
 
   pub place_to_store-sure : (n : ℕ) (r : Value) (a : Value) (b : Value) → There o lives n r → There o lives n a → There o lives n b → SureAnswer o lives n (place_to_store bare r a b) (place_to_store (full o) r a b)
-  unfolding place_to_store
-  place_to_store-sure n r a b h0 h1 h2 = search (numbers_sure, place_in_method-sure, check_method_field-sure) depth 24 fits 4000
-
-  pub check_not_method_class-sure : (n : ℕ) (r : Value) → There o lives n r → SureAnswer o lives n (check_not_method_class bare r) (check_not_method_class (full o) r)
-  unfolding check_not_method_class
-  check_not_method_class-sure n r h0 = search numbers_sure depth 24 fits 4000
+  unfolding place_to_store place_in_method method_place
+  place_to_store-sure n r a b h0 h1 h2 = search (numbers_sure, count_literals-sure, check_method_field-sure) depth 40 fits 4000
 
   pub fixed_specification-sure : (n : ℕ) (r : Value) → There o lives n r → SureAnswer o lives n (fixed_specification bare r) (fixed_specification (full o) r)
-  unfolding fixed_specification
-  fixed_specification-sure n r h0 = search (numbers_sure, check_not_method_class-sure) depth 24 fits 4000
+  unfolding fixed_specification check_not_method_class
+  fixed_specification-sure n r h0 = search numbers_sure depth 32 fits 4000
 
   pub indexed_shape-sure : (n : ℕ) (r : Value) (a : Value) → There o lives n r → There o lives n a → SureAnswer o lives n (indexed_shape bare r a) (indexed_shape (full o) r a)
-  unfolding indexed_shape checked_shape
-  indexed_shape-sure n r a h0 h1 = search (numbers_sure, check_not_method_class-sure) depth 32 fits 4000
+  unfolding indexed_shape checked_shape check_not_method_class
+  indexed_shape-sure n r a h0 h1 = search numbers_sure depth 40 fits 4000
 
   pub check_objects-sure : (n : ℕ) (v : Value) (w : Value) → There o lives n v → There o lives n w → SureAnswer o lives n (check_objects bare v w) (check_objects (full o) v w)
   unfolding check_objects check_object
