@@ -8,7 +8,7 @@ use Rattle.st_model.specs.declared.dead.Dead.TheVariants as dead
 use Rattle.st_model.specs.declared.word.Word.{Word}
 use Rattle.st_model.specs.Values.{Value, word}
 use Rattle.st_model.specs.Machine.{ObjectMemory, Head, State, Transition, Died, Went, answer, after, ◌>>=◌, ◌>>◌}
-use Rattle.st_model.specs.Steps.{check, count_fields, get_active, get_ip, top, under}
+use Rattle.st_model.specs.Steps.{check, count_fields, get_active, top, under}
 use Rattle.st_model.specs.Contexts.{home_of}
 use Rattle.st_model.specs.Primitives.{positive_small}
 use Rattle.st_model.specs.Blocks.{check_context, home_of_block, new_block, primitive_block_copy, start_of, value_with_words, value_if_any, primitive_value, passing, value_with_fields, value_with_if_any, primitive_value_with}

@@ -1,7 +1,7 @@
 -- Returns past a context: to the sender of a home context, or to the caller of an active one.
 use Rattle.std.specs.Prelude.{Option}
 use Rattle.st_model.specs.Values.{Value}
-use Rattle.st_model.specs.Machine.{ObjectMemory, Step, ◌>>=◌, ◌>>◌}
+use Rattle.st_model.specs.Machine.{ObjectMemory, Step, ◌>>=◌}
 use Rattle.st_model.specs.Steps.{fetch_field}
 use Rattle.st_model.specs.Sends.{Call}
 use Rattle.st_model.specs.Returns.{return_to}

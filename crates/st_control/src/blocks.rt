@@ -15,7 +15,7 @@ use st_model::{Dead, Deed, PageObject, Tried, Word};
 
 /// What a new block is made of.
 #[derive(Clone, Copy)]
-struct BlockShape {
+struct Shape {
     /// Its home context.
     home: Word,
     /// How many arguments it takes, as a SmallInteger.
@@ -67,12 +67,7 @@ fn first_pointer(r: &Registers) -> Word
 
 /// Fills a new block: its first bytecode is behind the jump round it, and its stack is empty.
 #[tactic(auto, using(st_frames::proofs::Doing::rows), unfolding(st_model::specs::Blocks::fill_block))]
-fn fill_block<O: Objects>(
-    m: &mut O,
-    r: &Registers,
-    block: Word,
-    shape: BlockShape,
-) -> Result<(), Dead>
+fn fill_block<O: Objects>(m: &mut O, r: &Registers, block: Word, shape: Shape) -> Result<(), Dead>
     requires within { r.now.ip ≤ℤ pos 16380 }
     requires room { 5 ≤ O.room m.old }
     ensures does { RowDoes O.Objects.own
@@ -90,7 +85,7 @@ fn fill_block<O: Objects>(
 
 /// A new BlockContext as large as its home.
 #[tactic(auto, using(st_frames::proofs::Doing::rows), unfolding(st_model::specs::Blocks::new_block))]
-fn new_block<O: Objects>(m: &mut O, r: &Registers, shape: BlockShape) -> Result<Word, Dead>
+fn new_block<O: Objects>(m: &mut O, r: &Registers, shape: Shape) -> Result<Word, Dead>
     requires within { r.now.ip ≤ℤ pos 16380 }
     requires room { 6 ≤ O.room m.old }
     ensures does { RowDoes O.Objects.own (new_block O.names (word shape.home) (word shape.count))
@@ -106,7 +101,7 @@ fn new_block<O: Objects>(m: &mut O, r: &Registers, shape: BlockShape) -> Result<
 
 /// A new block takes the place of receiver and argument.
 #[tactic(auto, using(st_frames::proofs::Doing::rows), unfolding(st_frames::specs::Answering::succeed_by, st_frames::specs::Answering::succeed_with))]
-fn answer_block<O: Objects>(m: &mut O, r: &mut Registers, shape: BlockShape) -> Result<(), Dead>
+fn answer_block<O: Objects>(m: &mut O, r: &mut Registers, shape: Shape) -> Result<(), Dead>
     requires within { r.old.ip ≤ℤ pos 16380 }
     requires room { 7 ≤ O.room m.old }
     ensures does { RowDoes O.Objects.own
@@ -130,7 +125,7 @@ pub fn primitive_block_copy<O: Objects>(m: &mut O, r: &mut Registers) -> Result<
     let count = top(m, r)?;
     match home_of_block(m, r, context, count) {
         Ok(home) => {
-            answer_block(m, r, BlockShape { home, count })?;
+            answer_block(m, r, Shape { home, count })?;
             Ok(Tried::Done(Deed::Nothing))
         }
         Err(_) => Ok(Tried::Failed),
