@@ -54,19 +54,19 @@ module _ (o : Object) (lives : ℕ → Type 0) where
 
   pub fetch_field-sure : (n : ℕ) (v : Value) (i : ℕ) → There o lives n v → SureValue o lives n (fetch_field bare v i) (fetch_field (full o) v i)
   unfolding fetch_field
-  fetch_field-sure n v i h0 = search (memories) depth 24 fits 4000
+  fetch_field-sure n v i h0 = search memories depth 24 fits 4000
 
   pub store_field-sure : (n : ℕ) (v : Value) (i : ℕ) (x : Value) → There o lives n v → There o lives n x → SureAnswer o lives n (store_field bare v i x) (store_field (full o) v i x)
   unfolding store_field
-  store_field-sure n v i x h0 h1 = search (memories) depth 24 fits 4000
+  store_field-sure n v i x h0 h1 = search memories depth 24 fits 4000
 
   pub count_fields-sure : (n : ℕ) (v : Value) → There o lives n v → SureAnswer o lives n (count_fields bare v) (count_fields (full o) v)
   unfolding count_fields
-  count_fields-sure n v h0 = search (memories) depth 24 fits 4000
+  count_fields-sure n v h0 = search memories depth 24 fits 4000
 
   pub new_object-sure : (n : ℕ) (v : Value) (i : ℕ) → There o lives n v → SureValue o lives n (new_object bare v i) (new_object (full o) v i)
   unfolding new_object
-  new_object-sure n v i h0 = search (memories) depth 24 fits 4000
+  new_object-sure n v i h0 = search memories depth 24 fits 4000
 
   pub class_of-sure : (n : ℕ) (v : Value) → There o lives n v → SureValue o lives n (class_of bare v) (class_of (full o) v)
   unfolding class_of
@@ -77,7 +77,7 @@ module _ (o : Object) (lives : ℕ → Type 0) where
 
   pub fetch_integer-sure : (n : ℕ) (v : Value) (i : ℕ) → There o lives n v → SureAnswer o lives n (fetch_integer bare v i) (fetch_integer (full o) v i)
   unfolding fetch_integer
-  fetch_integer-sure n v i h0 = search (fields) depth 24 fits 4000
+  fetch_integer-sure n v i h0 = search fields depth 24 fits 4000
 
   pub fetch_fields-sure : (n : ℕ) (v : Value) (from : ℕ) (i : ℕ) → There o lives n v → SureValues o lives n (fetch_fields bare v from i) (fetch_fields (full o) v from i)
   unfolding fetch_fields
@@ -95,27 +95,27 @@ module _ (o : Object) (lives : ℕ → Type 0) where
 
   pub fetch_word-sure : (n : ℕ) (v : Value) (i : ℕ) → There o lives n v → SureAnswer o lives n (fetch_word bare v i) (fetch_word (full o) v i)
   unfolding fetch_word
-  fetch_word-sure n v i h0 = search (fields) depth 24 fits 4000
+  fetch_word-sure n v i h0 = search fields depth 24 fits 4000
 
   pub fetch_byte-sure : (n : ℕ) (v : Value) (i : ℕ) → There o lives n v → SureAnswer o lives n (fetch_byte bare v i) (fetch_byte (full o) v i)
   unfolding fetch_byte
-  fetch_byte-sure n v i h0 = search (fields) depth 24 fits 4000
+  fetch_byte-sure n v i h0 = search fields depth 24 fits 4000
 
   pub store_word-sure : (n : ℕ) (v : Value) (i x : ℕ) → There o lives n v → SureAnswer o lives n (store_word bare v i x) (store_word (full o) v i x)
   unfolding store_word
-  store_word-sure n v i x h0 = search (fields) depth 24 fits 4000
+  store_word-sure n v i x h0 = search fields depth 24 fits 4000
 
   pub store_byte-sure : (n : ℕ) (v : Value) (i x : ℕ) → There o lives n v → SureAnswer o lives n (store_byte bare v i x) (store_byte (full o) v i x)
   unfolding store_byte
-  store_byte-sure n v i x h0 = search (fields) depth 24 fits 4000
+  store_byte-sure n v i x h0 = search fields depth 24 fits 4000
 
   pub fetch_kind-sure : (n : ℕ) (v : Value) → There o lives n v → SureAnswer o lives n (fetch_kind bare v) (fetch_kind (full o) v)
   unfolding fetch_kind
-  fetch_kind-sure n v h0 = search (fields) depth 24 fits 4000
+  fetch_kind-sure n v h0 = search fields depth 24 fits 4000
 
   pub fetch_size-sure : (n : ℕ) (v : Value) → There o lives n v → SureAnswer o lives n (fetch_size bare v) (fetch_size (full o) v)
   unfolding fetch_size
-  fetch_size-sure n v h0 = search (fields) depth 24 fits 4000
+  fetch_size-sure n v h0 = search fields depth 24 fits 4000
 
   pub fetch_bytes-sure : (n : ℕ) (v : Value) (from i : ℕ) → There o lives n v → SureAnswer o lives n (fetch_bytes bare v from i) (fetch_bytes (full o) v from i)
   unfolding fetch_bytes
@@ -127,21 +127,17 @@ module _ (o : Object) (lives : ℕ → Type 0) where
   store_bytes-sure n v to [] h = search fields depth 24 fits 4000
   store_bytes-sure n v to (b ∷ bs) h = then_unit-sure o lives _ n _ _ _ _ (store_byte-sure n v to b h) (λ j l. store_bytes-sure j v (suc to) bs (later_value o lives n j v l h))
 
-  pub put-sure : (n : ℕ) (c : Value) (at : ℕ) (x : Value) → There o lives n c → There o lives n x → SureAnswer o lives n (put bare c at x) (put (full o) c at x)
-  unfolding put
-  put-sure n c at x h0 h1 = search (fields) depth 24 fits 4000
-
   pub push-sure : (n : ℕ) (x : Value) → There o lives n x → SureAnswer o lives n (push bare x) (push (full o) x)
-  unfolding push
-  push-sure n x h0 = search (fields, put-sure) depth 24 fits 4000
+  unfolding push put
+  push-sure n x h0 = search fields depth 32 fits 4000
 
   pub top-sure : (n : ℕ) → SureValue o lives n (top bare) (top (full o))
   unfolding top
-  top-sure n = search (fields) depth 24 fits 4000
+  top-sure n = search fields depth 24 fits 4000
 
   pub under-sure : (n : ℕ) (k : ℕ) → SureValue o lives n (under bare k) (under (full o) k)
   unfolding under
-  under-sure n k = search (fields) depth 24 fits 4000
+  under-sure n k = search fields depth 24 fits 4000
 
   pub look_at_words-sure : (n : ℕ) (k : ℕ) → SureAnswer o lives n (look_at_words bare k) (look_at_words (full o) k)
   unfolding look_at_words
@@ -149,7 +145,7 @@ module _ (o : Object) (lives : ℕ → Type 0) where
 
   pub drop_words-sure : (n : ℕ) (k : ℕ) → SureAnswer o lives n (drop_words k) (drop_words k)
   unfolding drop_words
-  drop_words-sure n k = search (fields) depth 24 fits 4000
+  drop_words-sure n k = search fields depth 24 fits 4000
 
   pub pop-sure : (n : ℕ) → SureValue o lives n (pop bare) (pop (full o))
   unfolding pop
@@ -157,7 +153,7 @@ module _ (o : Object) (lives : ℕ → Type 0) where
 
   pub literal-sure : (n : ℕ) (v : Value) (i : ℕ) → There o lives n v → SureValue o lives n (literal bare v i) (literal (full o) v i)
   unfolding literal
-  literal-sure n v i h0 = search (fields) depth 24 fits 4000
+  literal-sure n v i h0 = search fields depth 24 fits 4000
 
   pub fetch_method_field-sure : (n : ℕ) (v : Value) (i : ℕ) → There o lives n v → SureValue o lives n (fetch_method_field bare v i) (fetch_method_field (full o) v i)
   unfolding fetch_method_field
@@ -167,17 +163,13 @@ module _ (o : Object) (lives : ℕ → Type 0) where
   unfolding store_method_field
   store_method_field-sure n v i x h k = search fields depth 24 fits 4000
 
-  pub byte_at-sure : (n : ℕ) (v : Value) (ip : ℤ) → There o lives n v → SureAnswer o lives n (byte_at bare v ip) (byte_at (full o) v ip)
-  unfolding byte_at
-  byte_at-sure n v ip h0 = search (fields) depth 24 fits 4000
-
   pub next_byte-sure : (n : ℕ) → SureAnswer o lives n (next_byte bare) (next_byte (full o))
-  unfolding next_byte
-  next_byte-sure n = search (fields, byte_at-sure) depth 24 fits 4000
+  unfolding next_byte byte_at
+  next_byte-sure n = search fields depth 32 fits 4000
 
   pub jump-sure : (n : ℕ) (d : ℤ) → SureAnswer o lives n (jump d) (jump d)
   unfolding jump
-  jump-sure n d = search (fields) depth 24 fits 4000
+  jump-sure n d = search fields depth 24 fits 4000
 
   pub ruleset parts = (fields, fetch_word-sure, fetch_byte-sure, store_word-sure, store_byte-sure, fetch_kind-sure, fetch_size-sure, fetch_bytes-sure, store_bytes-sure, fetch_integer-sure, transfer-sure, push-sure, under-sure, look_at_words-sure, drop_words-sure, top-sure, pop-sure, literal-sure, fetch_method_field-sure, store_method_field-sure, next_byte-sure, jump-sure)
 
@@ -192,7 +184,7 @@ module _ (o : Object) (lives : ℕ → Type 0) where
 
   pub method_header-sure : (n : ℕ) (v : Value) → There o lives n v → SureValue o lives n (method_header bare v) (method_header (full o) v)
   unfolding method_header
-  method_header-sure n v h0 = search (fields) depth 24 fits 4000
+  method_header-sure n v h0 = search fields depth 24 fits 4000
 
   pub literal_from_last-sure : (n : ℕ) (v : Value) (k : ℕ) → There o lives n v → SureValue o lives n (literal_from_last bare v k) (literal_from_last (full o) v k)
   unfolding literal_from_last
@@ -223,17 +215,13 @@ module _ (o : Object) (lives : ℕ → Type 0) where
   stack_place-sure n c (pos i) h = search parts depth 24 fits 4000
   stack_place-sure n c (negsuc i) h = search parts depth 24 fits 4000
 
-  pub context_registers-sure : (n : ℕ) (c : Value) → There o lives n c → SureRegisters o lives n (context_registers bare c) (context_registers (full o) c)
-  unfolding context_registers fetch_stack_pointer
-  context_registers-sure n c h0 = search (parts, home_of-sure, stack_place-sure) depth 40 fits 4000
-
   pub fetch_context_registers-sure : (n : ℕ) (c : Value) → There o lives n c → SureAnswer o lives n (fetch_context_registers bare c) (fetch_context_registers (full o) c)
-  unfolding fetch_context_registers
-  fetch_context_registers-sure n c h0 = search (parts, context_registers-sure) depth 24 fits 4000
+  unfolding fetch_context_registers context_registers fetch_stack_pointer
+  fetch_context_registers-sure n c h0 = search (parts, home_of-sure, stack_place-sure) depth 40 fits 4000
 
   pub store_context_registers-sure : (n : ℕ) → SureAnswer o lives n (store_context_registers bare) (store_context_registers (full o))
   unfolding store_context_registers
-  store_context_registers-sure n = search (parts) depth 24 fits 4000
+  store_context_registers-sure n = search parts depth 24 fits 4000
 
   pub switch-sure : (n : ℕ) (c : Value) → There o lives n c → SureAnswer o lives n (switch bare c) (switch (full o) c)
   unfolding switch
@@ -241,7 +229,7 @@ module _ (o : Object) (lives : ℕ → Type 0) where
 
   pub fill_context-sure : (n : ℕ) (c : Value) (m : Value) (header : Value) → There o lives n c → There o lives n m → SureAnswer o lives n (fill_context bare c m header) (fill_context (full o) c m header)
   unfolding fill_context
-  fill_context-sure n c m header h0 h1 = search (parts) depth 24 fits 4000
+  fill_context-sure n c m header h0 h1 = search parts depth 24 fits 4000
 
   pub new_context-sure : (n : ℕ) (m : Value) (header : Value) → There o lives n m → SureValue o lives n (new_context bare m header) (new_context (full o) m header)
   unfolding new_context
@@ -249,7 +237,7 @@ module _ (o : Object) (lives : ℕ → Type 0) where
 
   pub pass_words-sure : (n : ℕ) (c : Value) (k : ℕ) → There o lives n c → SureAnswer o lives n (pass_words bare c k) (pass_words (full o) c k)
   unfolding pass_words
-  pass_words-sure n c k h0 = search (parts) depth 24 fits 4000
+  pass_words-sure n c k h0 = search parts depth 24 fits 4000
 
   pub activate-sure : (n : ℕ) (m : Value) (header : Value) (k : ℕ) → There o lives n m → SureAnswer o lives n (activate bare m header k) (activate (full o) m header k)
   unfolding activate
@@ -259,7 +247,7 @@ module _ (o : Object) (lives : ℕ → Type 0) where
 
   pub checked_method-sure : (n : ℕ) (v : Value) → There o lives n v → SureOption o lives n (checked_method bare v) (checked_method (full o) v)
   unfolding checked_method
-  checked_method-sure n v h0 = search (headers) depth 24 fits 4000
+  checked_method-sure n v h0 = search headers depth 24 fits 4000
 
   pub method_at-sure : (n : ℕ) (d : Value) (k : ℕ) → There o lives n d → SureOption o lives n (method_at bare d k) (method_at (full o) d k)
   unfolding method_at
@@ -346,11 +334,11 @@ module _ (o : Object) (lives : ℕ → Type 0) where
 
   pub argument_array-sure : (n : ℕ) (k : ℕ) → SureValue o lives n (argument_array bare k) (argument_array (full o) k)
   unfolding argument_array copy_arguments
-  argument_array-sure n k = search (parts) depth 24 fits 4000
+  argument_array-sure n k = search parts depth 24 fits 4000
 
   pub new_message-sure : (n : ℕ) (s : Value) (a : Value) → There o lives n s → There o lives n a → SureValue o lives n (new_message bare s a) (new_message (full o) s a)
   unfolding new_message
-  new_message-sure n s a h0 h1 = search (parts) depth 24 fits 4000
+  new_message-sure n s a h0 h1 = search parts depth 24 fits 4000
 
   pub replace_by_message-sure : (n : ℕ) (s : Value) (k : ℕ) → There o lives n s → SureAnswer o lives n (replace_by_message bare s k) (replace_by_message (full o) s k)
   unfolding replace_by_message
@@ -396,7 +384,7 @@ module _ (o : Object) (lives : ℕ → Type 0) where
 
   pub goes_on-sure : (n : ℕ) (m : Step Births Unit) (m' : Step Births Unit) → SureAnswer o lives n m m' → SureAnswer o lives n (goes_on m) (goes_on m')
   unfolding goes_on
-  goes_on-sure n m m' h0 = search (sures) depth 24 fits 4000
+  goes_on-sure n m m' h0 = search sures depth 24 fits 4000
 
   -- primitives
 
