@@ -14,7 +14,7 @@ use crate::elements::place_of_element;
 use crate::fetching::fetch_element;
 use crate::numbers::fixed_fields;
 use crate::putting::store_element;
-use crate::shapes::{Element, Elements, Putting, Standing, Storing};
+use crate::shapes::{Element, Elements, Placed, Putting, Standing, Storing};
 use crate::storing::unit_of_element;
 use crate::strings::{character_byte, fetch_character};
 use st_frames::{
@@ -181,7 +181,11 @@ fn stream_element<O: Objects>(m: &mut O, r: &Registers, s: Standing) -> Result<A
     ensures plain { IfOk result (λ a. copies_pixels a.deed ≡ false) }
 {
     match s.elements {
-        Elements::Objects => fetch_element(m, r, s.collection, s.place),
+        Elements::Objects => {
+            let object = s.collection;
+            let place = s.place;
+            fetch_element(m, r, Placed { object, place })
+        }
         Elements::Characters => {
             let word = fetch_character(m, r, s.collection, s.place)?;
             Ok(Answer {
