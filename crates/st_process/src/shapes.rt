@@ -35,6 +35,24 @@ pub struct Low {
     pub words: u32,
 }
 
+/// A semaphore, and the object whose first four bytes say when it is to be signalled.
+#[derive(Clone, Copy)]
+pub struct Alarm {
+    /// The semaphore.
+    pub semaphore: Word,
+    /// The object of the bytes.
+    pub bytes: Word,
+}
+
+/// What is set of a device that nothing is seen of.
+#[derive(Clone, Copy)]
+pub enum Setting {
+    /// Whether the cursor is linked to the mouse, which true or false says.
+    CursorLink,
+    /// How often the mouse is looked at, which a SmallInteger says.
+    SampleInterval,
+}
+
 /// What primitive 100 does to the timer.
 #[derive(Clone, Copy)]
 pub enum Timing {

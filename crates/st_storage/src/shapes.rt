@@ -18,6 +18,15 @@ pub struct Indexed {
     pub index: Word,
 }
 
+/// An object, and the place of one of its elements.
+#[derive(Clone, Copy)]
+pub struct Placed {
+    /// The object.
+    pub object: Word,
+    /// The place, counted from 0.
+    pub place: u32,
+}
+
 /// A value, and where it is put.
 #[derive(Clone, Copy)]
 pub struct Put {

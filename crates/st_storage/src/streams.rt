@@ -14,7 +14,7 @@ use crate::elements::place_of_element;
 use crate::fetching::fetch_element;
 use crate::numbers::fixed_fields;
 use crate::putting::store_element;
-use crate::shapes::{Element, Elements, Putting, Standing, Storing};
+use crate::shapes::{Element, Elements, Placed, Putting, Standing, Storing};
 use crate::storing::unit_of_element;
 use crate::strings::{character_byte, fetch_character};
 use st_frames::{
@@ -181,7 +181,11 @@ fn stream_element<O: Objects>(m: &mut O, r: &Registers, s: Standing) -> Result<A
     ensures plain { IfOk result (λ a. copies_pixels a.deed ≡ false) }
 {
     match s.elements {
-        Elements::Objects => fetch_element(m, r, s.collection, s.place),
+        Elements::Objects => {
+            let object = s.collection;
+            let place = s.place;
+            fetch_element(m, r, Placed { object, place })
+        }
         Elements::Characters => {
             let word = fetch_character(m, r, s.collection, s.place)?;
             Ok(Answer {
@@ -219,20 +223,6 @@ fn take_next<O: Objects>(m: &mut O, r: &Registers, s: Standing) -> Result<Answer
     Ok(answer)
 }
 
-/// Answers the next element of a stream.
-#[tactic(auto, using(st_frames::proofs::Doing::rows), unfolding(st_frames::specs::Answering::succeed_by))]
-fn answer_next<O: Objects>(m: &mut O, r: &mut Registers, s: Standing) -> Result<Tried, Dead>
-    requires stands { StandsIn O.Objects.own m.old s }
-    requires room { 3 ≤ O.room m.old }
-    ensures does { RowLeaves O.Objects.own
-        (succeed_by O.names 0 (take_next O.names (word s.stream) (standing_in s)))
-        is_done deed_of_trial m.old r.old result m.new r.new }
-    ensures takes { Takes O.Objects.own 3 m.old m.new }
-{
-    let answer = take_next(m, r, s)?;
-    succeed_leaving(m, r, 0, answer)
-}
-
 /// Primitive 65: the next element of the receiver, a stream, whose position rises by 1.
 #[tactic(auto, using(st_frames::proofs::Tries::effects), unfolding(st_model::specs::Storage::primitive_next))]
 pub fn primitive_next<O: Objects>(m: &mut O, r: &mut Registers) -> Result<Tried, Dead>
@@ -243,7 +233,10 @@ pub fn primitive_next<O: Objects>(m: &mut O, r: &mut Registers) -> Result<Tried,
 {
     let receiver = top(m, r)?;
     match stream_standing(m, r, receiver, 2) {
-        Ok(standing) => answer_next(m, r, standing),
+        Ok(standing) => {
+            let answer = take_next(m, r, standing)?;
+            succeed_leaving(m, r, 0, answer)
+        }
         Err(_) => Ok(Tried::Failed),
     }
 }
