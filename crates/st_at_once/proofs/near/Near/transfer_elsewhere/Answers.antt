@@ -12,8 +12,8 @@ invariant_of-self-else-is_err g c =
     let a = c.args in
     let done = c.transfer_live_fields-done in
     record {
-      near = near_unless (transfer bounded_table a.n (word a.source) a.from (word a.target) a.to) itself done.result
+      near = near_unless (transfer bounded_table a.n (word a.source.object) a.source.index (word a.target.object) a.target.index) itself done.result
           (g.M.Memory.view a.self.now.memory.now) (g.M.Memory.view done.new.m) a.self.now.known
-          (transfer_stays a.n (word a.source) a.from (word a.target) a.to) (search rules) done.ensures.transfers done.ensures.held a.self.now.near;
+          (transfer_stays a.n (word a.source.object) a.source.index (word a.target.object) a.target.index) (search rules) done.ensures.transfers done.ensures.held a.self.now.near;
       places = placed_kept (g.M.Memory.stands a.self.now.memory.now) (g.M.Memory.stands done.new.m) a.self.now.known done.ensures.places a.self.now.places;
     }
