@@ -15,7 +15,7 @@ use Rattle.st_scope.specs.declared.fault.InstallFault.{InstallFault}
 use Rattle.st_scope.specs.declared.fault.InstallFault.TheVariants.{NoClass, NoRoom}
 use Rattle.st_install.specs.Plans.{NewObject, Plan, words_of_all, demand_of_all}
 use Rattle.st_scope.specs.Calls.{or_fault, class_among, class_of_name, as_table, names_seen, names}
-use Rattle.st_install.specs.Calls.{both, is_crowded, room_or, with_room, planned, ready}
+use Rattle.st_install.specs.Calls.{both, is_crowded, room_or, with_room, planned_for, planned, ready}
 use Rattle.st_install.specs.SamePlans.{renamed_objects, renamed_plan, renamed_class, IsLiveClass, renamed_ready, IsLiveReady, as_it_was, IsNameless}
 use Rattle.st_install.specs.Same.{AnswersAlike, HasHeader, ClassShows, NamesShow, ReadyShows}
 use Rattle.st_install.proofs.SameReads.{Shown, lives, name, TransitionAlike, Alike, ValueAlike, ValuesAlike, OptionalAlike, AlikeAnswer, IsLiveAny, any_renamed, then-alike, then_value-alike, then_option-alike, then_answer-alike, answer-alike, tried-alike, tried_value-alike, no_values-alike, joins_alike}
@@ -173,7 +173,7 @@ module _ (z : Shown) where
 
   planned-alike : (v w : Value) (text : List ℕ) (meta : Bool) (parts : PartsView) → ValueAlike z v w → HasHeader parts
       → AlikePlan z (planned births z.births.head v text meta parts) (planned table z.table.head w text meta parts)
-  unfolding planned
+  unfolding planned planned_for
   planned-alike v w text meta parts h e =
       let g = globals-alike in
       let s = symbols-alike in

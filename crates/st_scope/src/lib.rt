@@ -18,7 +18,7 @@ mod sought;
 mod tables;
 mod unread;
 
-pub use classes::{class_association, class_of_name};
+pub use classes::{Owner, class_association, class_of_name, owner_of_name};
 pub use fault::InstallFault;
 pub use naming::names;
 pub use reading::{class_of, count_fields, fetch_field, is_text};

@@ -1,7 +1,6 @@
 -- What the structs of the code mean that say what was found and what is stored.
 use Rattle.std.specs.Prelude.{◌≡◌, ℕ, ◌+◌, ◌<◌, ◌≤◌, Bool, true, false, Ok}
 use Rattle.st_model.specs.declared.kind.Kind.TheVariants as kind
-use Rattle.st_model.specs.declared.word.Word.{Word}
 use Rattle.st_model.specs.Values.{word}
 use Rattle.st_model.specs.Calls.{Reads}
 use Rattle.st_model.specs.Steps.{fetch_field}
@@ -32,8 +31,8 @@ abbrev pub standing_in : CodeStanding → Standing
 standing_in s = record { position = s.position; place = s.place; characters = are_characters s.elements }
 
 -- the collection is that of the stream, and of kind Bytes where its elements are Characters
-pub record StandsIn {M : Type 0} (o : Ghosts M) (m : M) (stream : Word) (s : CodeStanding) : Type 0 where
-  pub collection : Reads (fetch_field o.names (word stream) 0) word (o.table m) (Ok s.collection)
+pub record StandsIn {M : Type 0} (o : Ghosts M) (m : M) (s : CodeStanding) : Type 0 where
+  pub collection : Reads (fetch_field o.names (word s.stream) 0) word (o.table m) (Ok s.collection)
   pub bytes : are_characters s.elements ≡ true → IsOfKind o m s.collection kind.Bytes
 
 abbrev pub putting_in : CodePutting → Putting

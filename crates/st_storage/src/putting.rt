@@ -8,7 +8,7 @@ ghost use Rattle.st_frames.specs.Answering.{IsOfKind, succeed_by, answer_word, a
 ghost use Rattle.st_storage.specs.Storing.{storing_in};
 ghost use Rattle.st_frames.specs.Rows.{RowLeaves, Takes};
 
-use crate::shapes::Storing;
+use crate::shapes::{Indexed, Put, Storing};
 use crate::storing::{storing_behind_fixed, storing_by_index};
 use crate::strings::storing_character;
 use st_frames::{Answer, Registers, succeed_leaving, top, under};
@@ -129,11 +129,12 @@ pub fn primitive_at_put<O: Objects>(m: &mut O, r: &mut Registers) -> Result<Trie
     ensures takes { Takes O.Objects.own 2 m.old m.new }
     ensures still { IfOk result (λ t. is_done t ≡ false → m.new ≡ m.old) }
 {
-    let receiver = under(m, r, 2)?;
+    let object = under(m, r, 2)?;
     let index = under(m, r, 1)?;
     let value = top(m, r)?;
-    match storing_behind_fixed(m, r, receiver, index, value) {
-        Ok(storing) => answer_stored(m, r, receiver, value, storing),
+    let indexed = Indexed { object, index };
+    match storing_behind_fixed(m, r, Put { indexed, value }) {
+        Ok(storing) => answer_stored(m, r, object, value, storing),
         Err(_) => Ok(Tried::Failed),
     }
 }
@@ -149,11 +150,12 @@ pub fn primitive_instance_variable_at_put<O: Objects>(
         is_done deed_of_trial m.old r.old result m.new r.new }
     ensures takes { Takes O.Objects.own 2 m.old m.new }
 {
-    let receiver = under(m, r, 2)?;
+    let object = under(m, r, 2)?;
     let index = under(m, r, 1)?;
     let value = top(m, r)?;
-    match storing_by_index(m, r, receiver, index, value) {
-        Ok(storing) => answer_stored(m, r, receiver, value, storing),
+    let indexed = Indexed { object, index };
+    match storing_by_index(m, r, Put { indexed, value }) {
+        Ok(storing) => answer_stored(m, r, object, value, storing),
         Err(_) => Ok(Tried::Failed),
     }
 }
@@ -166,11 +168,12 @@ pub fn primitive_string_at_put<O: Objects>(m: &mut O, r: &mut Registers) -> Resu
         is_done deed_of_trial m.old r.old result m.new r.new }
     ensures takes { Takes O.Objects.own 2 m.old m.new }
 {
-    let receiver = under(m, r, 2)?;
+    let object = under(m, r, 2)?;
     let index = under(m, r, 1)?;
     let value = top(m, r)?;
-    match storing_character(m, r, receiver, index, value) {
-        Ok(storing) => answer_stored(m, r, receiver, value, storing),
+    let indexed = Indexed { object, index };
+    match storing_character(m, r, Put { indexed, value }) {
+        Ok(storing) => answer_stored(m, r, object, value, storing),
         Err(_) => Ok(Tried::Failed),
     }
 }

@@ -9,7 +9,7 @@ ghost use Rattle.st_frames.specs.Rows.{RowReads};
 
 use crate::elements::{place_at, place_behind_fixed};
 use crate::numbers::byte_or_die;
-use crate::shapes::{Element, Storing};
+use crate::shapes::{Element, Put, Storing};
 use st_frames::{Registers, positive_value};
 use st_memory::Objects;
 use st_model::{Dead, Kind, Word};
@@ -74,35 +74,24 @@ fn storing_at<O: Objects>(
 
 /// A value, to be stored at the place that an index names.
 #[tactic(auto, using(st_frames::proofs::Doing::rows), unfolding(st_model::specs::Storage::storing_by_index))]
-pub fn storing_by_index<O: Objects>(
-    m: &O,
-    r: &Registers,
-    v: Word,
-    index: Word,
-    x: Word,
-) -> Result<Storing, Dead>
-    ensures does { RowReads O.Objects.own (storing_by_index O.names (word v) (word index) (word x))
+pub fn storing_by_index<O: Objects>(m: &O, r: &Registers, put: Put) -> Result<Storing, Dead>
+    ensures does { RowReads O.Objects.own
+        (storing_by_index O.names (word put.indexed.object) (word put.indexed.index) (word put.value))
         storing_in m.now r.now result }
-    ensures kind { IfOk result (λ s. IsOfKind O.Objects.own m.now v s.kind) }
+    ensures kind { IfOk result (λ s. IsOfKind O.Objects.own m.now put.indexed.object s.kind) }
 {
-    let place = place_at(m, r, v, 0, index)?;
-    storing_at(m, r, v, x, place)
+    let place = place_at(m, r, put.indexed, 0)?;
+    storing_at(m, r, put.indexed.object, put.value, place)
 }
 
 /// A value, to be stored at the place that an index names behind the fixed fields.
 #[tactic(auto, using(st_frames::proofs::Doing::rows), unfolding(st_model::specs::Storage::storing_behind_fixed))]
-pub fn storing_behind_fixed<O: Objects>(
-    m: &O,
-    r: &Registers,
-    v: Word,
-    index: Word,
-    x: Word,
-) -> Result<Storing, Dead>
+pub fn storing_behind_fixed<O: Objects>(m: &O, r: &Registers, put: Put) -> Result<Storing, Dead>
     ensures does { RowReads O.Objects.own
-        (storing_behind_fixed O.names (word v) (word index) (word x))
+        (storing_behind_fixed O.names (word put.indexed.object) (word put.indexed.index) (word put.value))
         storing_in m.now r.now result }
-    ensures kind { IfOk result (λ s. IsOfKind O.Objects.own m.now v s.kind) }
+    ensures kind { IfOk result (λ s. IsOfKind O.Objects.own m.now put.indexed.object s.kind) }
 {
-    let place = place_behind_fixed(m, r, v, index)?;
-    storing_at(m, r, v, x, place)
+    let place = place_behind_fixed(m, r, put.indexed)?;
+    storing_at(m, r, put.indexed.object, put.value, place)
 }
