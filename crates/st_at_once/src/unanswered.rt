@@ -49,36 +49,10 @@ fn with_message_at_once<O: Objects>(
     Ok(true)
 }
 
-/// The method for doesNotUnderstand: is activated with a Message, where it is one that is activated and there is room for that.
-/// Answers whether that is so.
-#[tactic(auto, using(crate::proofs::Headers::answers))]
-fn answer_at_once<O: Objects>(
-    m: &mut O,
-    r: &mut Registers,
-    method: Word,
-    sent: Sent,
-) -> Result<bool, Dead>
-    requires room { changes_at_once ≤ O.room m.old }
-    ensures does { RowDoes O.Objects.own
-        (call_not_understood_at_once O.names (word sent.selector) sent.arguments (Some (word method)))
-        itself m.old r.old result m.new r.new }
-    ensures takes { Takes O.Objects.own changes_at_once m.old m.new }
-    ensures still { IsStill O.Objects.own m.old result m.new }
-{
-    let header = match m.method_header(method) {
-        Ok(header) => Header(header),
-        Err(_) => return Ok(false),
-    };
-    if 5 <= header.flag() {
-        return Ok(false);
-    }
-    with_message_at_once(m, r, method, header, sent)
-}
-
 /// The message isn't understood: the method for doesNotUnderstand: is activated with a Message, where there is one, it is one
 /// that is activated, and there is room for that. Answers whether that is so.
 #[inline(never)]
-#[tactic(auto, using(st_frames::proofs::Doing::rows), unfolding(crate::specs::AtOnce::not_understood_at_once, crate::specs::AtOnce::call_not_understood_at_once))]
+#[tactic(auto, using(crate::proofs::Headers::answers), unfolding(crate::specs::AtOnce::not_understood_at_once))]
 pub fn not_understood_at_once<O: Objects>(
     m: &mut O,
     r: &mut Registers,
@@ -92,8 +66,16 @@ pub fn not_understood_at_once<O: Objects>(
     ensures still { IsStill O.Objects.own m.old result m.new }
 {
     let understand = page(m, PageObject::NotUnderstood);
-    match find_method(m, r, sent.class, understand)? {
-        Some(method) => answer_at_once(m, r, method, sent),
-        None => Ok(false),
+    let method = match find_method(m, r, sent.class, understand)? {
+        Some(method) => method,
+        None => return Ok(false),
+    };
+    let header = match m.method_header(method) {
+        Ok(header) => Header(header),
+        Err(_) => return Ok(false),
+    };
+    if 5 <= header.flag() {
+        return Ok(false);
     }
+    with_message_at_once(m, r, method, header, sent)
 }
