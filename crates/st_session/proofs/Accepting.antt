@@ -15,8 +15,6 @@ use Rattle.st_code.specs.Methods.{PartsView, fault, parts_or}
 use Rattle.st_chunk.specs.Definitions.{Definition}
 use Rattle.st_install.specs.declared.preparing.Prepared.{Prepared}
 use Rattle.st_install.specs.Prepareds.{IsPrepared}
-use Rattle.st_install.specs.Syntax.{IsSyntax}
-use Rattle.st_install.proofs.Syntaxes.{is}
 use Rattle.st_changes.specs.Last.{HasSelector}
 use Rattle.st_store.specs.Names.{IsNoFileOf}
 use Rattle.st_protocol.specs.declared.refusal.Refusal.{Refusal}
@@ -50,7 +48,7 @@ of_code tree seen (Some f) parts e = cc
 pub prepared_selector : (v : View) (d : Definition) (p : Prepared) → IsPrepared v d p → HasSelector d.text p.selector.items
 prepared_selector v d p h = record {
   tree = h.tree;
-  means = subst (IsSyntax d.text) h.reads (is d.text);
+  means = h.reads;
   is = of_code h.tree h.seen (fault h.tree h.seen) h.parts h.coded ∙ sym h.selector;
 }
 
