@@ -222,10 +222,12 @@ module _ (head : Head) (class : Value) (meta : Bool) (tree : MethodView) (t : Ta
   pub seen_behind : (chains : Chains) → Reads (lineage table class meta) lineage_of t (Ok chains)
       → (owners : List Oop) → owners ≡ chains.owners.items → (fields : Vec (Vec ℕ)) → Reads (field_names table (values owners)) texts_of t (Ok fields)
       → (sharers : List Oop) → sharers ≡ chains.sharers.items → (tables : Vec Oop) → Reads (pools table (values sharers)) values_of t (Ok tables)
-      → (u : Unread) → Finds (behind_tables (texts_of fields) (values_of tables)) (itself {A = NamesView}) t (Err u) → Finds (names_seen table head class meta tree) (itself {A = NamesView}) t (Err u)
+      → (r : Result Names Unread) (u : Unread) → r ≡ Err u → Finds (behind_tables (texts_of fields) (values_of tables)) (itself {A = NamesView}) t (Err u)
+      → FindsNames tree (names_seen table head class meta tree) t r
   unfolding names_seen
-  seen_behind chains r owners e fields k sharers d tables l u h =
+  seen_behind chains ran owners e fields k sharers d tables l r u q h =
       let named = subst (λ os. Reads (field_names table (values os)) texts_of t (Ok fields)) e k in
       let shared = subst (λ os. Reads (pools table (values os)) values_of t (Ok tables)) d l in
-      then_finds (itself {A = NamesView}) lineage_of t (Err u) _ _ chains r
-      (then_finds (itself {A = NamesView}) texts_of t (Err u) _ _ fields named (then_finds (itself {A = NamesView}) values_of t (Err u) _ _ tables shared h))
+      names_fail tree _ t r u q
+      (then_finds (itself {A = NamesView}) lineage_of t (Err u) _ _ chains ran
+      (then_finds (itself {A = NamesView}) texts_of t (Err u) _ _ fields named (then_finds (itself {A = NamesView}) values_of t (Err u) _ _ tables shared h)))

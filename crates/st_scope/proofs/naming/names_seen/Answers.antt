@@ -48,18 +48,16 @@ pub returns-in_err-check_dictionary : goal.returns-in_err-check_dictionary
 unfolding ◌>>◌
 returns-in_err-check_dictionary g c =
     let k = c.in_err-check_dictionary.field-0.0 in
-    names_fail _ _ _ _ (Dies k) (search rules)
-    (seen_behind _ _ _ _ _ c.in_ok-chains.chains c.in_ok-chains.ensures _ c.deref.ensures.value c.in_ok-fields.fields c.in_ok-fields.ensures _ c.deref-2.ensures.value c.in_ok-tables.tables c.in_ok-tables.ensures (Dies k)
-    (first_dies (itself {A = NamesView}) (itself {A = Unit {0}}) _ (Err (Dies k)) _ _ k refl c.in_err-check_dictionary.ensures))
+    seen_behind _ _ _ _ _ c.in_ok-chains.chains c.in_ok-chains.ensures _ c.deref.ensures.value c.in_ok-fields.fields c.in_ok-fields.ensures _ c.deref-2.ensures.value c.in_ok-tables.tables c.in_ok-tables.ensures _ (Dies k) (search rules)
+    (first_dies (itself {A = NamesView}) (itself {A = Unit {0}}) _ (Err (Dies k)) _ _ k refl c.in_err-check_dictionary.ensures)
 
 pub returns-in_err-check_symbols : goal.returns-in_err-check_symbols
 unfolding ◌>>◌
 returns-in_err-check_symbols g c =
     let k = c.in_err-check_symbols.field-0.0 in
-    names_fail _ _ _ _ (Dies k) (search rules)
-    (seen_behind _ _ _ _ _ c.in_ok-chains.chains c.in_ok-chains.ensures _ c.deref.ensures.value c.in_ok-fields.fields c.in_ok-fields.ensures _ c.deref-2.ensures.value c.in_ok-tables.tables c.in_ok-tables.ensures (Dies k)
+    seen_behind _ _ _ _ _ c.in_ok-chains.chains c.in_ok-chains.ensures _ c.deref.ensures.value c.in_ok-fields.fields c.in_ok-fields.ensures _ c.deref-2.ensures.value c.in_ok-tables.tables c.in_ok-tables.ensures _ (Dies k) (search rules)
     (then_finds (itself {A = NamesView}) (itself {A = Unit {0}}) _ (Err (Dies k)) _ _ c.in_ok-check_dictionary.field-0 c.in_ok-check_dictionary.ensures
-    (first_dies (itself {A = NamesView}) (itself {A = Unit {0}}) _ (Err (Dies k)) _ _ k refl c.in_err-check_symbols.ensures)))
+    (first_dies (itself {A = NamesView}) (itself {A = Unit {0}}) _ (Err (Dies k)) _ _ k refl c.in_err-check_symbols.ensures))
 
 pub returns : goal.returns
 returns g c =
