@@ -8,9 +8,11 @@ use Rattle.st_model.specs.Machine.{ObjectMemory, State, Transition, Died, Went, 
 use Rattle.st_model.specs.Table.{Table}
 use Rattle.st_model.specs.Steps.{of_page, same_value, check, top, under}
 use Rattle.st_model.specs.declared.page.PageObject.TheVariants.{MethodClass}
-use Rattle.st_model.specs.Primitives.{positive_small, bits_or_die}
+use Rattle.st_model.specs.Primitives.{primitive, positive_small, bits_or_die}
 use Rattle.st_model.specs.Storage.{method_shape, new_method, place_to_store, store_in_method, method_words, primitive_new_method, primitive_object_at_put, MethodShape}
 use Rattle.st_frames.specs.Answering.{succeed_by, succeed_with}
+use Rattle.st_storage.specs.Storing.{put_operands}
+use Rattle.st_storage.proofs.PutTries.{ungiven}
 use Rattle.st_frames.proofs.Tries.{primitive-died, primitive-held, primitive-done}
 
 pub tried-object_at_put : (m : ObjectMemory Table) (v w x : Value) (a : ℕ) (s : State Table) (y : Transition (State Table) Bool) → (under m 2).run s ≡ Went v s → (under m 1).run s ≡ Went w s → (top m).run s ≡ Went x s
@@ -18,6 +20,10 @@ pub tried-object_at_put : (m : ObjectMemory Table) (v w x : Value) (a : ℕ) (s 
     → (primitive_object_at_put m).run s ≡ y
 unfolding primitive_object_at_put ◌>>=◌ after
 tried-object_at_put m v w x a s y e0 e1 e2 h k = rw (e0, e1, e2) (primitive-done m 2 (place_to_store m v w x) (λ (a : ℕ). store_in_method m v x a) s a y h k)
+
+pub died-object_at_put : (m : ObjectMemory Table) (k : Dead) (s : State Table) → (put_operands m).run s ≡ Died k → (primitive_object_at_put m).run s ≡ Died k
+unfolding primitive_object_at_put
+died-object_at_put m k s e = ungiven m (λ v w x. primitive m 2 (place_to_store m v w x) (λ a. store_in_method m v x a)) k s e
 
 pub tried-new_method : (m : ObjectMemory Table) (v w x z : Value) (a : MethodShape) (s t : State Table) (y : Transition (State Table) Bool) → (under m 2).run s ≡ Went v s → (under m 1).run s ≡ Went w s → (top m).run s ≡ Went x s
     → (method_shape m v w x).run s ≡ Went a s → (new_method m v a).run s ≡ Went z t → (succeed_with m 2 z).run t ≡ y

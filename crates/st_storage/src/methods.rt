@@ -14,6 +14,7 @@ ghost use Rattle.st_frames.specs.Rows.{RowReads, RowLeaves, Takes};
 use crate::elements::count_literals;
 use crate::numbers::small_word;
 use crate::shapes::{Indexed, MethodShape, Put};
+use crate::storing::put_operands;
 use st_frames::{
     Answer, Registers, bits_or_die, page, positive_small, succeed_leaving, succeed_with, top, under,
 };
@@ -146,22 +147,17 @@ fn store_method_field<O: Objects>(
 
 /// A value that is stored in a Method, as an answer.
 #[tactic(auto, using(st_frames::proofs::Doing::rows), unfolding(st_model::specs::Storage::store_in_method))]
-fn store_in_method<O: Objects>(
-    m: &O,
-    r: &Registers,
-    method: Word,
-    value: Word,
-    i: u32,
-) -> Result<Answer, Dead>
+fn store_in_method<O: Objects>(m: &O, r: &Registers, put: Put, i: u32) -> Result<Answer, Dead>
     requires header { i ≡ 0 → RowReads O.Objects.own
-        (check_header O.names (word method) (word value)) itself m.now r.now (Ok tt) }
+        (check_header O.names (word put.indexed.object) (word put.value)) itself m.now r.now (Ok tt) }
     ensures does { RowLeaves O.Objects.own
-        (store_in_method O.names (word method) (word value) i)
+        (store_in_method O.names (word put.indexed.object) (word put.value) i)
         answer_word answer_deed m.now r.now result m.now r.now }
     ensures plain { IfOk result (λ a. copies_pixels a.deed ≡ false) }
 {
-    let deed = store_method_field(m, r, method, i, value)?;
-    Ok(Answer { word: value, deed })
+    let word = put.value;
+    let deed = store_method_field(m, r, put.indexed.object, i, word)?;
+    Ok(Answer { word, deed })
 }
 
 /// Stores a value in a Method, and answers it.
@@ -169,19 +165,18 @@ fn store_in_method<O: Objects>(
 fn answer_in_method<O: Objects>(
     m: &mut O,
     r: &mut Registers,
-    method: Word,
-    value: Word,
+    put: Put,
     i: u32,
 ) -> Result<Tried, Dead>
     requires header { i ≡ 0 → RowReads O.Objects.own
-        (check_header O.names (word method) (word value)) itself m.old r.old (Ok tt) }
+        (check_header O.names (word put.indexed.object) (word put.value)) itself m.old r.old (Ok tt) }
     requires room { 1 ≤ O.room m.old }
     ensures does { RowLeaves O.Objects.own
-        (succeed_by O.names 2 (store_in_method O.names (word method) (word value) i))
+        (succeed_by O.names 2 (store_in_method O.names (word put.indexed.object) (word put.value) i))
         is_done deed_of_trial m.old r.old result m.new r.new }
     ensures takes { Takes O.Objects.own 1 m.old m.new }
 {
-    let answer = store_in_method(m, r, method, value, i)?;
+    let answer = store_in_method(m, r, put, i)?;
     succeed_leaving(m, r, 2, answer)
 }
 
@@ -193,12 +188,9 @@ pub fn primitive_object_at_put<O: Objects>(m: &mut O, r: &mut Registers) -> Resu
         is_done deed_of_trial m.old r.old result m.new r.new }
     ensures takes { Takes O.Objects.own 1 m.old m.new }
 {
-    let object = under(m, r, 2)?;
-    let index = under(m, r, 1)?;
-    let value = top(m, r)?;
-    let indexed = Indexed { object, index };
-    match place_to_store(m, r, Put { indexed, value }) {
-        Ok(place) => answer_in_method(m, r, object, value, place),
+    let put = put_operands(m, r)?;
+    match place_to_store(m, r, put) {
+        Ok(place) => answer_in_method(m, r, put, place),
         Err(_) => Ok(Tried::Failed),
     }
 }

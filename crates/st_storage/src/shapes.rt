@@ -46,9 +46,13 @@ pub struct Element {
     pub ghost fits: { unit < unit_limit kind },
 }
 
-/// Where an element is stored in an object, and what it is.
+/// Where a value is stored in an object, and what it is as an element of that.
 #[derive(Clone, Copy)]
 pub struct Storing {
+    /// The object.
+    pub object: Word,
+    /// The value.
+    pub value: Word,
     /// The place, counted from 0.
     pub place: u32,
     /// The kind of the object.

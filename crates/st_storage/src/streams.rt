@@ -302,11 +302,13 @@ fn put_next<O: Objects>(m: &mut O, r: &Registers, p: Putting) -> Result<Answer, 
     ensures plain { IfOk result (λ a. copies_pixels a.deed ≡ false) }
 {
     let storing = Storing {
+        object: p.standing.collection,
+        value: p.value,
         place: p.standing.place,
         kind: p.kind,
         unit: p.unit,
     };
-    let deed = store_element(m, r, p.standing.collection, p.value, storing)?;
+    let deed = store_element(m, r, storing)?;
     store_position(m, r, p.standing)?;
     Ok(Answer {
         word: p.value,

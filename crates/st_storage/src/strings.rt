@@ -4,7 +4,7 @@ ghost use Rattle.st_model.specs.Values.{word};
 ghost use Rattle.st_model.specs.Calls.{itself};
 ghost use Rattle.st_model.specs.Storage.{fetch_character, place_in_bytes, character_at, primitive_string_at, character_byte, character_storing_at, storing_character};
 ghost use Rattle.st_frames.specs.Answering.{IsOfKind};
-ghost use Rattle.st_storage.specs.Storing.{storing_in};
+ghost use Rattle.st_storage.specs.Storing.{storing_in, IsStoringOf};
 ghost use Rattle.st_model.specs.Deeds.{is_done, deed_of_trial};
 ghost use Rattle.st_frames.specs.Rows.{RowReads, RowLeaves, Takes};
 
@@ -78,12 +78,15 @@ pub fn storing_character<O: Objects>(m: &O, r: &Registers, put: Put) -> Result<S
     ensures does { RowReads O.Objects.own
         (storing_character O.names (word put.indexed.object) (word put.indexed.index) (word put.value))
         storing_in m.now r.now result }
-    ensures kind { IfOk result (λ s. IsOfKind O.Objects.own m.now put.indexed.object s.kind) }
+    ensures of { IfOk result (IsStoringOf put) }
+    ensures kind { IfOk result (λ s. IsOfKind O.Objects.own m.now s.object s.kind) }
 {
     let place = place_in_bytes(m, r, put.indexed)?;
     let byte = character_byte(m, r, put.value)?;
     let unit = u16::from(byte);
     Ok(Storing {
+        object: put.indexed.object,
+        value: put.value,
         place,
         kind: Kind::Bytes,
         unit,

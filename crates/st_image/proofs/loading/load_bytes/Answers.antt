@@ -14,10 +14,10 @@ loop-i-init g c = puts_same (g.L.Loader.loaded c.args.loader.now) c.args.k (fill
 
 pub bounds-image-start : goal.bounds-image-start
 bounds-image-start g c =
-    let a = bytes_range c.args.image.now.head c.args.image.now.bytes.now c.args.k c.requires.sound c.requires.kind in
+    let a = bytes_range c.args.image.now.head c.args.image.now.bytes.now c.args.k c.requires.shape.sound c.requires.kind in
     let f = c.requires.shape.fields in
     let u = c.requires.shape.units in
-    let s = c.requires.sound.inside.space in
+    let s = c.requires.shape.sound.inside.space in
     omega arith
 
 pub set_byte-requires : goal.set_byte-requires

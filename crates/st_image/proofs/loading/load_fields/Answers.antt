@@ -10,7 +10,7 @@ pub loop-i-init : goal.loop-i-init
 loop-i-init g c = puts_same (g.L.Loader.loaded c.args.loader.now) c.args.k (fresh_in c.args.image.now.head c.args.image.now.bytes.now c.args.k) c.requires.at
 
 pub body-requires-clause-range : goal.body-requires-clause-range
-body-requires-clause-range g c = let a = fields_range c.args.image.now.head c.args.image.now.bytes.now c.args.k c.requires.sound in let b = c.requires.shape.fields in omega arith
+body-requires-clause-range g c = let a = fields_range c.args.image.now.head c.args.image.now.bytes.now c.args.k c.requires.shape.sound in let b = c.requires.shape.fields in omega arith
 
 pub set_pointer-requires : goal.set_pointer-requires
 set_pointer-requires g c =
@@ -23,7 +23,7 @@ set_pointer-requires g c =
       range = rw there (omega arith);
       header =
           rw (there, c.body.ensures)
-          (header_is c.args.image.now.head c.args.image.now.bytes.now c.args.k c.loop-i.i (with_fields (fresh_in c.args.image.now.head c.args.image.now.bytes.now c.args.k) (field_in c.args.image.now.head c.args.image.now.bytes.now c.args.k) c.loop-i.i) c.requires.sound ((with_fields-rest (fresh_in c.args.image.now.head c.args.image.now.bytes.now c.args.k) (field_in c.args.image.now.head c.args.image.now.bytes.now c.args.k) c.loop-i.i).1 ∙ (fresh_in-class c.args.image.now.head c.args.image.now.bytes.now c.args.k).1) l);
+          (header_is c.args.image.now.head c.args.image.now.bytes.now c.args.k c.loop-i.i (with_fields (fresh_in c.args.image.now.head c.args.image.now.bytes.now c.args.k) (field_in c.args.image.now.head c.args.image.now.bytes.now c.args.k) c.loop-i.i) c.requires.shape.sound ((with_fields-rest (fresh_in c.args.image.now.head c.args.image.now.bytes.now c.args.k) (field_in c.args.image.now.head c.args.image.now.bytes.now c.args.k) c.loop-i.i).1 ∙ (fresh_in-class c.args.image.now.head c.args.image.now.bytes.now c.args.k).1) l);
     }
 
 pub loop-i-preserved : goal.loop-i-preserved

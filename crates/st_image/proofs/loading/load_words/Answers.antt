@@ -11,7 +11,7 @@ pub loop-i-init : goal.loop-i-init
 loop-i-init g c = puts_same (g.L.Loader.loaded c.args.loader.now) c.args.k (filled_in c.args.image.now.head c.args.image.now.bytes.now c.args.k) c.requires.at
 
 pub body-requires-clause-range : goal.body-requires-clause-range
-body-requires-clause-range g c = let a = units_range c.args.image.now.head c.args.image.now.bytes.now c.args.k c.requires.sound c.requires.kind in let b = c.requires.shape.units in omega arith
+body-requires-clause-range g c = let a = units_range c.args.image.now.head c.args.image.now.bytes.now c.args.k c.requires.shape.sound c.requires.kind in let b = c.requires.shape.units in omega arith
 
 pub set_word-requires : goal.set_word-requires
 set_word-requires g c =
