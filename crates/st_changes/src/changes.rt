@@ -133,7 +133,8 @@ impl Changes {
         selector: Option<Text>,
     ) -> Result<(), AllocError>
         requires good { IsDefinition (definition_of definition.now) }
-        requires finds { FindsSelector (definition_of definition.now).text (option_map (λ v. v.items) selector) }
+        requires finds { FindsSelector (definition_of definition.now).text
+            (option_map (λ v. v.items) selector) }
         ensures named { self.new.name ≡ self.old.name }
         ensures second { self.new.second ≡ self.old.second }
         ensures listed { self.new.listed ≡ self.old.listed }

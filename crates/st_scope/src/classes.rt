@@ -54,7 +54,8 @@ fn owner_named<M: Memory>(m: &M, globals: Oop, name: &[u8], meta: bool) -> Resul
     ensures class { let t = (M.view m.now).objects in
         Reads (class_named table (value globals) name.now meta) class_of_owner t result }
     ensures association { let t = (M.view m.now).objects in
-        IfOk result (λ o. Reads (class_association table (value globals) name.now) value t (Ok o.association)) }
+        IfOk result (λ o. Reads (class_association table (value globals) name.now) value t
+        (Ok o.association)) }
     ensures known { IfOk result (λ o. IsKnown (M.view m.now).objects (value o.class)) }
     ensures side { IfOk result (λ o. o.meta ≡ meta) }
 {
