@@ -1,7 +1,7 @@
 //! Definitions of methods: what comes of one is that it is installed in an image, or refused with its cause (`define`).
 //! `owner_of_name` finds its class, `names` the names that its method sees, `ready_for` says whether the method can be installed and
-//! makes the plan of that, and `install` carries the plan out. `install_shows_births` is the law that joins all of them over a
-//! table to the same over births, and `install_gains` the one of what is found afterwards.
+//! makes the plan of that, and `install` carries the plan out. `install_shows_births` is the law that joins `class_of_name`, `names`,
+//! `ready` and `install` over a table to the same over births, and `install_gains` the one of what is found afterwards.
 #![tactic(auto)]
 
 mod defining;

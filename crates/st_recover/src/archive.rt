@@ -93,8 +93,8 @@ impl Archive {
         &self.changes
     }
 
-    /// Keeps a definition, of which the selector is known: its entry stands in the changes file, synced. `TooLarge` comes where the entry would take the file
-    /// past 2^30 bytes, and `OutOfMemory` where there is no memory: then nothing was done, since all memory is taken before the
+    /// Keeps a definition, whose selector is handed over: its entry stands in the changes file, synced. `TooLarge` comes where the
+    /// entry would take the file past 2^30 bytes, and `OutOfMemory` where there is no memory: then nothing was done, since all memory is taken before the
     /// first write, and the archive is as before. After `DiskFault` the store has the definition or it hasn't, and is closed.
     pub fn accept<H: Host>(
         &mut self,
