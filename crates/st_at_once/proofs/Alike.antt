@@ -9,7 +9,6 @@ use Rattle.st_model.specs.declared.bytecode.Constant.TheVariants as constant
 use Rattle.st_model.specs.declared.integers.IntAnswer.{IntAnswer}
 use Rattle.st_model.specs.declared.integers.IntAnswer.TheVariants.{Number, Truth, Point}
 use Rattle.st_model.specs.Values.{Value, Small, Ref}
-use Rattle.st_model.specs.declared.page.PageObject.{PageObject}
 use Rattle.st_model.specs.Machine.{ObjectMemory, Registers, is_there}
 use Rattle.st_model.specs.Steps.{registers_set, set_registers, of_page, class_of, fetch_field, store_field, fetch_integer, count_fields, transfer, put, push, under, top, pop, literal, byte_at, next_byte}
 use Rattle.st_model.specs.Contexts.{home_by, home_of, stack_place, fetch_stack_pointer, context_registers, fetch_context_registers, store_context_registers, switch}
@@ -69,12 +68,9 @@ module _ {m : ObjectMemory Table} (h : IsTabular m) where
   unfolding pop
   pop-is = rw top-is refl
 
-  push-as : (x : Value) → push m x ≡ push table x
-  unfolding push put
-  push-as x = rw (count-is, store-is) refl
-
   pub push-is : push m ≡ push table
-  push-is = fun_ext push-as
+  unfolding push put
+  push-is = fun_ext (λ x. rw (count-is, store-is) refl)
 
   -- operands
 
@@ -105,19 +101,13 @@ module _ {m : ObjectMemory Table} (h : IsTabular m) where
   constant_value-as constant.One = refl
   constant_value-as constant.Two = refl
 
-  push_operand-as : (o : Operand) → push_operand m o ≡ push_operand table o
-  unfolding push_operand
-  push_operand-as o = rw (fetch_operand-as o, push-is) refl
-
   pub push_operand-is : push_operand m ≡ push_operand table
-  push_operand-is = fun_ext push_operand-as
-
-  store_and_pop-as : (o : Operand) → store_and_pop m o ≡ store_and_pop table o
-  unfolding store_and_pop
-  store_and_pop-as o = rw (pop-is, store_operand-is) refl
+  unfolding push_operand
+  push_operand-is = fun_ext (λ o. rw (fetch_operand-as o, push-is) refl)
 
   pub store_and_pop-is : store_and_pop m ≡ store_and_pop table
-  store_and_pop-is = fun_ext store_and_pop-as
+  unfolding store_and_pop
+  store_and_pop-is = fun_ext (λ o. rw (pop-is, store_operand-is) refl)
 
   -- primitives
 
@@ -126,12 +116,9 @@ module _ {m : ObjectMemory Table} (h : IsTabular m) where
   pop_words-as zero = refl
   pop_words-as (suc n) = rw (pop-is, pop_words-as n) refl
 
-  answer_with-as : (n : ℕ) (v : Value) → answer_with m n v ≡ answer_with table n v
-  unfolding answer_with
-  answer_with-as n v = rw (fun_ext pop_words-as, push-is) refl
-
   pub answer_with-is : answer_with m ≡ answer_with table
-  answer_with-is = fun_ext (λ n. fun_ext (λ v. answer_with-as n v))
+  unfolding answer_with
+  answer_with-is = fun_ext (λ n. fun_ext (λ v. rw (fun_ext pop_words-as, push-is) refl))
 
   truth-as : (b : Bool) → truth m b ≡ truth table b
   unfolding truth
@@ -141,12 +128,9 @@ module _ {m : ObjectMemory Table} (h : IsTabular m) where
   truth-is : truth m ≡ truth table
   truth-is = fun_ext truth-as
 
-  replace-as : (v : Value) → replace_pair m v ≡ replace_pair table v
-  unfolding replace_pair
-  replace-as v = rw push-is refl
-
   replace-is : replace_pair m ≡ replace_pair table
-  replace-is = fun_ext replace-as
+  unfolding replace_pair
+  replace-is = fun_ext (λ v. rw push-is refl)
 
   answered-as : (a : Option IntAnswer) → answered_at_once m a ≡ answered_at_once table a
   unfolding answered_at_once
@@ -158,12 +142,9 @@ module _ {m : ObjectMemory Table} (h : IsTabular m) where
   answered-is : answered_at_once m ≡ answered_at_once table
   answered-is = fun_ext answered-as
 
-  argument-as : (n : ℕ) (receiver : ℤ) → argument_answer m n receiver ≡ argument_answer table n receiver
-  unfolding argument_answer integer_under
-  argument-as n receiver = rw under-is refl
-
   argument-is : argument_answer m ≡ argument_answer table
-  argument-is = fun_ext (λ n. fun_ext (λ receiver. argument-as n receiver))
+  unfolding argument_answer integer_under
+  argument-is = fun_ext (λ n. fun_ext (λ receiver. rw under-is refl))
 
   arithmetic_by-as : (k : ℕ) (v : Value) → arithmetic_at_once_by m k v ≡ arithmetic_at_once_by table k v
   unfolding arithmetic_at_once_by
@@ -183,12 +164,9 @@ module _ {m : ObjectMemory Table} (h : IsTabular m) where
 
   -- contexts
 
-  integer-as : (v : Value) (i : ℕ) → fetch_integer m v i ≡ fetch_integer table v i
-  unfolding fetch_integer
-  integer-as v i = rw field-is refl
-
   pub integer-is : fetch_integer m ≡ fetch_integer table
-  integer-is = fun_ext (λ v. fun_ext (λ i. integer-as v i))
+  unfolding fetch_integer
+  integer-is = fun_ext (λ v. fun_ext (λ i. rw field-is refl))
 
   home_by-as : (c v : Value) → home_by m c v ≡ home_by table c v
   unfolding home_by
@@ -220,28 +198,19 @@ module _ {m : ObjectMemory Table} (h : IsTabular m) where
   set_registers-is : set_registers m ≡ set_registers table
   set_registers-is = fun_ext set_registers-as
 
-  fetch_registers-as : (c : Value) → fetch_context_registers m c ≡ fetch_context_registers table c
-  unfolding fetch_context_registers context_registers home_of fetch_stack_pointer
-  fetch_registers-as c = rw (field-is, integer-is, home_by-is, stack_place-is, set_registers-is) refl
-
   fetch_registers-is : fetch_context_registers m ≡ fetch_context_registers table
-  fetch_registers-is = fun_ext fetch_registers-as
-
-  switch-as : (c : Value) → switch m c ≡ switch table c
-  unfolding switch store_context_registers
-  switch-as c = rw (store-is, fetch_registers-is) refl
+  unfolding fetch_context_registers context_registers home_of fetch_stack_pointer
+  fetch_registers-is = fun_ext (λ c. rw (field-is, integer-is, home_by-is, stack_place-is, set_registers-is) refl)
 
   pub switch-is : switch m ≡ switch table
-  switch-is = fun_ext switch-as
+  unfolding switch store_context_registers
+  switch-is = fun_ext (λ c. rw (store-is, fetch_registers-is) refl)
 
   -- blocks
 
-  start_of-as : (block : Value) (n : ℕ) → start_of m block n ≡ start_of table block n
-  unfolding start_of check_class
-  start_of-as block n = rw (class-is, page-is, count-is, field-is, integer-is) refl
-
   start_of-is : start_of m ≡ start_of table
-  start_of-is = fun_ext (λ block. fun_ext (λ n. start_of-as block n))
+  unfolding start_of check_class
+  start_of-is = fun_ext (λ block. fun_ext (λ n. rw (class-is, page-is, count-is, field-is, integer-is) refl))
 
   value_if_any-as : (block : Value) (n : ℕ) (first : Option ℤ) → value_if_any m block n first ≡ value_if_any table block n first
   unfolding value_if_any value_with_words enter_block
@@ -261,30 +230,18 @@ module _ {m : ObjectMemory Table} (h : IsTabular m) where
 
   -- jumps and returns
 
-  jump_on-as : (wanted other : PageObject) (d : ℤ) → jump_at_once m wanted other d ≡ jump_at_once table wanted other d
-  unfolding jump_at_once
-  jump_on-as wanted other d = rw (pop-is, page-is) refl
-
   pub jump_on-is : jump_at_once m ≡ jump_at_once table
-  jump_on-is = fun_ext (λ wanted. fun_ext (λ other. fun_ext (λ d. jump_on-as wanted other d)))
-
-  return_to-as : (c v : Value) → return_at_once m c v ≡ return_at_once table c v
-  unfolding return_at_once return_to_context_at_once return_into
-  return_to-as c v = rw (page-is, field-is, store-is, fetch_registers-is, push-is) refl
+  unfolding jump_at_once
+  jump_on-is = fun_ext (λ wanted. fun_ext (λ other. fun_ext (λ d. rw (pop-is, page-is) refl)))
 
   return_to-is : return_at_once m ≡ return_at_once table
-  return_to-is = fun_ext (λ c. fun_ext (λ v. return_to-as c v))
-
-  sender-as : (v : Value) → return_to_sender_at_once m v ≡ return_to_sender_at_once table v
-  unfolding return_to_sender_at_once
-  sender-as v = rw (field-is, return_to-is) refl
+  unfolding return_at_once return_to_context_at_once return_into
+  return_to-is = fun_ext (λ c. fun_ext (λ v. rw (page-is, field-is, store-is, fetch_registers-is, push-is) refl))
 
   pub sender-is : return_to_sender_at_once m ≡ return_to_sender_at_once table
-  sender-is = fun_ext sender-as
-
-  caller-as : (v : Value) → return_to_caller_at_once m v ≡ return_to_caller_at_once table v
-  unfolding return_to_caller_at_once
-  caller-as v = rw (field-is, return_to-is) refl
+  unfolding return_to_sender_at_once
+  sender-is = fun_ext (λ v. rw (field-is, return_to-is) refl)
 
   pub caller-is : return_to_caller_at_once m ≡ return_to_caller_at_once table
-  caller-is = fun_ext caller-as
+  unfolding return_to_caller_at_once
+  caller-is = fun_ext (λ v. rw (field-is, return_to-is) refl)

@@ -109,12 +109,9 @@ module _ {m : ObjectMemory Table} (h : IsTabular m) where
   unfolding storing_at
   storing_at-as v x i = rw (unit-as v x) refl
 
-  storing-as : (v index x : Value) → storing_behind_fixed m v index x ≡ storing_behind_fixed table v index x
-  unfolding storing_behind_fixed
-  storing-as v index x = rw (place-as v index, fun_ext (storing_at-as v x)) refl
-
   storing-is : storing_behind_fixed m ≡ storing_behind_fixed table
-  storing-is = fun_ext (λ v. fun_ext (λ index. fun_ext (λ x. storing-as v index x)))
+  unfolding storing_behind_fixed
+  storing-is = fun_ext (λ v. fun_ext (λ index. fun_ext (λ x. rw (place-as v index, fun_ext (storing_at-as v x)) refl)))
 
   store_by-as : (v : Value) (i : ℕ) (x : Value) (unit : ℕ) (k : Kind) → store_by m v i x unit k ≡ store_by table v i x unit k
   unfolding store_by
@@ -127,12 +124,9 @@ module _ {m : ObjectMemory Table} (h : IsTabular m) where
   unfolding store_element
   store_element-as v i x unit = rw (kind-as v, fun_ext (store_by-as v i x unit)) refl
 
-  answering-as : (v x : Value) (s : Storing) → store_and_answer m v x s ≡ store_and_answer table v x s
-  unfolding store_and_answer
-  answering-as v x s = rw (store_element-as v s.place x s.unit) refl
-
   answering-is : store_and_answer m ≡ store_and_answer table
-  answering-is = fun_ext (λ v. fun_ext (λ x. fun_ext (λ s. answering-as v x s)))
+  unfolding store_and_answer
+  answering-is = fun_ext (λ v. fun_ext (λ x. fun_ext (λ s. rw (store_element-as v s.place x s.unit) refl)))
 
   pub at_put-is : primitive_at_put m ≡ primitive_at_put table
   unfolding primitive_at_put

@@ -62,12 +62,9 @@ module _ {m : ObjectMemory Table} (h : IsTabular m) where
   link_first-is : link_first m ≡ link_first table
   link_first-is = fun_ext (λ p. fun_ext (λ l. fun_ext (λ b. link_first-as p l b)))
 
-  add_last-as : (p l : Value) → add_last m p l ≡ add_last table p l
-  unfolding add_last
-  add_last-as p l = rw (field-is h, page-is h, link_first-is, store-is h) refl
-
   add_last-is : add_last m ≡ add_last table
-  add_last-is = fun_ext (λ p. fun_ext (λ l. add_last-as p l))
+  unfolding add_last
+  add_last-is = fun_ext (λ p. fun_ext (λ l. rw (field-is h, page-is h, link_first-is, store-is h) refl))
 
   unlink_first-as : (p l nil : Value) (b : Bool) → unlink_first m p l nil b ≡ unlink_first table p l nil b
   unfolding unlink_first
@@ -77,28 +74,19 @@ module _ {m : ObjectMemory Table} (h : IsTabular m) where
   unlink_first-is : unlink_first m ≡ unlink_first table
   unlink_first-is = fun_ext (λ p. fun_ext (λ l. fun_ext (λ nil. fun_ext (λ b. unlink_first-as p l nil b))))
 
-  take_first-as : (l : Value) → take_first m l ≡ take_first table l
-  unfolding take_first
-  take_first-as l = rw (field-is h, page-is h, unlink_first-is, store-is h) refl
-
   take_first-is : take_first m ≡ take_first table
-  take_first-is = fun_ext take_first-as
+  unfolding take_first
+  take_first-is = fun_ext (λ l. rw (field-is h, page-is h, unlink_first-is, store-is h) refl)
 
   -- who goes on
 
-  sleep-as : (p : Value) → sleep m p ≡ sleep table p
-  unfolding sleep
-  sleep-as p = rw (integer-is h, ready_lists-is, field-is h, add_last-is) refl
-
   sleep-is : sleep m ≡ sleep table
-  sleep-is = fun_ext sleep-as
-
-  let_wait-as : (p : Value) → let_wait m p ≡ let_wait table p
-  unfolding let_wait
-  let_wait-as p = rw change_world-is refl
+  unfolding sleep
+  sleep-is = fun_ext (λ p. rw (integer-is h, ready_lists-is, field-is h, add_last-is) refl)
 
   let_wait-is : let_wait m ≡ let_wait table
-  let_wait-is = fun_ext let_wait-as
+  unfolding let_wait
+  let_wait-is = fun_ext (λ p. rw change_world-is refl)
 
   resume_over-as : (p active : Value) (b : Bool) → resume_over m p active b ≡ resume_over table p active b
   unfolding resume_over
@@ -108,19 +96,13 @@ module _ {m : ObjectMemory Table} (h : IsTabular m) where
   resume_over-is : resume_over m ≡ resume_over table
   resume_over-is = fun_ext (λ p. fun_ext (λ active. fun_ext (λ b. resume_over-as p active b)))
 
-  resume-as : (p : Value) → resume m p ≡ resume table p
-  unfolding resume
-  resume-as p = rw (integer-is h, active_process-is, resume_over-is) refl
-
   resume-is : resume m ≡ resume table
-  resume-is = fun_ext resume-as
-
-  go_on_with-as : (l : Value) → go_on_with m l ≡ go_on_with table l
-  unfolding go_on_with
-  go_on_with-as l = rw (take_first-is, let_wait-is) refl
+  unfolding resume
+  resume-is = fun_ext (λ p. rw (integer-is h, active_process-is, resume_over-is) refl)
 
   go_on_with-is : go_on_with m ≡ go_on_with table
-  go_on_with-is = fun_ext go_on_with-as
+  unfolding go_on_with
+  go_on_with-is = fun_ext (λ l. rw (take_first-is, let_wait-is) refl)
 
   highest-as : (lists : Value) (n : ℕ) → highest_goes_on m lists n ≡ highest_goes_on table lists n
   unfolding highest_goes_on
@@ -136,26 +118,17 @@ module _ {m : ObjectMemory Table} (h : IsTabular m) where
 
   -- semaphores
 
-  add_excess-as : (s : Value) → add_excess m s ≡ add_excess table s
-  unfolding add_excess
-  add_excess-as s = rw (integer-is h, store-is h) refl
-
   add_excess-is : add_excess m ≡ add_excess table
-  add_excess-is = fun_ext add_excess-as
-
-  wake_first-as : (s : Value) → wake_first m s ≡ wake_first table s
-  unfolding wake_first
-  wake_first-as s = rw (take_first-is, resume-is) refl
+  unfolding add_excess
+  add_excess-is = fun_ext (λ s. rw (integer-is h, store-is h) refl)
 
   wake_first-is : wake_first m ≡ wake_first table
-  wake_first-is = fun_ext wake_first-as
-
-  signal-as : (s : Value) → signal m s ≡ signal table s
-  unfolding signal
-  signal-as s = rw (field-is h, page-is h, add_excess-is, wake_first-is) refl
+  unfolding wake_first
+  wake_first-is = fun_ext (λ s. rw (take_first-is, resume-is) refl)
 
   signal-is : signal m ≡ signal table
-  signal-is = fun_ext signal-as
+  unfolding signal
+  signal-is = fun_ext (λ s. rw (field-is h, page-is h, add_excess-is, wake_first-is) refl)
 
   wait_in-as : (s : Value) → wait_in m s ≡ wait_in table s
   unfolding wait_in
@@ -184,12 +157,9 @@ module _ {m : ObjectMemory Table} (h : IsTabular m) where
   pub primitive-is : (A : Type 0) → primitive {H = Table} {A = A} m ≡ primitive {H = Table} {A = A} table
   primitive-is A = fun_ext (λ n. fun_ext (λ conditions. fun_ext (λ effect. primitive-as A n conditions effect)))
 
-  check_fields-as : (v : Value) (n : ℕ) → check_fields m v n ≡ check_fields table v n
-  unfolding check_fields
-  check_fields-as v n = rw (count-is h) refl
-
   check_fields-is : check_fields m ≡ check_fields table
-  check_fields-is = fun_ext (λ v. fun_ext (λ n. check_fields-as v n))
+  unfolding check_fields
+  check_fields-is = fun_ext (λ v. fun_ext (λ n. rw (count-is h) refl))
 
   primitive_signal-is : primitive_signal m ≡ primitive_signal table
   unfolding primitive_signal signal_and_answer
@@ -207,12 +177,9 @@ module _ {m : ObjectMemory Table} (h : IsTabular m) where
   unfolding primitive_suspend check_active suspend_and_answer
   primitive_suspend-is = rw (top-is h, primitive-is (Unit {0}), active_process-is, suspend-is, page-is h) refl
 
-  processes-as : (k n : ℕ) → processes m k n ≡ processes table k n
-  unfolding processes
-  processes-as k n = rw (primitive_signal-is, primitive_wait-is, primitive_resume-is, primitive_suspend-is) refl
-
   pub processes-is : processes m ≡ processes table
-  processes-is = fun_ext (λ k. fun_ext (λ n. processes-as k n))
+  unfolding processes
+  processes-is = fun_ext (λ k. fun_ext (λ n. rw (primitive_signal-is, primitive_wait-is, primitive_resume-is, primitive_suspend-is) refl))
 
   pub method_primitive-as : (v : Value) → method_primitive m v ≡ method_primitive table v
   unfolding method_primitive

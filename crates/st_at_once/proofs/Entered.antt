@@ -58,12 +58,9 @@ search_from-as d v places start = rw (look_at_places-as d v 0 places (answer Non
 search_from-is : (d v : Value) → search_from bounded_table d v ≡ search_from table d v
 search_from-is d v = fun_ext (λ places. fun_ext (λ start. search_from-as d v places start))
 
-search_dictionary-as : (d v : Value) (places : ℕ) → search_dictionary bounded_table d v places ≡ search_dictionary table d v places
-unfolding search_dictionary
-search_dictionary-as d v places = rw (half_word-is, search_from-is d v) refl
-
 search_dictionary-is : search_dictionary bounded_table ≡ search_dictionary table
-search_dictionary-is = fun_ext (λ d. fun_ext (λ v. fun_ext (λ places. search_dictionary-as d v places)))
+unfolding search_dictionary
+search_dictionary-is = fun_ext (λ d. fun_ext (λ v. fun_ext (λ places. rw (half_word-is, search_from-is d v) refl)))
 
 or_above-as : (class : Value) (x : Option Value) (o : Value → Step Table (Option Value)) → or_above bounded_table class x o ≡ or_above table class x o
 unfolding or_above
@@ -122,19 +119,13 @@ context_alike : (s : State Table) (c : ℕ) (header : Value) → space s ≡ tru
 unfolding new_object make make_named
 context_alike s c header h = made_alike _ s _ _ (has_space s c header h)
 
-fill-as : (context method header : Value) → fill_context bounded_table context method header ≡ fill_context table context method header
-unfolding fill_context
-fill-as context method header = rw (store-is bounded_tabular) refl
-
 pub fill-is : fill_context bounded_table ≡ fill_context table
-fill-is = fun_ext (λ context. fun_ext (λ method. fun_ext (λ header. fill-as context method header)))
-
-pass-as : (context : Value) (n : ℕ) → pass_words bounded_table context n ≡ pass_words table context n
-unfolding pass_words
-pass-as context n = rw (transfer-is bounded_tabular) refl
+unfolding fill_context
+fill-is = fun_ext (λ context. fun_ext (λ method. fun_ext (λ header. rw (store-is bounded_tabular) refl)))
 
 pub pass-is : pass_words bounded_table ≡ pass_words table
-pass-is = fun_ext (λ context. fun_ext (λ n. pass-as context n))
+unfolding pass_words
+pass-is = fun_ext (λ context. fun_ext (λ n. rw (transfer-is bounded_tabular) refl))
 
 enter_alike : (s : State Table) (method header : Value) (n : ℕ) → space s ≡ true → (enter_context bounded_table method header n).run s ≡ (enter_context table method header n).run s
 unfolding enter_context new_context of_page ◌>>=◌ ◌>>◌ after answer
@@ -158,9 +149,6 @@ look-as : (n : ℕ) → look_at_words bounded_table n ≡ look_at_words table n
 unfolding look_at_words
 look-as n = rw (under-is bounded_tabular, top-is bounded_tabular) refl
 
-activate-as : (method header : Value) (n : ℕ) → activate_at_once bounded_table method header n ≡ activate_at_once table method header n
-unfolding activate_at_once
-activate-as method header n = rw (look-as n, enters-as method header n) refl
-
 pub activate-is : activate_at_once bounded_table ≡ activate_at_once table
-activate-is = fun_ext (λ method. fun_ext (λ header. fun_ext (λ n. activate-as method header n)))
+unfolding activate_at_once
+activate-is = fun_ext (λ method. fun_ext (λ header. fun_ext (λ n. rw (look-as n, enters-as method header n) refl)))

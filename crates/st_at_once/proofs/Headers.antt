@@ -1,5 +1,5 @@
 -- The method for doesNotUnderstand: by its header.
-use Rattle.std.proofs.Common.{◌≡◌, ◌<◌, ◌≤◌, ℕ, Some, Bool, true, false, ap, ◌∙◌, arith}
+use Rattle.std.proofs.Common.{◌≡◌, ◌<◌, ◌≤◌, ℕ, Some, None, Bool, true, false, refl, ap, ◌∙◌, arith}
 use Rattle.std.specs.Prelude.{nat_lt, if◌then◌else◌}
 use Rattle.std.proofs.lemmas.Bool.Decides.{nat_tests}
 use Rattle.st_model.specs.declared.dead.Dead.{Dead}
@@ -39,4 +39,9 @@ module _ (m : ObjectMemory Table) (method selector : Value) (n : ℕ) (s : State
   unfolding call_not_understood_at_once answer_at_once ◌>>=◌ after answer
   by-none cause e = ap (λ o. after o (λ x t. (answer_at_once m method selector n x).run t)) (run-tried_died (method_header m method) s cause e)
 
-pub ruleset answers = (rows, by-few, by-more, by-none)
+-- without one
+pub by-absent : (m : ObjectMemory Table) (selector : Value) (n : ℕ) (s : State Table) → (call_not_understood_at_once m selector n None).run s ≡ Went false s
+unfolding call_not_understood_at_once answer
+by-absent m selector n s = refl
+
+pub ruleset answers = (rows, by-few, by-more, by-none, by-absent)

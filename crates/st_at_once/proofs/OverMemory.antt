@@ -24,8 +24,9 @@ use Rattle.st_model.specs.View.{View, Held, IsWhole}
 use Rattle.st_frames.specs.declared.frame.Frame.{Frame}
 use Rattle.st_frames.specs.declared.registers.Registers.{Registers as Words}
 use Rattle.st_frames.specs.Rows.{row_state, registers_in}
-use Rattle.st_frames.specs.Shown.{shown, registers_of, IsFrame, IsReady, StaysFrame}
+use Rattle.st_frames.specs.Shown.{shown, registers_of, IsReady, StaysFrame}
 use Rattle.st_control.specs.Foreseen.{IsForeseen}
+use Rattle.st_control.proofs.Framed.{frame_held}
 use Rattle.st_at_once.specs.declared.ending.RowEnd.{RowEnd}
 use Rattle.st_at_once.specs.declared.ending.RowEnd.TheVariants.{Stays}
 use Rattle.st_at_once.specs.AtOnce.{NamesSame, kept, was_done, deed_left, GoesOn, step_at_once}
@@ -126,19 +127,6 @@ row_goes_on v u h f g w r left end whole ready does b whole_then fixed world sam
 -- nothing was changed
 pub still_shown : (v u : View) (f g : Frame) (w : World) → u.objects ≡ v.objects → u.head ≡ v.head → g ≡ f → shown u g w ≡ shown v f w
 still_shown v u f g w objects head frame = λ i. record { memory = objects i; registers = registers_of (frame i); world = w; head = head i }
-
--- the frame is held as before where what is held is the same
-frame_held : (v u : View) (f : Frame) → u.held ≡ v.held → IsFrame v f → IsFrame u f
-frame_held v u f e h = record {
-  active = h.active ∙ sym (ap (λ (x : Held). x.active) e);
-  home = h.home ∙ sym (ap (λ (x : Held). x.home) e);
-  method = h.method ∙ sym (ap (λ (x : Held). x.method) e);
-  receiver = h.receiver ∙ sym (ap (λ (x : Held). x.receiver) e);
-  ip_low = h.ip_low;
-  ip_high = h.ip_high;
-  sp_low = h.sp_low;
-  sp_high = h.sp_high;
-}
 
 pub still_ready : (v u : View) (f g : Frame) (w : World) → u.held ≡ v.held → g ≡ f → IsReady v f w → IsReady u g w
 still_ready v u f g w held frame ready =

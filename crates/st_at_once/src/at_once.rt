@@ -2,11 +2,9 @@ ghost use Rattle.std.specs.Prelude.{false, ◌≡◌, ◌≢◌, ◌<◌, ◌≤
 ghost use Rattle.st_model.specs.{Values.word, Calls.itself, Decoded.IsNumbered};
 ghost use Rattle.st_model.specs.declared.bytecode.Bytecode.TheVariants.{PrimitiveSend};
 ghost use Rattle.st_model.specs.declared.page.PageObject.TheVariants.{FalseObject, TrueObject};
-ghost use Rattle.st_model.specs.Methods.{flag_of};
 ghost use Rattle.st_control.specs.AtOnce.{IsStill, at_once, jump_at_once};
-ghost use Rattle.st_at_once.specs.AtOnce.{was_done, deed_left, StaysInContext, StillToForesee, respond_at_once, execute_at_once_by, execute_at_once, found_at_once, send_from_at_once, send_at_once, literal_send_at_once, primitive_at_once, long_jump_at_once, return_receiver_at_once, return_constant_at_once, return_top_to_sender_at_once, return_top_to_caller_at_once, bytecode_at_once, kept, may_leave, step_at_once, changes_at_once, not_understood_at_once};
+ghost use Rattle.st_at_once.specs.AtOnce.{was_done, deed_left, StaysInContext, StillToForesee, respond_at_once, execute_at_once, send_from_at_once, send_at_once, literal_send_at_once, primitive_at_once, long_jump_at_once, return_receiver_at_once, return_constant_at_once, return_top_to_sender_at_once, return_top_to_caller_at_once, bytecode_at_once, kept, may_leave, step_at_once, changes_at_once, not_understood_at_once};
 ghost use Rattle.st_at_once.specs.declared.ending.RowEnd.TheVariants.{Stays, Leaves};
-ghost use Rattle.st_lookup.specs.Places.{found_word};
 ghost use Rattle.st_frames.specs.Rows.{RowMoves, RowDoes, RowLeaves, Takes, registers_in, activation_changes};
 
 use crate::arithmetic::arithmetic_at_once;
@@ -15,16 +13,16 @@ use crate::holding::keep;
 use crate::making::try_at_once;
 use crate::unanswered::not_understood_at_once;
 use st_control::{
-    activate_at_once, answer_field, constant_value, duplicate_top, equivalence, extended_push,
-    extended_store, extended_store_and_pop, fetch_literal_constant, find_method, jump_at_once,
-    long_unconditional_jump, method_primitive, pop_stack, push_active_context, push_constant,
-    push_operand, push_receiver, receiver_class, return_to_caller_at_once,
-    return_to_sender_at_once, short_unconditional_jump, store_and_pop, value_at_once,
+    Called, Sent, activate_at_once, answer_field, constant_value, duplicate_top, equivalence,
+    extended_push, extended_store, extended_store_and_pop, fetch_literal_constant, find_method,
+    jump_at_once, long_unconditional_jump, method_primitive, pop_stack, push_active_context,
+    push_constant, push_operand, push_receiver, receiver_class, return_past_at_once,
+    short_unconditional_jump, store_and_pop, value_at_once,
 };
 use st_frames::{Frame, Registers, next_byte, pop, under};
 use st_memory::Objects;
 use st_method::Header;
-use st_model::{Bytecode, Constant, Dead, Deed, PageObject, Tried, Word, decode};
+use st_model::{Bytecode, Call, Constant, Dead, Deed, PageObject, Tried, Word, decode};
 
 /// Does the code 176 + k, where that is 198, 199, or one of the two that compute a block's value.
 #[inline(never)]
@@ -112,7 +110,7 @@ fn jump_on_true_at_once<O: Objects>(m: &O, r: &mut Registers, i: u8) -> Result<b
 
 /// Returns the receiver to the sender. Answers whether that is done at once.
 #[inline(never)]
-#[tactic(auto, using(st_frames::proofs::Doing::rows), unfolding(crate::specs::AtOnce::return_receiver_at_once))]
+#[tactic(auto, using(st_control::proofs::Returning::returning), unfolding(crate::specs::AtOnce::return_receiver_at_once))]
 fn return_receiver_at_once<O: Objects>(m: &mut O, r: &mut Registers) -> Result<bool, Dead>
     requires room { 3 ≤ O.room m.old }
     ensures does { RowDoes O.Objects.own (return_receiver_at_once O.names)
@@ -120,12 +118,12 @@ fn return_receiver_at_once<O: Objects>(m: &mut O, r: &mut Registers) -> Result<b
     ensures takes { Takes O.Objects.own 3 m.old m.new }
     ensures still { IsStill O.Objects.own m.old result m.new }
 {
-    return_to_sender_at_once(m, r, r.receiver)
+    return_past_at_once(m, r, r.home, r.receiver)
 }
 
 /// Returns a constant to the sender. Answers whether that is done at once.
 #[inline(never)]
-#[tactic(auto, using(st_frames::proofs::Doing::rows), unfolding(crate::specs::AtOnce::return_constant_at_once))]
+#[tactic(auto, using(st_control::proofs::Returning::returning), unfolding(crate::specs::AtOnce::return_constant_at_once))]
 fn return_constant_at_once<O: Objects>(
     m: &mut O,
     r: &mut Registers,
@@ -138,12 +136,12 @@ fn return_constant_at_once<O: Objects>(
     ensures still { IsStill O.Objects.own m.old result m.new }
 {
     let x = constant_value(m, r, constant);
-    return_to_sender_at_once(m, r, x)
+    return_past_at_once(m, r, r.home, x)
 }
 
 /// Pops, and returns the word to the sender. Answers whether that is done at once.
 #[inline(never)]
-#[tactic(auto, using(st_frames::proofs::Doing::rows), unfolding(crate::specs::AtOnce::return_top_to_sender_at_once))]
+#[tactic(auto, using(st_control::proofs::Returning::returning), unfolding(crate::specs::AtOnce::return_top_to_sender_at_once))]
 fn return_top_to_sender_at_once<O: Objects>(m: &mut O, r: &mut Registers) -> Result<bool, Dead>
     requires room { 3 ≤ O.room m.old }
     ensures does { RowDoes O.Objects.own (return_top_to_sender_at_once O.names)
@@ -152,12 +150,12 @@ fn return_top_to_sender_at_once<O: Objects>(m: &mut O, r: &mut Registers) -> Res
     ensures still { IsStill O.Objects.own m.old result m.new }
 {
     let x = pop(m, r)?;
-    return_to_sender_at_once(m, r, x)
+    return_past_at_once(m, r, r.home, x)
 }
 
 /// Pops, and returns the word to the caller. Answers whether that is done at once.
 #[inline(never)]
-#[tactic(auto, using(st_frames::proofs::Doing::rows), unfolding(crate::specs::AtOnce::return_top_to_caller_at_once))]
+#[tactic(auto, using(st_control::proofs::Returning::returning), unfolding(crate::specs::AtOnce::return_top_to_caller_at_once))]
 fn return_top_to_caller_at_once<O: Objects>(m: &mut O, r: &mut Registers) -> Result<bool, Dead>
     requires room { 3 ≤ O.room m.old }
     ensures does { RowDoes O.Objects.own (return_top_to_caller_at_once O.names)
@@ -166,7 +164,7 @@ fn return_top_to_caller_at_once<O: Objects>(m: &mut O, r: &mut Registers) -> Res
     ensures still { IsStill O.Objects.own m.old result m.new }
 {
     let x = pop(m, r)?;
-    return_to_caller_at_once(m, r, x)
+    return_past_at_once(m, r, r.active, x)
 }
 
 /// Does a method's primitive, where that is one that is tried at once, and doesn't fail.
@@ -174,19 +172,18 @@ fn return_top_to_caller_at_once<O: Objects>(m: &mut O, r: &mut Registers) -> Res
 fn respond_at_once<O: Objects>(
     m: &mut O,
     r: &mut Registers,
-    method: Word,
-    n: u32,
+    call: Call,
     left: &mut Deed,
 ) -> Result<RowEnd, Dead>
     requires room { activation_changes ≤ O.room m.old }
-    ensures does { RowLeaves O.Objects.own (respond_at_once O.names (word method) n)
+    ensures does { RowLeaves O.Objects.own (respond_at_once O.names (word call.method) call.arguments)
         was_done (deed_left left.new) m.old r.old result m.new r.new }
     ensures moves { result ≢ Ok Stays }
     ensures takes { Takes O.Objects.own activation_changes m.old m.new }
     ensures still { StillToForesee O.Objects.own m.old result m.new }
 {
-    let primitive = method_primitive(m, r, method)?;
-    match try_at_once(m, r, primitive, n)? {
+    let primitive = method_primitive(m, r, call.method)?;
+    match try_at_once(m, r, primitive, call.arguments)? {
         Tried::Done(Deed::Nothing) => Ok(RowEnd::Done),
         Tried::Done(deed) => {
             *left = deed;
@@ -197,101 +194,58 @@ fn respond_at_once<O: Objects>(
 }
 
 /// Executes a method by its header's flag: one that answers the receiver or a field, responds by its primitive, or is activated.
-#[tactic(auto, using(st_frames::proofs::Doing::rows), unfolding(crate::specs::AtOnce::execute_at_once_by, st_control::specs::AtOnce::at_once))]
-fn execute_at_once_by<O: Objects>(
+#[tactic(auto, using(st_frames::proofs::Doing::rows), unfolding(crate::specs::AtOnce::execute_at_once, crate::specs::AtOnce::execute_at_once_by, st_control::specs::AtOnce::at_once))]
+fn execute_at_once<O: Objects>(
     m: &mut O,
     r: &mut Registers,
-    method: Word,
-    header: Header,
-    n: u32,
+    call: Call,
     left: &mut Deed,
 ) -> Result<RowEnd, Dead>
-    requires few { n < 16384 }
     requires room { activation_changes ≤ O.room m.old }
-    ensures does { RowLeaves O.Objects.own
-        (execute_at_once_by O.names (word method) (word header.0) n (flag_of (word header.0)))
+    ensures does { RowLeaves O.Objects.own (execute_at_once O.names (word call.method) call.arguments)
         was_done (deed_left left.new) m.old r.old result m.new r.new }
     ensures moves { result ≢ Ok Stays }
     ensures takes { Takes O.Objects.own activation_changes m.old m.new }
     ensures still { StillToForesee O.Objects.own m.old result m.new }
 {
+    let header = Header(m.method_header(call.method)?);
     match header.flag() {
         5 => Ok(RowEnd::Done),
         6 => {
             answer_field(m, r, header.temporaries())?;
             Ok(RowEnd::Done)
         }
-        7 => respond_at_once(m, r, method, n, left),
-        _ => Ok(done_if(activate_at_once(m, r, method, header, n)?)),
+        7 => respond_at_once(m, r, call, left),
+        _ => Ok(done_if(activate_at_once(m, r, Called { call, header })?)),
     }
 }
 
-/// Executes a method with n arguments.
-#[tactic(auto, using(st_frames::proofs::Doing::rows), unfolding(crate::specs::AtOnce::execute_at_once))]
-fn execute_at_once<O: Objects>(
-    m: &mut O,
-    r: &mut Registers,
-    method: Word,
-    n: u32,
-    left: &mut Deed,
-) -> Result<RowEnd, Dead>
-    requires few { n < 16384 }
-    requires room { activation_changes ≤ O.room m.old }
-    ensures does { RowLeaves O.Objects.own (execute_at_once O.names (word method) n)
-        was_done (deed_left left.new) m.old r.old result m.new r.new }
-    ensures moves { result ≢ Ok Stays }
-    ensures takes { Takes O.Objects.own activation_changes m.old m.new }
-    ensures still { StillToForesee O.Objects.own m.old result m.new }
-{
-    let header = Header(m.method_header(method)?);
-    execute_at_once_by(m, r, method, header, n, left)
-}
-
-/// Executes the method that was found with n arguments; where none was, the message isn't understood.
-#[tactic(auto, using(st_frames::proofs::Doing::rows), unfolding(crate::specs::AtOnce::found_at_once))]
-fn found_at_once<O: Objects>(
-    m: &mut O,
-    r: &mut Registers,
-    class: Word,
-    selector: Word,
-    n: u32,
-    method: Option<Word>,
-    left: &mut Deed,
-) -> Result<RowEnd, Dead>
-    requires few { n < 16384 }
-    requires room { changes_at_once ≤ O.room m.old }
-    ensures does { RowLeaves O.Objects.own (found_at_once O.names (word class) (word selector) n (found_word method))
-        was_done (deed_left left.new) m.old r.old result m.new r.new }
-    ensures moves { result ≢ Ok Stays }
-    ensures takes { Takes O.Objects.own changes_at_once m.old m.new }
-    ensures still { StillToForesee O.Objects.own m.old result m.new }
-{
-    match method {
-        Some(method) => execute_at_once(m, r, method, n, left),
-        None => Ok(done_if(not_understood_at_once(m, r, class, selector, n)?)),
-    }
-}
-
-/// Sends the selector with n arguments, where the search begins in this class.
-#[tactic(auto, using(st_frames::proofs::Doing::rows), unfolding(crate::specs::AtOnce::send_from_at_once))]
+/// Sends a message: the method that is found is executed; where none is, the message isn't understood.
+#[tactic(auto, using(st_frames::proofs::Doing::rows), unfolding(crate::specs::AtOnce::send_from_at_once, crate::specs::AtOnce::found_at_once))]
 fn send_from_at_once<O: Objects>(
     m: &mut O,
     r: &mut Registers,
-    class: Word,
-    selector: Word,
-    n: u32,
+    sent: Sent,
     left: &mut Deed,
 ) -> Result<RowEnd, Dead>
-    requires few { n < 16384 }
     requires room { changes_at_once ≤ O.room m.old }
-    ensures does { RowLeaves O.Objects.own (send_from_at_once O.names (word class) (word selector) n)
+    ensures does { RowLeaves O.Objects.own
+        (send_from_at_once O.names (word sent.class) (word sent.selector) sent.arguments)
         was_done (deed_left left.new) m.old r.old result m.new r.new }
     ensures moves { result ≢ Ok Stays }
     ensures takes { Takes O.Objects.own changes_at_once m.old m.new }
     ensures still { StillToForesee O.Objects.own m.old result m.new }
 {
-    let method = find_method(m, r, class, selector)?;
-    found_at_once(m, r, class, selector, n, method, left)
+    match find_method(m, r, sent.class, sent.selector)? {
+        Some(method) => {
+            let call = Call {
+                method,
+                arguments: sent.arguments,
+            };
+            execute_at_once(m, r, call, left)
+        }
+        None => Ok(done_if(not_understood_at_once(m, r, sent)?)),
+    }
 }
 
 /// Sends the selector with n arguments to the word n words below the top.
@@ -313,7 +267,12 @@ fn send_at_once<O: Objects>(
 {
     let receiver = under(m, r, n)?;
     let class = m.fetch_class(receiver)?;
-    send_from_at_once(m, r, class, selector, n, left)
+    let sent = Sent {
+        class,
+        selector,
+        arguments: n,
+    };
+    send_from_at_once(m, r, sent, left)
 }
 
 /// Sends literal i with n arguments.

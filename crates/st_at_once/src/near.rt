@@ -4,7 +4,7 @@ ghost use Rattle.st_model.specs.{Steps.{store_field, transfer}, Calls.{Changes, 
 ghost use Rattle.st_frames.specs.Shown.{IsFrame};
 ghost use Rattle.st_at_once.specs.Known.{IsNear, ArePlaced, IsCodeAt, HasLiteral, HasNumber};
 
-use crate::known::{Body, Code, Known};
+use crate::known::{Body, Code, Field, Known};
 use crate::looking::look;
 use st_frames::Frame;
 use st_memory::{Memory, live_value, store_live_field, transfer_live_fields};
@@ -122,7 +122,8 @@ impl<'a, M: Memory> Near<'a, M> {
     #[inline(always)]
     pub(crate) fn find_code(&self, method: Word, ip: i32) -> Option<Body>
         ensures same { IfSome result (λ b. value b.object ≡ word method) }
-        ensures code { IfSome result (λ b. IsCodeAt (M.view self.now.memory.now).objects (value b.object) ip) }
+        ensures code { IfSome result (λ b.
+            IsCodeAt (M.view self.now.memory.now).objects (value b.object) ip) }
         ensures place { IfSome result (λ b. M.stands self.now.memory.now (value b.object) b.place) }
     {
         self.stand();
@@ -207,19 +208,25 @@ impl<'a, M: Memory> Near<'a, M> {
     pub(crate) fn transfer_elsewhere(
         &mut self,
         n: u32,
-        source: Word,
-        from: u32,
-        target: Word,
-        to: u32,
+        source: Field,
+        target: Field,
     ) -> Result<(), Dead>
-        ensures transfers { Changes (transfer bounded_table n (word source) from (word target) to) itself
+        ensures transfers { Changes (transfer bounded_table n
+            (word source.object) source.index (word target.object) target.index) itself
             (M.view self.old.memory.now).objects (M.view self.old.memory.now).head
             result (M.view self.new.memory.now).objects }
         ensures held { (M.view self.new.memory.now).held ≡ (M.view self.old.memory.now).held }
         ensures head { (M.view self.new.memory.now).head ≡ (M.view self.old.memory.now).head }
         ensures same_memory { self.new.memory.ghost_name ≡ self.old.memory.ghost_name }
     {
-        let done = transfer_live_fields(self.memory, n, source, from, target, to);
+        let done = transfer_live_fields(
+            self.memory,
+            n,
+            source.object,
+            source.index,
+            target.object,
+            target.index,
+        );
         if done.is_err() {
             self.known = Known::NONE;
         }

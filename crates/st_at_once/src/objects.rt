@@ -1,7 +1,7 @@
 ghost use Rattle.std.specs.Prelude.{◌≡◌, ◌+◌, ◌≤◌};
 ghost use Rattle.st_model.specs.Table.{bounded_table};
 
-use crate::known::Known;
+use crate::known::{Field, Known};
 use crate::looking::{look_after_make, look_at_places};
 use crate::near::Near;
 use st_memory::{ContextFields, Memory, Objects, live_value};
@@ -140,13 +140,21 @@ impl<'a, M: Memory> Objects for Near<'a, M> {
         target: Word,
         to: u32,
     ) -> Result<(), Dead> {
+        let source = Field {
+            object: source,
+            index: from,
+        };
+        let target = Field {
+            object: target,
+            index: to,
+        };
         if n == 1 {
-            return self.transfer_field(source, from, target, to);
+            return self.transfer_field(source, target);
         }
         if n == 2 && from < 65536 && to < 65536 {
-            return self.transfer_pair(source, from, target, to);
+            return self.transfer_pair(source, target);
         }
-        self.transfer_elsewhere(n, source, from, target, to)
+        self.transfer_elsewhere(n, source, target)
     }
 
     #[tactic(auto, using(crate::proofs::Keeping::near_nothing, crate::proofs::Placed::placed_nothing))]

@@ -2,13 +2,13 @@ ghost use Rattle.std.specs.Prelude.{◌≡◌, ◌<◌, ◌≤◌, Ok, Some};
 ghost use Rattle.st_model.specs.{Values.word, Calls.itself};
 ghost use Rattle.st_control.specs.AtOnce.{IsStill};
 ghost use Rattle.st_frames.specs.Rows.{RowReads, RowDoes, Takes};
-ghost use Rattle.st_at_once.specs.AtOnce.{changes_at_once, message_space, enter_with_message, with_message_at_once, call_not_understood_at_once, not_understood_at_once};
+ghost use Rattle.st_at_once.specs.AtOnce.{changes_at_once, message_space, with_message_at_once, call_not_understood_at_once, not_understood_at_once};
 
-use st_control::{activate, find_method, replace_by_message};
+use st_control::{Called, Sent, activate, find_method, replace_by_message};
 use st_frames::{Registers, page};
 use st_memory::Objects;
 use st_method::Header;
-use st_model::{Dead, PageObject, Word};
+use st_model::{Call, Dead, PageObject, Word};
 
 /// Whether there is room for a Message of n arguments with their Array, and for a context.
 #[tactic(auto, using(st_control::proofs::Space::spaces), unfolding(crate::specs::AtOnce::message_space))]
@@ -20,71 +20,56 @@ fn has_message_space<O: Objects>(m: &O, r: &Registers, n: u32) -> bool
     3 <= free.entries && 46 + n <= free.words
 }
 
-/// A Message takes the place of the n arguments, and a new context of the method becomes the active one.
-#[tactic(auto, using(st_frames::proofs::Doing::rows), unfolding(crate::specs::AtOnce::enter_with_message))]
-fn enter_with_message<O: Objects>(
-    m: &mut O,
-    r: &mut Registers,
-    method: Word,
-    header: Header,
-    selector: Word,
-    n: u32,
-) -> Result<(), Dead>
-    requires few { n < 16384 }
-    requires room { changes_at_once ≤ O.room m.old }
-    ensures does { RowDoes O.Objects.own
-        (enter_with_message O.names (word method) (word header.0) (word selector) n)
-        itself m.old r.old result m.new r.new }
-    ensures takes { Takes O.Objects.own changes_at_once m.old m.new }
-{
-    replace_by_message(m, r, selector, n)?;
-    activate(m, r, method, header, 1)
-}
-
-/// A Message takes the place of the n arguments, and a new context of the method becomes the active one, where there is room for
+/// A Message takes the place of the arguments, and a new context of the method becomes the active one, where there is room for
 /// that. Answers whether there is.
-#[tactic(auto, using(st_frames::proofs::Doing::rows), unfolding(crate::specs::AtOnce::with_message_at_once, st_control::specs::AtOnce::at_once))]
+#[tactic(auto, using(st_frames::proofs::Doing::rows), unfolding(crate::specs::AtOnce::with_message_at_once, crate::specs::AtOnce::enter_with_message, st_control::specs::AtOnce::at_once))]
 fn with_message_at_once<O: Objects>(
     m: &mut O,
     r: &mut Registers,
     method: Word,
     header: Header,
-    selector: Word,
-    n: u32,
+    sent: Sent,
 ) -> Result<bool, Dead>
-    requires few { n < 16384 }
     requires room { changes_at_once ≤ O.room m.old }
-    ensures does { RowDoes O.Objects.own
-        (with_message_at_once O.names (word method) (word header.0) (word selector) n)
+    ensures does { RowDoes O.Objects.own (with_message_at_once O.names
+        (word method) (word header.0) (word sent.selector) sent.arguments)
         itself m.old r.old result m.new r.new }
     ensures takes { Takes O.Objects.own changes_at_once m.old m.new }
     ensures still { IsStill O.Objects.own m.old result m.new }
 {
-    if !has_message_space(m, r, n) {
+    if !has_message_space(m, r, sent.arguments) {
         return Ok(false);
     }
-    enter_with_message(m, r, method, header, selector, n)?;
+    replace_by_message(m, r, sent)?;
+    let call = Call {
+        method,
+        arguments: 1,
+    };
+    activate(m, r, Called { call, header })?;
     Ok(true)
 }
 
-/// The method for doesNotUnderstand: is activated with a Message, where it is one that is activated and there is room for that.
-/// Answers whether that is so.
-#[tactic(auto, using(crate::proofs::Headers::answers))]
-fn answer_at_once<O: Objects>(
+/// The message isn't understood: the method for doesNotUnderstand: is activated with a Message, where there is one, it is one
+/// that is activated, and there is room for that. Answers whether that is so.
+#[inline(never)]
+#[tactic(auto, using(crate::proofs::Headers::answers), unfolding(crate::specs::AtOnce::not_understood_at_once))]
+pub fn not_understood_at_once<O: Objects>(
     m: &mut O,
     r: &mut Registers,
-    method: Word,
-    selector: Word,
-    n: u32,
+    sent: Sent,
 ) -> Result<bool, Dead>
-    requires few { n < 16384 }
     requires room { changes_at_once ≤ O.room m.old }
     ensures does { RowDoes O.Objects.own
-        (call_not_understood_at_once O.names (word selector) n (Some (word method)))
+        (not_understood_at_once O.names (word sent.class) (word sent.selector) sent.arguments)
         itself m.old r.old result m.new r.new }
     ensures takes { Takes O.Objects.own changes_at_once m.old m.new }
     ensures still { IsStill O.Objects.own m.old result m.new }
 {
+    let understand = page(m, PageObject::NotUnderstood);
+    let method = match find_method(m, r, sent.class, understand)? {
+        Some(method) => method,
+        None => return Ok(false),
+    };
     let header = match m.method_header(method) {
         Ok(header) => Header(header),
         Err(_) => return Ok(false),
@@ -92,31 +77,5 @@ fn answer_at_once<O: Objects>(
     if 5 <= header.flag() {
         return Ok(false);
     }
-    with_message_at_once(m, r, method, header, selector, n)
-}
-
-/// The selector isn't understood: the method for doesNotUnderstand: is activated with a Message, where there is one, it is one
-/// that is activated, and there is room for that. Answers whether that is so.
-#[inline(never)]
-#[tactic(auto, using(st_frames::proofs::Doing::rows), unfolding(crate::specs::AtOnce::not_understood_at_once, crate::specs::AtOnce::call_not_understood_at_once))]
-pub fn not_understood_at_once<O: Objects>(
-    m: &mut O,
-    r: &mut Registers,
-    class: Word,
-    selector: Word,
-    n: u32,
-) -> Result<bool, Dead>
-    requires few { n < 16384 }
-    requires room { changes_at_once ≤ O.room m.old }
-    ensures does { RowDoes O.Objects.own
-        (not_understood_at_once O.names (word class) (word selector) n)
-        itself m.old r.old result m.new r.new }
-    ensures takes { Takes O.Objects.own changes_at_once m.old m.new }
-    ensures still { IsStill O.Objects.own m.old result m.new }
-{
-    let understand = page(m, PageObject::NotUnderstood);
-    match find_method(m, r, class, understand)? {
-        Some(method) => answer_at_once(m, r, method, selector, n),
-        None => Ok(false),
-    }
+    with_message_at_once(m, r, method, header, sent)
 }

@@ -1,10 +1,10 @@
-use Rattle.std.proofs.Common.{◌≡◌, ℕ, zero, suc, ◌+◌, ◌-◌, ◌*◌, ◌/◌, ◌%◌, ◌^◌, ◌<◌, ◌≤◌, min, bit_and, bit_or, arith, refl, sym, ◌∙◌, ap, List, get_or}
+use Rattle.std.proofs.Common.{◌≡◌, ℕ, zero, suc, ◌+◌, ◌-◌, ◌*◌, ◌/◌, ◌%◌, ◌^◌, ◌<◌, ◌≤◌, min, bit_and, bit_or, arith, refl, sym, ◌∙◌, ap}
 use Rattle.std.specs.Int.{bit_at, w16}
 use Rattle.std.specs.Int.Bits.{bit_xor}
 use Rattle.std.proofs.lemmas.Nat.{shr-shr, shr_split, one_shl, pow_pos}
 use Rattle.std.proofs.lemmas.Nat.Bits.{bit_at_and, bit_at_or, bit_at_xor, bit_at_not, bit_at-lt, bit_at-zero, bit_at_above, bit_at_ones, bit_at_cat_low, bit_at_cat_high, bit_at_mask_inside, bit_at_mask_below, bit_at_mask_above}
 use Rattle.std.proofs.Math.Pow.{pow_mono}
-use Rattle.st_model.specs.Pixels.{combine, pixel}
+use Rattle.st_model.specs.Pixels.{combine}
 use Rattle.st_bitblt.specs.Rules.{IsSpread, number_of_words}
 
 -- What the bits of words are that were combined, joined and masked.
@@ -131,11 +131,3 @@ kept a d m j hm hj none =
     let n : bit_at (65535 - m) j ≡ 1 - bit_at m j = bit_at_not w16 m j hm hj in
     let small : bit_at d j < 2 = bit_at-lt d j in
     simp (bit_at_or, bit_at_and, n, none) (omega arith)
-
--- The pixel j of the word `at`.
-pub pixel_in : (ws : List ℕ) (at j k : ℕ) → j < 16 → k ≡ 16 * at + j → pixel ws k ≡ bit_at (get_or ws at 0) (15 - j)
-unfolding pixel
-pixel_in ws at j k h e =
-    let a : k / 16 ≡ at = omega arith in
-    let b : k % 16 ≡ j = omega arith in
-    rw (a, b) refl

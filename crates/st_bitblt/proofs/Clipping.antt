@@ -1,6 +1,6 @@
 -- Clipping by integers is clipping by the numbers that are 16384 more.
-use Rattle.std.proofs.Common.{◌≡◌, ℕ, ◌+◌, ◌-◌, ◌<◌, Bool, true, Option, Some, None, refl, arith}
-use Rattle.std.specs.Prelude.{ℤ, pos, negsuc, ◌+ℤ◌, ◌<ℤ◌, ◌≤ℤ◌, int_le, int_lt, nat_lt, ◌&&◌}
+use Rattle.std.proofs.Common.{◌≡◌, ℕ, ◌+◌, ◌-◌, ◌<◌, true, Option, Some, None, refl, arith}
+use Rattle.std.specs.Prelude.{ℤ, pos, negsuc, ◌+ℤ◌, ◌<ℤ◌, ◌≤ℤ◌, int_le, int_lt, nat_lt}
 use Rattle.std.proofs.lemmas.Int.{ints}
 use Rattle.std.proofs.lemmas.Bool.Decides.{nat_tests}
 use Rattle.st_model.specs.BitBlt.{Axis, copies_to, has_line, is_among, line_from}
@@ -79,36 +79,26 @@ module _ (d : Direction) (lines : ℕ) where
       let e = source_taken n k s t in
       rw e (and_from _ _ (le_true (pos 0) (pos s) (omega (arith, ints))) (lt_true (pos s) (pos 0 +ℤ pos n) (omega (arith, ints, t.source))))
 
+  taken_by : (from n k s : ℕ) (source_lines : Option ℕ) → Copies (axis_of d) lines source_lines k → s + d.to ≡ from + k → s < n → Takes (lines_from from n) k s
+  taken_by from n k s source_lines c at source = record {
+    low = omega (arith, ints, c.low);
+    high = omega (arith, ints, c.high);
+    clip_low = omega (arith, ints, c.clip_low);
+    clip_high = omega (arith, ints, c.clip_high);
+    within = c.within;
+    from = at;
+    source = source;
+  }
+
   from_source : (n k : ℕ) → Copies (axis_of d) lines (Some n) k → (s : ℕ) × Takes (lines_from d.from n) k s
   from_source n k c =
       let p = and_parts (int_le (pos 0) (line_from (axis_of d) k)) _ c.source in
       let low = true_le (pos 0) (line_from (axis_of d) k) p.0 in
-      let high = true_lt (line_from (axis_of d) k) (pos 0 +ℤ pos n) p.1 in (
-        d.from + k - d.to,
-        record {
-          low = omega (arith, ints, c.low);
-          high = omega (arith, ints, c.high);
-          clip_low = omega (arith, ints, c.clip_low);
-          clip_high = omega (arith, ints, c.clip_high);
-          within = c.within;
-          from = omega (arith, ints, low);
-          source = omega (arith, ints, low, high);
-        },
-      )
+      let high = true_lt (line_from (axis_of d) k) (pos 0 +ℤ pos n) p.1 in
+      (d.from + k - d.to, taken_by d.from n k (d.from + k - d.to) (Some n) c (omega (arith, ints, low)) (omega (arith, ints, low, high)))
 
   from_ones : (k : ℕ) → lines < 16384 → d.to < 32768 → Copies (axis_of d) lines None k → (s : ℕ) × Takes (lines_from 16384 32768) k s
-  from_ones k small to c = (
-    16384 + k - d.to,
-    record {
-      low = omega (arith, ints, c.low);
-      high = omega (arith, ints, c.high);
-      clip_low = omega (arith, ints, c.clip_low);
-      clip_high = omega (arith, ints, c.clip_high);
-      within = c.within;
-      from = omega (arith, ints, c.low);
-      source = omega (arith, ints, c.low, c.within);
-    },
-  )
+  from_ones k small to c = (16384 + k - d.to, taken_by 16384 32768 k (16384 + k - d.to) None c (omega (arith, ints, c.low)) (omega (arith, ints, c.low, c.within)))
 
   module _ (r : Span) where
     pub span_of : (n : ℕ) → n < 16384 → IsClipped (lines_from d.from n) r → IsSpan (axis_of d) lines (Some n) r

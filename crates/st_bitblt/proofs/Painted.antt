@@ -1,6 +1,6 @@
 -- The words that are put down row by row are those that are painted.
-use Rattle.std.proofs.Common.{◌≡◌, ◌≢◌, ℕ, ◌+◌, ◌-◌, ◌*◌, ◌/◌, ◌%◌, ◌<◌, ◌≤◌, min, Bool, true, false, arith, refl, sym, ◌∙◌, ap, get_or, inl, inr, ◌⊎◌, Option, Some, None}
-use Rattle.std.specs.Prelude.{ℤ, pos, ◌&&◌, nat_abs}
+use Rattle.std.proofs.Common.{◌≡◌, ◌≢◌, ℕ, ◌+◌, ◌-◌, ◌*◌, ◌/◌, ◌%◌, ◌<◌, ◌≤◌, min, true, false, arith, refl, sym, ◌∙◌, ap, get_or, inl, inr, ◌⊎◌, Option, Some, None}
+use Rattle.std.specs.Prelude.{ℤ, pos, nat_abs}
 use Rattle.std.specs.Int.{bit_at}
 use Rattle.std.specs.Option.{option_map}
 use Rattle.std.proofs.Math.Nat.{add-mul, mul_assoc, mul_comm, mul-add-mod_self_right, mul-add-div_right, mod-eq_of_lt, div-eq_of_lt}

@@ -42,15 +42,14 @@ source_kept rule f (Some o) dest old new p n k r out =
 pub rest_twice : (dest : Value) (old mid new : View) → HasWords old dest → mid ≡ with_words old dest (words mid dest) → new ≡ with_words mid dest (words new dest) → new ≡ with_words old dest (words new dest)
 rest_twice dest old mid new has a b = b ∙ ap (λ v. with_words v dest (words new dest)) a ∙ words_twice old dest (words mid dest) has.live (words new dest)
 
--- To the right: the first n pixels, and then the next m. Where the source is the destination, it must not begin before it.
-pub copied_up : (rule tone : ℕ) (source : Option Value) (dest : Value) (old mid new : View) (p q n m : ℕ) → HasWords old dest → (source ≡ Some dest → p ≤ q)
-    → Copied rule tone source dest old mid p q n → Copied rule tone source dest mid new (p + n) (q + n) m → Copied rule tone source dest old new p q (n + m)
-copied_up rule tone source dest old mid new p q n m has dir a b = record {
-  inside = λ i hi. elim (cases_order i n) [
-    | inl e ↦ second i hi (omega arith)
-    | inr s ↦ elim s [ inl lt ↦ b.below (p + i) (omega arith) ∙ a.inside i lt | inr gt ↦ second i hi (omega arith) ]
-  ];
-  below = λ k lt. b.below k (omega arith) ∙ a.below k lt;
+-- Two parts of a copy: the second one where the first was made, and both within its pixels.
+copied_twice : (rule tone : ℕ) (source : Option Value) (dest : Value) (old mid new : View) (p q n pa qa na pb qb nb : ℕ) → HasWords old dest
+    → Copied rule tone source dest old mid pa qa na → Copied rule tone source dest mid new pb qb nb → p ≤ pa → p ≤ pb → pa + na ≤ p + n → pb + nb ≤ p + n
+    → ((i : ℕ) → i < n → pixel (words new dest) (p + i) ≡ combine rule (shaded tone source old p q i) (pixel (words old dest) (p + i)))
+    → Copied rule tone source dest old new p q n
+copied_twice rule tone source dest old mid new p q n pa qa na pb qb nb has a b la lb ha hb inside = record {
+  inside = inside;
+  below = λ k lt. b.below k (omega arith) ∙ a.below k (omega arith);
   above = λ k ge. b.above k (omega arith) ∙ a.above k (omega arith);
   others = λ o h. b.others o h ∙ a.others o h;
   size = λ o. b.size o ∙ a.size o;
@@ -58,46 +57,50 @@ copied_up rule tone source dest old mid new p q n m has dir a b = record {
   there = λ o h. b.there o (a.there o h);
   rest = rest_twice dest old mid new has a.rest b.rest;
 }
+
+-- a pixel of what is copied behind n others, by its place in the whole
+inside_behind : (rule tone : ℕ) (source : Option Value) (dest : Value) (old new : View) (p q n m : ℕ) → Copied rule tone source dest old new (p + n) (q + n) m → (i : ℕ) → i < n + m → n ≤ i
+    → pixel (words new dest) (p + i) ≡ combine rule (min (pixel_from old source (q + i)) (bit_at tone (15 - (p + i) % 16))) (pixel (words old dest) (p + i))
+inside_behind rule tone source dest old new p q n m c i hi ge =
+    let e : p + n + (i - n) ≡ p + i = omega arith in
+    let f : q + n + (i - n) ≡ q + i = omega arith in
+    let x : pixel (words new dest) (p + n + (i - n)) ≡ combine rule (min (pixel_from old source (q + n + (i - n))) (bit_at tone (15 - (p + n + (i - n)) % 16))) (pixel (words old dest) (p + n + (i - n))) = c.inside (i - n) (omega arith) in
+    rw (e, f) at x
+
+-- To the right: the first n pixels, and then the next m. Where the source is the destination, it must not begin before it.
+pub copied_up : (rule tone : ℕ) (source : Option Value) (dest : Value) (old mid new : View) (p q n m : ℕ) → HasWords old dest → (source ≡ Some dest → p ≤ q)
+    → Copied rule tone source dest old mid p q n → Copied rule tone source dest mid new (p + n) (q + n) m → Copied rule tone source dest old new p q (n + m)
+copied_up rule tone source dest old mid new p q n m has dir a b =
+    copied_twice rule tone source dest old mid new p q (n + m) p q n (p + n) (q + n) m has a b (omega arith) (omega arith) (omega arith) (omega arith)
+    (λ i hi. elim (cases_order i n) [
+      | inl e ↦ second i hi (omega arith)
+      | inr s ↦ elim s [ inl lt ↦ b.below (p + i) (omega arith) ∙ a.inside i lt | inr gt ↦ second i hi (omega arith) ]
+    ])
   where
     second : (i : ℕ) → i < n + m → n ≤ i → pixel (words new dest) (p + i) ≡ combine rule (shaded tone source old p q i) (pixel (words old dest) (p + i))
     second i hi ge =
-        let e : p + n + (i - n) ≡ p + i = omega arith in
-        let f : q + n + (i - n) ≡ q + i = omega arith in
-        let x : pixel (words new dest) (p + n + (i - n)) ≡ combine rule (min (pixel_from mid source (q + n + (i - n))) (bit_at tone (15 - (p + n + (i - n)) % 16))) (pixel (words mid dest) (p + n + (i - n))) = b.inside (i - n) (omega arith) in
-        let y : pixel (words new dest) (p + i) ≡ combine rule (min (pixel_from mid source (q + i)) (bit_at tone (15 - (p + i) % 16))) (pixel (words mid dest) (p + i)) = rw (e, f) at x in
-        y ∙ ap (λ d. combine rule (min (pixel_from mid source (q + i)) (bit_at tone (15 - (p + i) % 16))) d) (a.above (p + i) (omega arith))
+        inside_behind rule tone source dest mid new p q n m b i hi ge
+        ∙ ap (λ d. combine rule (min (pixel_from mid source (q + i)) (bit_at tone (15 - (p + i) % 16))) d) (a.above (p + i) (omega arith))
         ∙ ap (λ s. combine rule (min s (bit_at tone (15 - (p + i) % 16))) (pixel (words old dest) (p + i))) (source_kept rule _ source dest old mid p n (q + i) a (λ h. inr (let d : p ≤ q = dir h in omega arith)))
 
 -- To the left: the last m pixels, and then the n before them. Where the source is the destination, it must not lie ahead.
 pub copied_down : (rule tone : ℕ) (source : Option Value) (dest : Value) (old mid new : View) (p q n m : ℕ) → HasWords old dest → (source ≡ Some dest → q ≤ p)
     → Copied rule tone source dest old mid (p + n) (q + n) m → Copied rule tone source dest mid new p q n → Copied rule tone source dest old new p q (n + m)
-copied_down rule tone source dest old mid new p q n m has dir a b = record {
-  inside = λ i hi. elim (cases_order i n) [
-    | inl e ↦ first i hi (omega arith)
-    | inr s ↦ elim s [
-      | inr gt ↦ first i hi (omega arith)
-      | inl lt ↦
-          b.inside i lt
-          ∙ ap (λ d. combine rule (min (pixel_from mid source (q + i)) (bit_at tone (15 - (p + i) % 16))) d) (a.below (p + i) (omega arith))
-          ∙ ap (λ s. combine rule (min s (bit_at tone (15 - (p + i) % 16))) (pixel (words old dest) (p + i))) (source_kept rule _ source dest old mid (p + n) m (q + i) a (λ h. inl (let d : q ≤ p = dir h in omega arith)))
-    ]
-  ];
-  below = λ k lt. b.below k lt ∙ a.below k (omega arith);
-  above = λ k ge. b.above k (omega arith) ∙ a.above k (omega arith);
-  others = λ o h. b.others o h ∙ a.others o h;
-  size = λ o. b.size o ∙ a.size o;
-  fits = λ all. b.fits (a.fits all);
-  there = λ o h. b.there o (a.there o h);
-  rest = rest_twice dest old mid new has a.rest b.rest;
-}
+copied_down rule tone source dest old mid new p q n m has dir a b =
+    copied_twice rule tone source dest old mid new p q (n + m) (p + n) (q + n) m p q n has a b (omega arith) (omega arith) (omega arith) (omega arith)
+    (λ i hi. elim (cases_order i n) [
+      | inl e ↦ first i hi (omega arith)
+      | inr s ↦ elim s [
+        | inr gt ↦ first i hi (omega arith)
+        | inl lt ↦
+            b.inside i lt
+            ∙ ap (λ d. combine rule (min (pixel_from mid source (q + i)) (bit_at tone (15 - (p + i) % 16))) d) (a.below (p + i) (omega arith))
+            ∙ ap (λ s. combine rule (min s (bit_at tone (15 - (p + i) % 16))) (pixel (words old dest) (p + i))) (source_kept rule _ source dest old mid (p + n) m (q + i) a (λ h. inl (let d : q ≤ p = dir h in omega arith)))
+      ]
+    ])
   where
     first : (i : ℕ) → i < n + m → n ≤ i → pixel (words new dest) (p + i) ≡ combine rule (shaded tone source old p q i) (pixel (words old dest) (p + i))
-    first i hi ge =
-        let e : p + n + (i - n) ≡ p + i = omega arith in
-        let f : q + n + (i - n) ≡ q + i = omega arith in
-        let x : pixel (words mid dest) (p + n + (i - n)) ≡ combine rule (min (pixel_from old source (q + n + (i - n))) (bit_at tone (15 - (p + n + (i - n)) % 16))) (pixel (words old dest) (p + n + (i - n))) = a.inside (i - n) (omega arith) in
-        let y : pixel (words mid dest) (p + i) ≡ combine rule (min (pixel_from old source (q + i)) (bit_at tone (15 - (p + i) % 16))) (pixel (words old dest) (p + i)) = rw (e, f) at x in
-        b.above (p + i) (omega arith) ∙ y
+    first i hi ge = b.above (p + i) (omega arith) ∙ inside_behind rule tone source dest old mid p q n m a i hi ge
 
 -- nothing was copied yet
 pub copied_none : (rule tone : ℕ) (source : Option Value) (dest : Value) (old : View) (p q n : ℕ) → HasWords old dest → n ≡ 0 → Copied rule tone source dest old old p q n

@@ -16,7 +16,8 @@ use Rattle.st_bitblt.specs.declared.source.Source.{Source}
 use Rattle.st_bitblt.specs.declared.source.Source.TheVariants as source
 use Rattle.st_bitblt.specs.Copied.{Copied, shaded, pixel_from, object_of_source}
 use Rattle.st_bitblt.specs.Stretches.{Combined, Restored, IsStretch}
-use Rattle.st_bitblt.proofs.Bits.{pixel_in, ones_bit}
+use Rattle.st_model.proofs.Painting.{pixel_in}
+use Rattle.st_bitblt.proofs.Bits.{ones_bit}
 use Rattle.st_bitblt.proofs.Parts.{pixel_is, pixel_set, pixel_set_other}
 use Rattle.st_bitblt.proofs.Words.{words_here, words_other, words_there}
 

@@ -1,16 +1,17 @@
 -- What the words of an object are once one of them was changed.
-use Rattle.std.proofs.Common.{◌≡◌, ◌≢◌, ℕ, zero, suc, ◌+◌, ◌^◌, ◌<◌, List, [], ◌∷◌, length, get_or, subst, Option, Some, None, is_some, true, false, refl, sym, ap, ◌∙◌, arith, inl, inr}
+use Rattle.std.proofs.Common.{◌≡◌, ◌≢◌, ℕ, zero, suc, ◌+◌, ◌^◌, ◌<◌, List, [], ◌∷◌, length, get_or, subst, Option, Some, None, is_some, true, refl, sym, ap, ◌∙◌, arith, inl, inr}
 use Rattle.std.specs.Prelude.{slice_get, unwrap_or}
 use Rattle.st_model.specs.declared.kind.Kind.{Kind}
 use Rattle.st_model.specs.declared.kind.Kind.TheVariants as kind
 use Rattle.st_model.specs.Values.{Value, Small, Ref}
-use Rattle.st_model.specs.Objects.{Object, holds_fields, is_words, size_of, first_unit}
+use Rattle.st_model.specs.Objects.{Object, is_words, size_of, first_unit}
 use Rattle.st_model.specs.View.{View, IsWhole, nothing, is_live, object_of}
 use Rattle.st_model.specs.Formed.{IsFormed, unit_limit}
 use Rattle.st_model.specs.Machine.{is_there}
 use Rattle.st_model.specs.Table.{Table, table, entry}
 use Rattle.st_model.specs.Pixels.{AllFit}
 use Rattle.st_model.proofs.Transfers.{same_or_not}
+use Rattle.st_model.proofs.KindTests.{words_fields}
 use Rattle.st_memory.specs.Copied.{with_units_in}
 use Rattle.st_memory.proofs.Laying.{live_in, object_here, object_other, units_again, units_none}
 use Rattle.st_memory.proofs.Bodies.{no_fields}
@@ -57,14 +58,8 @@ words_same v o live = ap (λ t. record { objects = t; held = v.held; head = v.he
 pub size_of_words : (v : View) (o : Value) → IsWhole v → HasWords v o → size_of (object_of v.objects o) ≡ length (words v o)
 size_of_words v o whole has =
     let s = sized (object_of v.objects o) has.kind in
-    let z = no_fields o whole has.live (words_hold (object_of v.objects o).kind has.kind) in
+    let z = no_fields o whole has.live (words_fields (object_of v.objects o).kind has.kind) in
     omega (arith, s, z)
-  where
-    words_hold : (k : Kind) → is_words k ≡ true → holds_fields k ≡ false
-    words_hold kind.Pointers e = cc
-    words_hold kind.Words e = refl
-    words_hold kind.Bytes e = cc
-    words_hold kind.Method e = cc
 
 pub has_words : (v : View) (o : Value) (n : ℕ) → HasWordsIn v.objects o n → HasWords v o
 has_words v o n h = record { live = h.live; kind = h.kind }

@@ -1,7 +1,5 @@
 ghost use Rattle.std.specs.Prelude.{◌≡◌};
-ghost use Rattle.st_model.specs.Values.{value};
-ghost use Rattle.st_model.specs.Table.{table};
-ghost use Rattle.st_model.specs.Deeds.{over_table, table_after};
+ghost use Rattle.st_model.specs.{Values.value, Table.table, Deeds.{over_table, table_after}};
 ghost use Rattle.st_model.specs.BitBlt.{read_copy, copy_bits};
 ghost use Rattle.st_bitblt.specs.Reading.{has_gone};
 

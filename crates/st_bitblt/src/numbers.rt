@@ -1,9 +1,6 @@
 ghost use Rattle.std.specs.Prelude.{◌≡◌, ◌<◌, ◌^◌, IfOk};
-ghost use Rattle.st_model.specs.Values.{word};
-ghost use Rattle.st_model.specs.Steps.{fetch_integer};
-ghost use Rattle.st_model.specs.Primitives.{positive_small};
-ghost use Rattle.st_model.specs.BitBlt.{fetch_positive};
-ghost use Rattle.st_model.specs.Calls.{Reads, itself};
+ghost use Rattle.st_model.specs.{Values.word, Steps.fetch_integer, Primitives.positive_small};
+ghost use Rattle.st_model.specs.{BitBlt.fetch_positive, Calls.{Reads, itself}};
 ghost use Rattle.st_bitblt.specs.Reading.{HasWordsIn, checked_words, lowered, units_in};
 
 use st_memory::Objects;

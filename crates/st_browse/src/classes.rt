@@ -35,7 +35,8 @@ pub fn global_at<M: Memory>(m: &M, globals: Oop, i: u32) -> Option<Named>
 /// The globals.
 #[tactic(auto, unfolding(crate::specs::Classes::globals_in))]
 pub fn globals<M: Memory>(m: &M) -> Names
-    ensures globals { let v = M.view m.now in names_in v.objects result ≡ globals_in v.objects v.head.globals }
+    ensures globals { let v = M.view m.now in
+        names_in v.objects result ≡ globals_in v.objects v.head.globals }
     ensures few { count_of result ≤ 131066 }
 {
     let globals = m.globals();

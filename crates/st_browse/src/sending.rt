@@ -28,7 +28,8 @@ fn is_symbol<M: Memory>(m: &M, v: Oop, text: &[u8]) -> bool
 /// Whether a Symbol of this text is a literal of a method.
 fn has_literal<M: Memory>(m: &M, body: Body, text: &[u8]) -> bool
     requires { IsBody (M.view m.now).objects body }
-    ensures { let t = (M.view m.now).objects in let literals = drop 1 (object_of t (value body.method)).fields in
+    ensures { let t = (M.view m.now).objects in
+        let literals = drop 1 (object_of t (value body.method)).fields in
         result ≡ list_any (is_symbol t text.now) literals }
 {
     for i in 1..body.fields {

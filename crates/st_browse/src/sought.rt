@@ -99,7 +99,8 @@ fn seek_source<'a, M: Memory>(
 fn seek_bytecodes<'a, M: Memory>(m: &M, side: Side<'_>, selector: &[u8]) -> Option<Sought<'a>>
     ensures sought { let v = M.view m.now in
         let found = class_of_side v (side_of side.entry) in
-        option_map (sought_text v.objects) result ≡ option_and_then (bytecodes_in v.objects selector.now) found }
+        option_map (sought_text v.objects) result
+        ≡ option_and_then (bytecodes_in v.objects selector.now) found }
     ensures there { IfSome result (λ s. IsSought (M.view m.now).objects s) }
 {
     let class = class_of_side(m, side)?;

@@ -135,7 +135,8 @@ impl<'a> Arguments<'a> {
 
     /// With the value of an option; none where it has one, or this is no number of 32 bits.
     fn with_setting(self, word: &str, setting: Setting) -> Option<Arguments<'a>>
-        ensures { option_map arguments_view result ≡ with_setting (arguments_view self.entry) word.now setting }
+        ensures { option_map arguments_view result
+            ≡ with_setting (arguments_view self.entry) word.now setting }
     {
         if setting.value_in(self.options).is_some() {
             return None;

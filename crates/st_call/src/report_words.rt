@@ -48,7 +48,8 @@ fn push_pointer<H: Host>(out: &mut Output, host: &mut H, o: Oop) -> Pushed
 /// Adds a value after a space: a pointer as @60, a SmallInteger as its number.
 #[tactic(auto, using(st_model::proofs::Words::texts))]
 pub fn push_value<H: Host>(out: &mut Output, host: &mut H, o: Oop) -> Pushed
-    ensures { Pushes H.Host.own (codes " " ++ value_text (value o)) host.old host.new out.old out.new result }
+    ensures { Pushes H.Host.own (codes " " ++ value_text (value o))
+        host.old host.new out.old out.new result }
 {
     if o.is_small() {
         push_integer(out, host, o.integer())

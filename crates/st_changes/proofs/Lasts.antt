@@ -8,17 +8,18 @@ use Rattle.std.proofs.lemmas.Bool.{and_parts}
 use Rattle.std.proofs.lemmas.Bool.Decides.{Decides-and}
 use Rattle.st_scan.specs.Views.{MethodView}
 use Rattle.st_grammar.proofs.Faulty.{tree_determined}
+use Rattle.st_grammar.proofs.Syntaxes.{means_tree}
 use Rattle.st_chunk.specs.Texts.{mark, doubled}
 use Rattle.st_chunk.specs.Groups.{header_text}
 use Rattle.st_chunk.specs.Definitions.{Definition, IsDefinition, header_for, line_feed, method_part, entry, entries, definitions_in}
 use Rattle.st_chunk.proofs.Entries.{read_back}
 use Rattle.st_changes.specs.declared.span.Span.{Span}
-use Rattle.st_changes.specs.IndexStates.{IndexState, HasName, found, updated}
-use Rattle.st_changes.specs.Last.{HasSelector, FindsSelector, IsOf, IsNowhere, IsLast, Answers, HasPlace, IsPrepared, IsReady, text_place, span_of}
+use Rattle.st_changes.specs.IndexStates.{IndexState, HasName, updated}
+use Rattle.st_changes.specs.Last.{HasSelector, FindsSelector, IsOf, IsNowhere, IsLast, Answers, IsPrepared, IsReady, text_place, span_of}
 use Rattle.st_changes.proofs.ListTexts.{more_of, all_more}
 
 pub one_selector : (text s t : List ℕ) → HasSelector text s → HasSelector text t → s ≡ t
-one_selector text s t x y = sym x.is ∙ ap (λ (v : MethodView). v.selector) (tree_determined text x.tree y.tree x.means y.means) ∙ y.is
+one_selector text s t x y = sym x.is ∙ ap (λ (v : MethodView). v.selector) (tree_determined text x.tree y.tree (means_tree text x.tree x.means) (means_tree text y.tree y.means)) ∙ y.is
 
 pub none_of : (P : Definition → Type 0) → All P []
 none_of P k x less = absurd (omega arith)

@@ -7,7 +7,7 @@ use Rattle.st_host.specs.Runs.{Changes, WritesAbove, IsSynced, IsAtRest, Makes}
 use Rattle.st_host.specs.declared.host.Host.{Ghosts}
 use Rattle.st_host.proofs.Joining.{on_err}
 use Rattle.st_host.proofs.Touching.{above_changes}
-use Rattle.st_store.specs.Names.{roots_file, changes_file, image_file}
+use Rattle.st_store.specs.Names.{changes_file, image_file}
 use Rattle.st_store.specs.Stored.{StoreState, Stored, Begins, Opens, IsFirm, IsKept}
 use Rattle.st_store.specs.declared.root.Root.{Root}
 use Rattle.st_store.proofs.Beside.{beside_kept, beside_makes}

@@ -1,8 +1,8 @@
 -- The last definition of a class, a side of it and a selector, and where its text stands in the changes file.
-use Rattle.std.specs.Prelude.{◌≡◌, ℕ, ◌+◌, ◌-◌, ◌≤◌, Bool, List, ◌∷◌, ◌++◌, length, Option, Some, None, MatchOption, All}
+use Rattle.std.specs.Prelude.{◌≡◌, ℕ, ◌+◌, ◌-◌, ◌≤◌, Bool, List, ◌∷◌, ◌++◌, length, Option, Some, None, Ok, MatchOption, All}
 use Rattle.std.specs.Option.{ForSome}
 use Rattle.st_scan.specs.Views.{MethodView}
-use Rattle.st_grammar.specs.Texts.{Means}
+use Rattle.st_grammar.specs.Syntax.{syntax}
 use Rattle.st_chunk.specs.Texts.{doubled}
 use Rattle.st_chunk.specs.Groups.{header_text}
 use Rattle.st_chunk.specs.Definitions.{Definition, IsDefinition, header_for, entry, entries}
@@ -12,7 +12,7 @@ use Rattle.st_changes.specs.declared.span.Span.{Span}
 -- the text means a tree of this selector
 pub record HasSelector (text selector : List ℕ) : Type 0 where
   pub tree : MethodView
-  pub means : Means text tree
+  pub means : syntax text ≡ Ok tree
   pub is : tree.selector ≡ selector
 
 -- the selector was found, or the text means no tree

@@ -21,7 +21,8 @@ fn write_behind<H: Host>(host: &mut H, store: &Store, bytes: &[u8]) -> Result<()
     ensures firm { OnOk result ((c : Stored) → IsTrue H.is_told → IsKept H.Host.own host.old store.now c
         → c.root.length + length bytes.now ≤ 2 ^ 30
         → IsFirm H.Host.own host.new store.now.name (grown c bytes.now)) }
-    ensures changes { ChangesFile H.Host.own (changes_file store.now.name store.now.root.slot) host.old host.new }
+    ensures changes { ChangesFile H.Host.own (changes_file store.now.name store.now.root.slot) host.old
+        host.new }
     ensures cause { HasCause (H.disk_faults host.old) (H.disk_faults host.new) result }
 {
     let root = store.root();
@@ -62,7 +63,8 @@ impl Changes {
         ensures broken { OnErr result ((c : Stored) → IsTrue H.is_told → IsKept H.Host.own host.old store c
             → RestsUnlessGate H.Host.own (Opens store.name) store.name c host.new) }
 
-        ensures changes { ChangesBoth H.Host.own (changes_file store.name store.root.slot) (roots_file store.name)
+        ensures changes { ChangesBoth H.Host.own (changes_file store.name store.root.slot)
+            (roots_file store.name)
             host.old host.new }
         ensures cause { HasCause (H.disk_faults host.old) (H.disk_faults host.new) result }
     {

@@ -3,6 +3,7 @@ use crate::Definition;
 use crate::counting::{count_before, definition_at};
 use crate::index::Index;
 use crate::noting::prepare;
+use crate::selector::find_selector;
 use crate::span::Span;
 use crate::writing::{entry_length, entry_text};
 use st_scan::Text;
@@ -64,7 +65,7 @@ impl Changes {
     ghost use Rattle.st_changes.specs.States.{FitsBehind};
     ghost use Rattle.st_changes.specs.Lists.{StandsAt};
     ghost use Rattle.std.specs.Option.{option_map};
-    ghost use Rattle.st_changes.specs.Last.{IsNowhere, IsLast, IsLastText};
+    ghost use Rattle.st_changes.specs.Last.{FindsSelector, IsNowhere, IsLast, IsLastText};
 
     /// The definitions, in order.
     pub fn definitions(&self) -> &[Definition]
@@ -120,9 +121,29 @@ impl Changes {
         ensures reserved { OnOk result (self.new.reserved ≡ Some (entry (definition_of definition.now))) }
         ensures err { OnErr result (self.new.reserved ≡ self.old.reserved) }
     {
+        let selector = find_selector(alloc, &definition.text)?;
+        self.reserve_as(alloc, definition, selector)
+    }
+
+    /// The same for a definition whose text is parsed: of this selector, or of none where it means no tree.
+    pub fn reserve_as(
+        &mut self,
+        alloc: Global,
+        definition: &Definition,
+        selector: Option<Text>,
+    ) -> Result<(), AllocError>
+        requires good { IsDefinition (definition_of definition.now) }
+        requires finds { FindsSelector (definition_of definition.now).text
+            (option_map (λ v. v.items) selector) }
+        ensures named { self.new.name ≡ self.old.name }
+        ensures second { self.new.second ≡ self.old.second }
+        ensures listed { self.new.listed ≡ self.old.listed }
+        ensures reserved { OnOk result (self.new.reserved ≡ Some (entry (definition_of definition.now))) }
+        ensures err { OnErr result (self.new.reserved ≡ self.old.reserved) }
+    {
         let entry = entry_text(alloc, definition)?;
         self.listed.reserve(1)?;
-        let selector = prepare(alloc, &mut self.index, definition)?;
+        prepare(alloc, &mut self.index, definition, &selector)?;
         self.ready = Some(Ready { entry, selector });
         Ok(())
     }

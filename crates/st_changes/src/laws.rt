@@ -30,8 +30,10 @@ pub fn one_damage()
 /// Where a list is condensed, the text of the last definition of a class, a side and a selector is as before, and so is that there
 /// is none.
 pub fn condensing_keeps_last()
-    ensures last { (ds : List Definition) (base : ℕ) (z : Condenses ds base) (c : List ℕ) (m : Bool) (s t : List ℕ)
+    ensures last { (ds : List Definition) (base : ℕ) (z : Condenses ds base) (c : List ℕ) (m : Bool)
+        (s t : List ℕ)
         → IsLastText ds c m s t → IsLastText (z.kept ++ z.behind) c m s t }
-    ensures nowhere { (ds : List Definition) (base : ℕ) (z : Condenses ds base) (c : List ℕ) (m : Bool) (s : List ℕ)
+    ensures nowhere { (ds : List Definition) (base : ℕ) (z : Condenses ds base) (c : List ℕ) (m : Bool)
+        (s : List ℕ)
         → IsNowhere ds c m s → IsNowhere (z.kept ++ z.behind) c m s }
 {}

@@ -65,7 +65,8 @@ pub fn load<H: Host>(alloc: Global, host: &mut H, store: &Store) -> Result<Chang
     ensures kind { IfErr result IsOfLoading }
     ensures alike { OnOk result (ReadsAlike H.Host.own host.old host.new) }
     ensures reads { OnlyReads H.Host.own host.old host.new }
-    ensures only { ChangesFile H.Host.own (changes_file store.now.name store.now.root.slot) host.old host.new }
+    ensures only { ChangesFile H.Host.own (changes_file store.now.name store.now.root.slot) host.old
+        host.new }
     ensures cause { FaultHasCause (H.disk_faults host.old) (H.disk_faults host.new) result }
 {
     let root = store.root();

@@ -13,24 +13,24 @@ use crate::writing::{doubled_length, entry_length};
 use st_scan::Text;
 use std::alloc::{AllocError, Global};
 
-/// The selector of a definition, or none where its text means no tree. Takes the memory that noting needs.
+/// Takes the memory that noting a definition needs, of this selector, or of none where its text means no tree.
 pub(crate) fn prepare(
     alloc: Global,
     index: &mut Index,
     definition: &Definition,
-) -> Result<Option<Text>, AllocError>
-    requires { IsDefinition (definition_of definition.now) }
-    ensures prepared { IfOk result (λ s.
-        IsPrepared index.new (definition_of definition.now) (option_map (λ v. v.items) s)) }
+    selector: &Option<Text>,
+) -> Result<(), AllocError>
+    requires { FindsSelector (definition_of definition.now).text (option_map (λ v. v.items) selector.now) }
+    ensures prepared { OnOk result
+        (IsPrepared index.new (definition_of definition.now) (option_map (λ v. v.items) selector.now)) }
     ensures same { (c : List ℕ) (m : Bool) (s : List ℕ) → found index.new c m s ≡ found index.old c m s }
     ensures keeps { (n : List ℕ) → HasName index.old n → HasName index.new n }
     ensures room { index.old.room ≤ index.new.room }
 {
-    let selector = find_selector(alloc, &definition.text)?;
-    if let Some(name) = &selector {
+    if let Some(name) = selector {
         index.reserve(alloc, &definition.class, name)?;
     }
-    Ok(selector)
+    Ok(())
 }
 
 /// The place of a definition's text in a changes file, where its entry ends at this place.
@@ -71,7 +71,8 @@ pub(crate) fn index_all(alloc: Global, listed: &[Definition]) -> Result<Index, A
     let mut index = Index::new(alloc);
     let mut end = 0;
     for definition in listed {
-        let selector = prepare(alloc, &mut index, definition)?;
+        let selector = find_selector(alloc, &definition.text)?;
+        prepare(alloc, &mut index, definition, &selector)?;
         end += entry_length(definition);
         note(&mut index, definition, &selector, end);
     }

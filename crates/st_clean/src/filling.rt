@@ -12,7 +12,8 @@ use std::alloc::{AllocError, Global};
 fn count_literals<M: Memory>(m: &M, o: Oop, fields: u32) -> u32
     requires live { is_live (M.view m.now).objects (value o) ≡ true }
     requires fields { fields ≡ length (object_of (M.view m.now).objects (value o)).fields }
-    ensures method { is_method (object_of (M.view m.now).objects (value o)).kind ≡ true → result + 1 ≡ fields }
+    ensures method { is_method (object_of (M.view m.now).objects (value o)).kind ≡ true
+        → result + 1 ≡ fields }
     ensures other { is_method (object_of (M.view m.now).objects (value o)).kind ≡ false → result ≡ 0 }
 {
     if m.kind(o).is_method() { fields - 1 } else { 0 }
@@ -34,7 +35,8 @@ fn place_copy<M: Memory, L: Loader>(loader: &mut L, m: &M, o: Oop, fields: u32)
 fn copy_fields<M: Memory, L: Loader>(loader: &mut L, m: &M, o: Oop, fields: u32)
     requires live { is_live (M.view m.now).objects (value o) ≡ true }
     requires fields { fields ≡ length (object_of (M.view m.now).objects (value o)).fields }
-    requires placed { IsAmong (L.loaded loader.old) (value o) 0 0 (object_of (M.view m.now).objects (value o)) }
+    requires placed { IsAmong (L.loaded loader.old) (value o) 0 0
+        (object_of (M.view m.now).objects (value o)) }
     ensures { PutsPart (L.loaded loader.old) (L.loaded loader.new) (value o) fields 0
         (object_of (M.view m.now).objects (value o)) }
 {

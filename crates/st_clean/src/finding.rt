@@ -76,7 +76,8 @@ impl Found {
     /// Finds what an object refers to: its class, and what its fields or literals name.
     pub fn note_references<M: Memory>(&mut self, m: &M, o: Oop) -> Result<(), AllocError>
         requires live { is_live (M.view m.now).objects (value o) ≡ true }
-        ensures { OnOk result (Notes (names_in (object_of (M.view m.now).objects (value o))) self.old self.new) }
+        ensures { OnOk result
+            (Notes (names_in (object_of (M.view m.now).objects (value o))) self.old self.new) }
     {
         self.note(m.class_of(o))?;
         self.note_fields(m, o, count_fields(m, o))?;

@@ -22,7 +22,8 @@ pub fn one_reach()
 /// and the image of that is well-formed.
 pub fn clean_image_is_read()
     ensures formed { (v : View) (set : ℕ → Bool) → IsWhole v → CanStart v → IsReach v.objects v.head set →
-        IsWellFormed (head_over no_values (image_only v.objects v.head set)) (image_only v.objects v.head set) }
+        IsWellFormed (head_over no_values (image_only v.objects v.head set))
+        (image_only v.objects v.head set) }
     ensures starts { (v : View) (set : ℕ → Bool) → IsWhole v → CanStart v → IsReach v.objects v.head set →
         CanStart (only v.objects v.head set) }
 {}

@@ -1,5 +1,5 @@
 -- Names that are declared one after the other, and targets from the outside in.
-use Rattle.std.proofs.Common.{◌≡◌, ℕ, ◌+◌, ◌<◌, Bool, true, false, ◌||◌, List, [], ◌∷◌, ◌++◌, length, take, drop, get_or, Option, Some, None, refl, sym, ap, ◌∙◌, arith, append_assoc, cond}
+use Rattle.std.proofs.Common.{◌≡◌, ℕ, ◌+◌, ◌-◌, ◌<◌, ◌≤◌, Bool, true, false, ◌||◌, List, [], ◌∷◌, ◌++◌, length, take, drop, get_or, Option, Some, None, refl, sym, ap, ◌∙◌, subst, arith, append_assoc, cond}
 use Rattle.std.specs.Prelude.{is_some, bytes_eq, if◌then◌else◌}
 use Rattle.std.proofs.lemmas.List.{at_drop_more, take_more, length-map, length-take-le}
 use Rattle.st_scan.specs.declared.tree.Name.{Name}
@@ -10,8 +10,11 @@ use Rattle.st_code.specs.declared.fault.Fault.{Fault}
 use Rattle.st_code.specs.declared.fault.Cause.TheVariants.{Twice}
 use Rattle.st_emit.specs.Names.{NamesView, Scope, Declared, numbered, declared, declared_as, or_else, is_among}
 use Rattle.st_code.specs.Faults.{declare_fault, fault_at}
-use Rattle.st_code.specs.ChainFaults.{target_fault, targets_fault}
+use Rattle.st_code.specs.ChainFaults.{among_fault, target_fault, targets_fault}
+use Rattle.st_code.specs.declared.fault.CodeFault.{CodeFault}
+use Rattle.st_code.specs.Reported.{IsFault}
 use Rattle.st_code.proofs.ChainFaults.{or_assoc}
+use Rattle.st_code.proofs.Reporting.{fault_first}
 
 -- TARGETS
 
@@ -36,6 +39,23 @@ targets_turn names scope links i l lt e =
     map_more : (ls : List Link) (x : Link) → links_view (ls ++ x ∷ []) ≡ links_view ls ++ link_view x ∷ []
     map_more [] x = refl
     map_more (y ∷ ls) x = ap (λ r. link_view y ∷ r) (map_more ls x)
+
+-- what is left of the targets from the outside in
+targets_here : (names : NamesView) (scope : Scope) (links : List Link) (left : ℕ) (l : Link) → 0 < left → left ≤ length links → l ≡ get_or links (left - 1) l
+    → targets_fault names scope (links_view (take left links)) ≡ or_else (target_fault names scope (link_view l)) (targets_fault names scope (links_view (take (left - 1) links)))
+targets_here names scope links left l some within e =
+    let one : left - 1 + 1 ≡ left = omega arith in
+    sym (ap (λ (k : ℕ). targets_fault names scope (links_view (take k links))) one) ∙ targets_turn names scope links (left - 1) l (omega arith) e
+
+pub targets_go_on : (names : NamesView) (scope : Scope) (links : List Link) (left : ℕ) (l : Link) (total : Option Fault) → 0 < left → left ≤ length links → l ≡ get_or links (left - 1) l → target_fault names scope (link_view l) ≡ None
+    → targets_fault names scope (links_view (take left links)) ≡ total → targets_fault names scope (links_view (take (left - 1) links)) ≡ total
+targets_go_on names scope links left l total some within e none so_far =
+    sym (targets_here names scope links left l some within e ∙ ap (λ (f : Option Fault). or_else f (targets_fault names scope (links_view (take (left - 1) links)))) none) ∙ so_far
+
+pub targets_stop : (names : NamesView) (scope : Scope) (links : List Link) (left : ℕ) (l : Link) (total : Option Fault) → 0 < left → left ≤ length links → l ≡ get_or links (left - 1) l
+    → targets_fault names scope (links_view (take left links)) ≡ total → (f : CodeFault) → IsFault (target_fault names scope (link_view l)) f → IsFault total f
+targets_stop names scope links left l total some within e so_far f h =
+    subst (λ (x : Option Fault). IsFault x f) (sym (targets_here names scope links left l some within e) ∙ so_far) (fault_first (target_fault names scope (link_view l)) (targets_fault names scope (links_view (take (left - 1) links))) f h)
 
 -- NAMES
 
@@ -88,3 +108,18 @@ declare_turn names scope i n found lt e h =
     ∙ ap (λ (b : Bool). or_else (if b then fault_at n.place Twice else None) (declare_fault (i + 1) rest (declared false i (name_view n ∷ []) here)))
     (declared_append scope false 0 (names_view (take i names)) n.text.items ∙ sym h)
     ∙ ap (λ (s : Scope). or_else (if found then fault_at n.place Twice else None) (declare_fault (i + 1) rest s)) (scope_more false names scope i n lt e)
+
+-- the first fault from the i-th name on, those before it being in scope
+abbrev pub declared_from : List Name → Scope → ℕ → Option Fault
+declared_from names scope i = declare_fault i (names_view (drop i names)) (scope ++ numbered false 0 (names_view (take i names)))
+
+abbrev pub declared_here : List Name → Scope → ℕ → Name → Option Fault
+declared_here names scope i n = among_fault scope (names_view (take i names)) (name_view n)
+
+-- a name without a fault leaves the fault to the others; the fault of one is that of all
+pub declare_goes_on : (names : List Name) (scope : Scope) (i : ℕ) (n : Name) (total : Option Fault) → i < length names → n ≡ get_or names i n → declared_here names scope i n ≡ None → declared_from names scope i ≡ total → declared_from names scope (i + 1) ≡ total
+declare_goes_on names scope i n total lt e none so_far = sym (declare_turn names scope i n _ lt e refl ∙ ap (λ (f : Option Fault). or_else f (declared_from names scope (i + 1))) none) ∙ so_far
+
+pub declare_stops : (names : List Name) (scope : Scope) (i : ℕ) (n : Name) (total : Option Fault) → i < length names → n ≡ get_or names i n → declared_from names scope i ≡ total → (f : CodeFault) → IsFault (declared_here names scope i n) f → IsFault total f
+declare_stops names scope i n total lt e so_far f h =
+    subst (λ (x : Option Fault). IsFault x f) (sym (declare_turn names scope i n _ lt e refl) ∙ so_far) (fault_first (declared_here names scope i n) (declared_from names scope (i + 1)) f h)

@@ -1,31 +1,12 @@
 -- Forms, by the definitions alone.
-use Rattle.std.proofs.Common.{ℕ, Bool, true, false, List, [], ◌∷◌, refl, Some, None}
+use Rattle.std.proofs.Common.{true, false, [], ◌∷◌, refl, Some, None}
 use Rattle.std.specs.Prelude.{codes, Ok, Err, ◌≡◌}
-use Rattle.st_scan.specs.declared.token.Signed.{Signed}
-use Rattle.st_scan.specs.Views.{NameView, ContentView, ExpressionView}
 use Rattle.st_scan.specs.Views as v
 use Rattle.st_code.specs.declared.fault.Cause.TheVariants.{Unknown, Twice, Store}
 use Rattle.st_emit.specs.Literals as l
-use Rattle.st_emit.specs.Names.{NamesView}
+use Rattle.st_scan.proofs.Worked.{signed, name_at as nm, literal_at as lit}
+use Rattle.st_emit.proofs.Worked.{point}
 use Rattle.st_code.specs.Methods.{code}
-
-abbrev signed : Bool → ℕ → Signed
-signed minus size = record { minus = minus; size = size }
-
-abbrev nm : List ℕ → ℕ → NameView
-nm text place = record { text = text; place = place }
-
-abbrev lit : ℕ → ContentView → ExpressionView
-lit place what = v.literal (record { place = place; what = what })
-
-abbrev point : NamesView
-point = (record { fields = ((codes "x") ∷ (codes "y") ∷ []); shared = ((record { text = codes "Point"; association = 100 }) ∷ (record { text = codes "Gone"; association = 102 }) ∷ []); symbols = true })
-
-abbrev no_names : NamesView
-no_names = (record { fields = []; shared = []; symbols = true })
-
-abbrev no_symbols : NamesView
-no_symbols = (record { fields = []; shared = []; symbols = false })
 
 -- foo ^x ifTrue: [1] ifFalse: [x. x. x. x x]
 over_eight : code (record { selector = codes "foo"; arguments = []; temporaries = []; primitive = None; body = (v.statement true (v.send (v.variable (nm (codes "x") 6)) (v.message (codes "ifTrue:ifFalse:") (v.expression (v.block [] (v.statement false (lit 17 (v.number (signed false 1))) v.no_statements)) (v.expression (v.block [] (v.statement false (v.variable (nm (codes "x") 30)) (v.statement false (v.variable (nm (codes "x") 33)) (v.statement false (v.variable (nm (codes "x") 36)) (v.statement false (v.send (v.variable (nm (codes "x") 39)) (v.message (codes "x") v.no_expressions v.no_messages)) v.no_statements))))) v.no_expressions)) v.no_messages)) v.no_statements) }) point ≡ (Ok (record { selector = codes "foo"; header = 1; literals = []; bytes = (0 ∷ 153 ∷ 118 ∷ 151 ∷ 0 ∷ 135 ∷ 0 ∷ 135 ∷ 0 ∷ 135 ∷ 0 ∷ 206 ∷ 124 ∷ []) }))

@@ -1,31 +1,12 @@
 -- Limits, by the definitions alone.
-use Rattle.std.proofs.Common.{ℕ, Bool, true, false, List, [], ◌∷◌, refl, None}
+use Rattle.std.proofs.Common.{true, false, [], ◌∷◌, refl, None}
 use Rattle.std.specs.Prelude.{codes, Ok, Err, ◌≡◌}
-use Rattle.st_scan.specs.declared.token.Signed.{Signed}
-use Rattle.st_scan.specs.Views.{NameView, ContentView, ExpressionView}
 use Rattle.st_scan.specs.Views as v
 use Rattle.st_code.specs.declared.fault.Cause.TheVariants.{Literals, Temporaries, Depth}
 use Rattle.st_emit.specs.Literals as l
-use Rattle.st_emit.specs.Names.{NamesView}
+use Rattle.st_scan.proofs.Worked.{signed, name_at as nm, literal_at as lit}
+use Rattle.st_emit.proofs.Worked.{point}
 use Rattle.st_code.specs.Methods.{code}
-
-abbrev signed : Bool → ℕ → Signed
-signed minus size = record { minus = minus; size = size }
-
-abbrev nm : List ℕ → ℕ → NameView
-nm text place = record { text = text; place = place }
-
-abbrev lit : ℕ → ContentView → ExpressionView
-lit place what = v.literal (record { place = place; what = what })
-
-abbrev point : NamesView
-point = (record { fields = ((codes "x") ∷ (codes "y") ∷ []); shared = ((record { text = codes "Point"; association = 100 }) ∷ (record { text = codes "Gone"; association = 102 }) ∷ []); symbols = true })
-
-abbrev no_names : NamesView
-no_names = (record { fields = []; shared = []; symbols = true })
-
-abbrev no_symbols : NamesView
-no_symbols = (record { fields = []; shared = []; symbols = false })
 
 -- foo 100. 101. 102. 103. 104. 105. 106. 107. 108. 109. 110. 111. 112. 113. 114. 115. 116. 1 ..
 sixty_three_literals : code (record { selector = codes "foo"; arguments = []; temporaries = []; primitive = None; body = (v.statement false (lit 5 (v.number (signed false 100))) (v.statement false (lit 10 (v.number (signed false 101))) (v.statement false (lit 15 (v.number (signed false 102))) (v.statement false (lit 20 (v.number (signed false 103))) (v.statement false (lit 25 (v.number (signed false 104))) (v.statement false (lit 30 (v.number (signed false 105))) (v.statement false (lit 35 (v.number (signed false 106))) (v.statement false (lit 40 (v.number (signed false 107))) (v.statement false (lit 45 (v.number (signed false 108))) (v.statement false (lit 50 (v.number (signed false 109))) (v.statement false (lit 55 (v.number (signed false 110))) (v.statement false (lit 60 (v.number (signed false 111))) (v.statement false (lit 65 (v.number (signed false 112))) (v.statement false (lit 70 (v.number (signed false 113))) (v.statement false (lit 75 (v.number (signed false 114))) (v.statement false (lit 80 (v.number (signed false 115))) (v.statement false (lit 85 (v.number (signed false 116))) (v.statement false (lit 90 (v.number (signed false 117))) (v.statement false (lit 95 (v.number (signed false 118))) (v.statement false (lit 100 (v.number (signed false 119))) (v.statement false (lit 105 (v.number (signed false 120))) (v.statement false (lit 110 (v.number (signed false 121))) (v.statement false (lit 115 (v.number (signed false 122))) (v.statement false (lit 120 (v.number (signed false 123))) (v.statement false (lit 125 (v.number (signed false 124))) (v.statement false (lit 130 (v.number (signed false 125))) (v.statement false (lit 135 (v.number (signed false 126))) (v.statement false (lit 140 (v.number (signed false 127))) (v.statement false (lit 145 (v.number (signed false 128))) (v.statement false (lit 150 (v.number (signed false 129))) (v.statement false (lit 155 (v.number (signed false 130))) (v.statement false (lit 160 (v.number (signed false 131))) (v.statement false (lit 165 (v.number (signed false 132))) (v.statement false (lit 170 (v.number (signed false 133))) (v.statement false (lit 175 (v.number (signed false 134))) (v.statement false (lit 180 (v.number (signed false 135))) (v.statement false (lit 185 (v.number (signed false 136))) (v.statement false (lit 190 (v.number (signed false 137))) (v.statement false (lit 195 (v.number (signed false 138))) (v.statement false (lit 200 (v.number (signed false 139))) (v.statement false (lit 205 (v.number (signed false 140))) (v.statement false (lit 210 (v.number (signed false 141))) (v.statement false (lit 215 (v.number (signed false 142))) (v.statement false (lit 220 (v.number (signed false 143))) (v.statement false (lit 225 (v.number (signed false 144))) (v.statement false (lit 230 (v.number (signed false 145))) (v.statement false (lit 235 (v.number (signed false 146))) (v.statement false (lit 240 (v.number (signed false 147))) (v.statement false (lit 245 (v.number (signed false 148))) (v.statement false (lit 250 (v.number (signed false 149))) (v.statement false (lit 255 (v.number (signed false 150))) (v.statement false (lit 260 (v.number (signed false 151))) (v.statement false (lit 265 (v.number (signed false 152))) (v.statement false (lit 270 (v.number (signed false 153))) (v.statement false (lit 275 (v.number (signed false 154))) (v.statement false (lit 280 (v.number (signed false 155))) (v.statement false (lit 285 (v.number (signed false 156))) (v.statement false (lit 290 (v.number (signed false 157))) (v.statement false (lit 295 (v.number (signed false 158))) (v.statement false (lit 300 (v.number (signed false 159))) (v.statement false (lit 305 (v.number (signed false 160))) (v.statement false (lit 310 (v.number (signed false 161))) (v.statement true (lit 316 (v.number (signed false 163))) v.no_statements))))))))))))))))))))))))))))))))))))))))))))))))))))))))))))))) }) point ≡ (Ok (record { selector = codes "foo"; header = 127; literals = ((l.number (signed false 100)) ∷ (l.number (signed false 101)) ∷ (l.number (signed false 102)) ∷ (l.number (signed false 103)) ∷ (l.number (signed false 104)) ∷ (l.number (signed false 105)) ∷ (l.number (signed false 106)) ∷ (l.number (signed false 107)) ∷ (l.number (signed false 108)) ∷ (l.number (signed false 109)) ∷ (l.number (signed false 110)) ∷ (l.number (signed false 111)) ∷ (l.number (signed false 112)) ∷ (l.number (signed false 113)) ∷ (l.number (signed false 114)) ∷ (l.number (signed false 115)) ∷ (l.number (signed false 116)) ∷ (l.number (signed false 117)) ∷ (l.number (signed false 118)) ∷ (l.number (signed false 119)) ∷ (l.number (signed false 120)) ∷ (l.number (signed false 121)) ∷ (l.number (signed false 122)) ∷ (l.number (signed false 123)) ∷ (l.number (signed false 124)) ∷ (l.number (signed false 125)) ∷ (l.number (signed false 126)) ∷ (l.number (signed false 127)) ∷ (l.number (signed false 128)) ∷ (l.number (signed false 129)) ∷ (l.number (signed false 130)) ∷ (l.number (signed false 131)) ∷ (l.number (signed false 132)) ∷ (l.number (signed false 133)) ∷ (l.number (signed false 134)) ∷ (l.number (signed false 135)) ∷ (l.number (signed false 136)) ∷ (l.number (signed false 137)) ∷ (l.number (signed false 138)) ∷ (l.number (signed false 139)) ∷ (l.number (signed false 140)) ∷ (l.number (signed false 141)) ∷ (l.number (signed false 142)) ∷ (l.number (signed false 143)) ∷ (l.number (signed false 144)) ∷ (l.number (signed false 145)) ∷ (l.number (signed false 146)) ∷ (l.number (signed false 147)) ∷ (l.number (signed false 148)) ∷ (l.number (signed false 149)) ∷ (l.number (signed false 150)) ∷ (l.number (signed false 151)) ∷ (l.number (signed false 152)) ∷ (l.number (signed false 153)) ∷ (l.number (signed false 154)) ∷ (l.number (signed false 155)) ∷ (l.number (signed false 156)) ∷ (l.number (signed false 157)) ∷ (l.number (signed false 158)) ∷ (l.number (signed false 159)) ∷ (l.number (signed false 160)) ∷ (l.number (signed false 161)) ∷ (l.number (signed false 163)) ∷ []); bytes = (32 ∷ 135 ∷ 33 ∷ 135 ∷ 34 ∷ 135 ∷ 35 ∷ 135 ∷ 36 ∷ 135 ∷ 37 ∷ 135 ∷ 38 ∷ 135 ∷ 39 ∷ 135 ∷ 40 ∷ 135 ∷ 41 ∷ 135 ∷ 42 ∷ 135 ∷ 43 ∷ 135 ∷ 44 ∷ 135 ∷ 45 ∷ 135 ∷ 46 ∷ 135 ∷ 47 ∷ 135 ∷ 48 ∷ 135 ∷ 49 ∷ 135 ∷ 50 ∷ 135 ∷ 51 ∷ 135 ∷ 52 ∷ 135 ∷ 53 ∷ 135 ∷ 54 ∷ 135 ∷ 55 ∷ 135 ∷ 56 ∷ 135 ∷ 57 ∷ 135 ∷ 58 ∷ 135 ∷ 59 ∷ 135 ∷ 60 ∷ 135 ∷ 61 ∷ 135 ∷ 62 ∷ 135 ∷ 63 ∷ 135 ∷ 128 ∷ 160 ∷ 135 ∷ 128 ∷ 161 ∷ 135 ∷ 128 ∷ 162 ∷ 135 ∷ 128 ∷ 163 ∷ 135 ∷ 128 ∷ 164 ∷ 135 ∷ 128 ∷ 165 ∷ 135 ∷ 128 ∷ 166 ∷ 135 ∷ 128 ∷ 167 ∷ 135 ∷ 128 ∷ 168 ∷ 135 ∷ 128 ∷ 169 ∷ 135 ∷ 128 ∷ 170 ∷ 135 ∷ 128 ∷ 171 ∷ 135 ∷ 128 ∷ 172 ∷ 135 ∷ 128 ∷ 173 ∷ 135 ∷ 128 ∷ 174 ∷ 135 ∷ 128 ∷ 175 ∷ 135 ∷ 128 ∷ 176 ∷ 135 ∷ 128 ∷ 177 ∷ 135 ∷ 128 ∷ 178 ∷ 135 ∷ 128 ∷ 179 ∷ 135 ∷ 128 ∷ 180 ∷ 135 ∷ 128 ∷ 181 ∷ 135 ∷ 128 ∷ 182 ∷ 135 ∷ 128 ∷ 183 ∷ 135 ∷ 128 ∷ 184 ∷ 135 ∷ 128 ∷ 185 ∷ 135 ∷ 128 ∷ 186 ∷ 135 ∷ 128 ∷ 187 ∷ 135 ∷ 128 ∷ 188 ∷ 135 ∷ 128 ∷ 189 ∷ 135 ∷ 128 ∷ 190 ∷ 124 ∷ []) }))

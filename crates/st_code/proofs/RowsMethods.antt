@@ -1,31 +1,12 @@
 -- Worked methods of a class with the variables x and y, by the definitions alone: their parts, and their faults.
-use Rattle.std.proofs.Common.{ℕ, Bool, true, false, List, [], ◌∷◌, refl, Some, None}
+use Rattle.std.proofs.Common.{true, false, [], ◌∷◌, refl, Some, None}
 use Rattle.std.specs.Prelude.{codes, Ok, Err, ◌≡◌}
-use Rattle.st_scan.specs.declared.token.Signed.{Signed}
-use Rattle.st_scan.specs.Views.{NameView, ContentView, ExpressionView}
 use Rattle.st_scan.specs.Views as v
 use Rattle.st_code.specs.declared.fault.Cause.TheVariants.{Unknown, Twice, Store, Primitive, Number, Symbols}
 use Rattle.st_emit.specs.Literals as l
-use Rattle.st_emit.specs.Names.{NamesView}
+use Rattle.st_scan.proofs.Worked.{signed, name_at as nm, literal_at as lit}
+use Rattle.st_emit.proofs.Worked.{point, no_symbols}
 use Rattle.st_code.specs.Methods.{code}
-
-abbrev signed : Bool → ℕ → Signed
-signed minus size = record { minus = minus; size = size }
-
-abbrev nm : List ℕ → ℕ → NameView
-nm text place = record { text = text; place = place }
-
-abbrev lit : ℕ → ContentView → ExpressionView
-lit place what = v.literal (record { place = place; what = what })
-
-abbrev point : NamesView
-point = (record { fields = ((codes "x") ∷ (codes "y") ∷ []); shared = ((record { text = codes "Point"; association = 100 }) ∷ (record { text = codes "Gone"; association = 102 }) ∷ []); symbols = true })
-
-abbrev no_names : NamesView
-no_names = (record { fields = []; shared = []; symbols = true })
-
-abbrev no_symbols : NamesView
-no_symbols = (record { fields = []; shared = []; symbols = false })
 
 -- x ^x
 row_x : code (record { selector = codes "x"; arguments = []; temporaries = []; primitive = None; body = (v.statement true (v.variable (nm (codes "x") 4)) v.no_statements) }) point ≡ (Ok (record { selector = codes "x"; header = 49153; literals = []; bytes = (0 ∷ 124 ∷ []) }))

@@ -55,31 +55,16 @@ popped_two n = one_more (code_of for_value n) Pop (value_some n)
 
 effect_two : (n : Node) → 2 ≤ length (code_of for_effect n)
 effect_two (nodes.assign p n) = one_more (code_of for_value n) (PopStore p) (value_some n)
-effect_two (nodes.constant k) = popped_two (nodes.constant k)
-effect_two (nodes.small k) = popped_two (nodes.small k)
-effect_two (nodes.literal x p) = popped_two (nodes.literal x p)
-effect_two (nodes.variable p) = popped_two (nodes.variable p)
-effect_two (nodes.block f a x b) = popped_two (nodes.block f a x b)
-effect_two (nodes.send above r ms) = popped_two (nodes.send above r ms)
-effect_two (nodes.one_sided side x a) = popped_two (nodes.one_sided side x a)
-effect_two (nodes.two_sided side x a b) = popped_two (nodes.two_sided side x a b)
-effect_two (nodes.loop kind x a) = popped_two (nodes.loop kind x a)
+effect_two n = popped_two n
 
 returned_some : (n : Node) → 1 ≤ length (return_code n (code_of for_value n))
-returned_some (nodes.constant Receiver) = omega arith
-returned_some (nodes.constant True) = omega arith
-returned_some (nodes.constant False) = omega arith
-returned_some (nodes.constant Nil) = omega arith
-returned_some (nodes.constant Context) = omega arith
-returned_some (nodes.small k) = omega arith
-returned_some (nodes.literal x p) = omega arith
-returned_some (nodes.variable p) = omega arith
 returned_some (nodes.assign p n) = cons_behind _ _ _
-returned_some (nodes.block f a x b) = omega arith
 returned_some (nodes.send above r ms) = cons_behind _ _ _
 returned_some (nodes.one_sided side x a) = cons_behind _ _ _
 returned_some (nodes.two_sided side x a b) = cons_behind _ _ _
 returned_some (nodes.loop kind x a) = cons_behind _ _ _
+returned_some (nodes.constant Receiver) = omega arith
+returned_some n = omega arith
 
 method_some : (b : Body) → 1 ≤ length (method_code b)
 method_some nothing = omega arith

@@ -39,6 +39,12 @@ return_at_once m c v = do
   nil ← of_page m NilObject
   if same_value c nil then answer false else return_to_context_at_once m c v nil
 
+-- to the context in field 0 of this one
+unfoldable pub return_past_at_once : {H : Type 0} → ObjectMemory H → Value → Value → Step H Bool
+return_past_at_once m context v = do
+  c ← fetch_field m context 0
+  return_at_once m c v
+
 unfoldable pub return_to_sender_at_once : {H : Type 0} → ObjectMemory H → Value → Step H Bool
 return_to_sender_at_once m v = do
   home ← get_home

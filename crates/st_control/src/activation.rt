@@ -5,9 +5,9 @@ ghost use Rattle.st_model.specs.Calls.{itself};
 ghost use Rattle.st_control.specs.AtOnce.{IsStill, enter_context, context_space, activate_at_once};
 ghost use Rattle.st_frames.specs.Rows.{RowReads, RowMoves, RowDoes, Takes, activation_changes, send_changes, jump_changes, return_changes};
 
+use crate::called::Called;
 use st_frames::{Registers, drop_words, look_at_words, page, small, switch};
 use st_memory::Objects;
-use st_method::Header;
 use st_model::{Dead, PageObject, Word};
 
 /// Fills a new context of the method: the active context as its sender, the first bytecode, the temporary count, and the method.
@@ -17,37 +17,33 @@ fn fill_context<O: Objects>(
     m: &mut O,
     r: &Registers,
     context: Word,
-    method: Word,
-    header: Header,
+    called: Called,
 ) -> Result<(), Dead>
     requires room { 4 ≤ O.room m.old }
-    ensures does { RowDoes O.Objects.own (fill_context O.names (word context) (word method) (word header.0))
+    ensures does { RowDoes O.Objects.own
+        (fill_context O.names (word context) (word called.call.method) (word called.header.0))
         itself m.old r.now result m.new r.now }
     ensures takes { Takes O.Objects.own 4 m.old m.new }
 {
     m.store_field(context, 0, r.active)?;
-    m.store_field(context, 1, small(2 * header.literals() + 3))?;
-    m.store_field(context, 2, small(header.temporaries()))?;
-    m.store_field(context, 3, method)
+    m.store_field(context, 1, small(2 * called.header.literals() + 3))?;
+    m.store_field(context, 2, small(called.header.temporaries()))?;
+    m.store_field(context, 3, called.call.method)
 }
 
 /// A new context of the method.
 #[inline(always)]
 #[tactic(auto, using(st_frames::proofs::Doing::rows), unfolding(st_model::specs::Contexts::new_context))]
-fn new_context<O: Objects>(
-    m: &mut O,
-    r: &Registers,
-    method: Word,
-    header: Header,
-) -> Result<Word, Dead>
+fn new_context<O: Objects>(m: &mut O, r: &Registers, called: Called) -> Result<Word, Dead>
     requires room { 5 ≤ O.room m.old }
-    ensures does { RowDoes O.Objects.own (new_context O.names (word method) (word header.0))
+    ensures does { RowDoes O.Objects.own
+        (new_context O.names (word called.call.method) (word called.header.0))
         word m.old r.now result m.new r.now }
     ensures takes { Takes O.Objects.own 5 m.old m.new }
 {
     let class = page(m, PageObject::MethodContextClass);
-    let context = m.new_object(class, header.context_size())?;
-    fill_context(m, r, context, method, header)?;
+    let context = m.new_object(class, called.header.context_size())?;
+    fill_context(m, r, context, called)?;
     Ok(context)
 }
 
@@ -67,21 +63,15 @@ fn pass_words<O: Objects>(m: &mut O, r: &mut Registers, context: Word, n: u32) -
 
 /// A new context of the method becomes the active one.
 #[tactic(auto, using(st_frames::proofs::Doing::rows), unfolding(crate::specs::AtOnce::enter_context))]
-fn enter_context<O: Objects>(
-    m: &mut O,
-    r: &mut Registers,
-    method: Word,
-    header: Header,
-    n: u32,
-) -> Result<(), Dead>
-    requires few { n < 16384 }
+fn enter_context<O: Objects>(m: &mut O, r: &mut Registers, called: Called) -> Result<(), Dead>
     requires room { activation_changes ≤ O.room m.old }
-    ensures does { RowDoes O.Objects.own (enter_context O.names (word method) (word header.0) n)
+    ensures does { RowDoes O.Objects.own
+        (enter_context O.names (word called.call.method) (word called.header.0) called.call.arguments)
         itself m.old r.old result m.new r.new }
     ensures takes { Takes O.Objects.own activation_changes m.old m.new }
 {
-    let context = new_context(m, r, method, header)?;
-    pass_words(m, r, context, n)?;
+    let context = new_context(m, r, called)?;
+    pass_words(m, r, context, called.call.arguments)?;
     switch(m, r, context)
 }
 
@@ -100,56 +90,48 @@ fn has_context_space<O: Objects>(m: &O, r: &Registers) -> bool
 pub fn activate_at_once<O: Objects>(
     m: &mut O,
     r: &mut Registers,
-    method: Word,
-    header: Header,
-    n: u32,
+    called: Called,
 ) -> Result<bool, Dead>
-    requires few { n < 16384 }
     requires room { activation_changes ≤ O.room m.old }
-    ensures does { RowDoes O.Objects.own (activate_at_once O.names (word method) (word header.0) n)
+    ensures does { RowDoes O.Objects.own
+        (activate_at_once O.names (word called.call.method) (word called.header.0) called.call.arguments)
         itself m.old r.old result m.new r.new }
     ensures takes { Takes O.Objects.own activation_changes m.old m.new }
     ensures still { IsStill O.Objects.own m.old result m.new }
 {
-    look_at_words(m, r, n)?;
-    let size = header.context_size();
-    if size < 6 + n {
+    look_at_words(m, r, called.call.arguments)?;
+    let size = called.header.context_size();
+    if size < 6 + called.call.arguments {
         return Err(Dead::Sp);
     }
-    if size < 6 + header.temporaries() {
+    if size < 6 + called.header.temporaries() {
         return Err(Dead::Sp);
     }
     if !has_context_space(m, r) {
         return Ok(false);
     }
-    enter_context(m, r, method, header, n)?;
+    enter_context(m, r, called)?;
     Ok(true)
 }
 
 /// A new context of the method becomes the active one. Dead where it has no places for the arguments or the temporary variables.
 #[tactic(auto, using(st_frames::proofs::Doing::checks), unfolding(st_model::specs::Contexts::activate))]
-pub fn activate<O: Objects>(
-    m: &mut O,
-    r: &mut Registers,
-    method: Word,
-    header: Header,
-    n: u32,
-) -> Result<(), Dead>
-    requires few { n < 16384 }
+pub fn activate<O: Objects>(m: &mut O, r: &mut Registers, called: Called) -> Result<(), Dead>
     requires room { activation_changes ≤ O.room m.old }
-    ensures does { RowDoes O.Objects.own (activate O.names (word method) (word header.0) n)
+    ensures does { RowDoes O.Objects.own
+        (activate O.names (word called.call.method) (word called.header.0) called.call.arguments)
         itself m.old r.old result m.new r.new }
     ensures takes { Takes O.Objects.own activation_changes m.old m.new }
 {
-    look_at_words(m, r, n)?;
-    let size = header.context_size();
-    if size < 6 + n {
+    look_at_words(m, r, called.call.arguments)?;
+    let size = called.header.context_size();
+    if size < 6 + called.call.arguments {
         return Err(Dead::Sp);
     }
-    if size < 6 + header.temporaries() {
+    if size < 6 + called.header.temporaries() {
         return Err(Dead::Sp);
     }
-    let context = new_context(m, r, method, header)?;
-    pass_words(m, r, context, n)?;
+    let context = new_context(m, r, called)?;
+    pass_words(m, r, context, called.call.arguments)?;
     switch(m, r, context)
 }

@@ -2,7 +2,7 @@ ghost use Rattle.std.specs.Prelude.{◌≡◌, ◌≤◌, ◌+◌, pos};
 ghost use Rattle.st_model.specs.Values.{word};
 ghost use Rattle.st_model.specs.Steps.{jump};
 ghost use Rattle.st_model.specs.Calls.{itself};
-ghost use Rattle.st_control.specs.AtOnce.{IsStill, at_once, jump_at_once, return_to_context_at_once, return_at_once, return_to_sender_at_once, return_to_caller_at_once};
+ghost use Rattle.st_control.specs.AtOnce.{IsStill, at_once, jump_at_once, return_past_at_once};
 ghost use Rattle.st_frames.specs.Rows.{RowMoves, RowDoes, Takes};
 
 use crate::returns::return_into;
@@ -42,81 +42,29 @@ pub fn jump_at_once<O: Objects>(
     Ok(x.same(b))
 }
 
-/// Returns the answer to a context, which isn't nil, unless that was left for good. Answers whether it did.
-#[tactic(auto, using(st_frames::proofs::Doing::rows), unfolding(crate::specs::AtOnce::return_to_context_at_once, crate::specs::AtOnce::at_once))]
-fn return_to_context_at_once<O: Objects>(
+/// Returns the answer past a context, to its sender or caller, unless that is nil or was left for good. Answers whether it did.
+#[tactic(auto, using(st_frames::proofs::Doing::rows), unfolding(crate::specs::AtOnce::return_past_at_once, crate::specs::AtOnce::return_at_once, crate::specs::AtOnce::return_to_context_at_once, crate::specs::AtOnce::at_once))]
+pub fn return_past_at_once<O: Objects>(
     m: &mut O,
     r: &mut Registers,
     context: Word,
     answer: Word,
-    nil: Word,
 ) -> Result<bool, Dead>
     requires room { 3 ≤ O.room m.old }
-    ensures does { RowDoes O.Objects.own
-        (return_to_context_at_once O.names (word context) (word answer) (word nil))
+    ensures does { RowDoes O.Objects.own (return_past_at_once O.names (word context) (word answer))
         itself m.old r.old result m.new r.new }
     ensures takes { Takes O.Objects.own 3 m.old m.new }
     ensures still { IsStill O.Objects.own m.old result m.new }
 {
-    let ip = m.fetch_field(context, 1)?;
+    let target = m.fetch_field(context, 0)?;
+    let nil = page(m, PageObject::NilObject);
+    if target.same(nil) {
+        return Ok(false);
+    }
+    let ip = m.fetch_field(target, 1)?;
     if ip.same(nil) {
         return Ok(false);
     }
-    return_into(m, r, context, answer)?;
+    return_into(m, r, target, answer)?;
     Ok(true)
-}
-
-/// Returns the answer to a context, unless that is nil or was left for good. Answers whether it did.
-#[tactic(auto, using(st_frames::proofs::Doing::rows), unfolding(crate::specs::AtOnce::return_at_once))]
-fn return_at_once<O: Objects>(
-    m: &mut O,
-    r: &mut Registers,
-    context: Word,
-    answer: Word,
-) -> Result<bool, Dead>
-    requires room { 3 ≤ O.room m.old }
-    ensures does { RowDoes O.Objects.own (return_at_once O.names (word context) (word answer))
-        itself m.old r.old result m.new r.new }
-    ensures takes { Takes O.Objects.own 3 m.old m.new }
-    ensures still { IsStill O.Objects.own m.old result m.new }
-{
-    let nil = page(m, PageObject::NilObject);
-    if context.same(nil) {
-        return Ok(false);
-    }
-    return_to_context_at_once(m, r, context, answer, nil)
-}
-
-/// Returns the answer to the sender, unless that is nil or was left for good. Answers whether it did.
-#[tactic(auto, using(st_frames::proofs::Doing::rows), unfolding(crate::specs::AtOnce::return_to_sender_at_once))]
-pub fn return_to_sender_at_once<O: Objects>(
-    m: &mut O,
-    r: &mut Registers,
-    answer: Word,
-) -> Result<bool, Dead>
-    requires room { 3 ≤ O.room m.old }
-    ensures does { RowDoes O.Objects.own (return_to_sender_at_once O.names (word answer))
-        itself m.old r.old result m.new r.new }
-    ensures takes { Takes O.Objects.own 3 m.old m.new }
-    ensures still { IsStill O.Objects.own m.old result m.new }
-{
-    let sender = m.fetch_field(r.home, 0)?;
-    return_at_once(m, r, sender, answer)
-}
-
-/// Returns the answer to the caller, unless that is nil or was left for good. Answers whether it did.
-#[tactic(auto, using(st_frames::proofs::Doing::rows), unfolding(crate::specs::AtOnce::return_to_caller_at_once))]
-pub fn return_to_caller_at_once<O: Objects>(
-    m: &mut O,
-    r: &mut Registers,
-    answer: Word,
-) -> Result<bool, Dead>
-    requires room { 3 ≤ O.room m.old }
-    ensures does { RowDoes O.Objects.own (return_to_caller_at_once O.names (word answer))
-        itself m.old r.old result m.new r.new }
-    ensures takes { Takes O.Objects.own 3 m.old m.new }
-    ensures still { IsStill O.Objects.own m.old result m.new }
-{
-    let caller = m.fetch_field(r.active, 0)?;
-    return_at_once(m, r, caller, answer)
 }

@@ -13,6 +13,15 @@ use st_frames::{
 use st_memory::Objects;
 use st_model::{Dead, Deed, PageObject, Tried, Word};
 
+/// What a new block is made of.
+#[derive(Clone, Copy)]
+struct Shape {
+    /// Its home context.
+    home: Word,
+    /// How many arguments it takes, as a SmallInteger.
+    count: Word,
+}
+
 /// An instance of MethodContext or BlockContext.
 #[tactic(auto, using(crate::proofs::Valued::contexts), unfolding(st_model::specs::Blocks::check_context))]
 fn check_context<O: Objects>(m: &O, r: &Registers, v: Word) -> Result<(), Dead>
@@ -30,18 +39,13 @@ fn check_context<O: Objects>(m: &O, r: &Registers, v: Word) -> Result<(), Dead>
 
 /// The home that a block of a context has, where a block that takes this number of arguments may be made.
 #[tactic(auto, using(st_frames::proofs::Doing::checks), unfolding(st_model::specs::Blocks::home_of_block))]
-fn home_of_block<O: Objects>(
-    m: &O,
-    r: &Registers,
-    context: Word,
-    arguments: Word,
-) -> Result<Word, Dead>
-    ensures does { RowReads O.Objects.own (home_of_block O.names (word context) (word arguments))
+fn home_of_block<O: Objects>(m: &O, r: &Registers, context: Word, count: Word) -> Result<Word, Dead>
+    ensures does { RowReads O.Objects.own (home_of_block O.names (word context) (word count))
         word m.now r.now result }
     ensures within { IfOk result (λ home. r.now.ip ≤ℤ pos 16380) }
 {
     check_context(m, r, context)?;
-    positive_small(m, r, arguments)?;
+    positive_small(m, r, count)?;
     let home = home_of(m, context)?;
     let fields = m.count_fields(home)?;
     if fields < 6 {
@@ -63,64 +67,49 @@ fn first_pointer(r: &Registers) -> Word
 
 /// Fills a new block: its first bytecode is behind the jump round it, and its stack is empty.
 #[tactic(auto, using(st_frames::proofs::Doing::rows), unfolding(st_model::specs::Blocks::fill_block))]
-fn fill_block<O: Objects>(
-    m: &mut O,
-    r: &Registers,
-    block: Word,
-    home: Word,
-    arguments: Word,
-) -> Result<(), Dead>
+fn fill_block<O: Objects>(m: &mut O, r: &Registers, block: Word, shape: Shape) -> Result<(), Dead>
     requires within { r.now.ip ≤ℤ pos 16380 }
     requires room { 5 ≤ O.room m.old }
-    ensures does { RowDoes O.Objects.own (fill_block O.names (word block) (word home) (word arguments))
+    ensures does { RowDoes O.Objects.own
+        (fill_block O.names (word block) (word shape.home) (word shape.count))
         itself m.old r.now result m.new r.now }
     ensures takes { Takes O.Objects.own 5 m.old m.new }
 {
     let first = first_pointer(r);
     m.store_field(block, 1, first)?;
     m.store_field(block, 2, small(0))?;
-    m.store_field(block, 3, arguments)?;
+    m.store_field(block, 3, shape.count)?;
     m.store_field(block, 4, first)?;
-    m.store_field(block, 5, home)
+    m.store_field(block, 5, shape.home)
 }
 
 /// A new BlockContext as large as its home.
 #[tactic(auto, using(st_frames::proofs::Doing::rows), unfolding(st_model::specs::Blocks::new_block))]
-fn new_block<O: Objects>(
-    m: &mut O,
-    r: &Registers,
-    home: Word,
-    arguments: Word,
-) -> Result<Word, Dead>
+fn new_block<O: Objects>(m: &mut O, r: &Registers, shape: Shape) -> Result<Word, Dead>
     requires within { r.now.ip ≤ℤ pos 16380 }
     requires room { 6 ≤ O.room m.old }
-    ensures does { RowDoes O.Objects.own (new_block O.names (word home) (word arguments))
+    ensures does { RowDoes O.Objects.own (new_block O.names (word shape.home) (word shape.count))
         word m.old r.now result m.new r.now }
     ensures takes { Takes O.Objects.own 6 m.old m.new }
 {
     let class = page(m, PageObject::BlockContextClass);
-    let fields = m.count_fields(home)?;
+    let fields = m.count_fields(shape.home)?;
     let block = m.new_object(class, fields)?;
-    fill_block(m, r, block, home, arguments)?;
+    fill_block(m, r, block, shape)?;
     Ok(block)
 }
 
 /// A new block takes the place of receiver and argument.
 #[tactic(auto, using(st_frames::proofs::Doing::rows), unfolding(st_frames::specs::Answering::succeed_by, st_frames::specs::Answering::succeed_with))]
-fn answer_block<O: Objects>(
-    m: &mut O,
-    r: &mut Registers,
-    home: Word,
-    arguments: Word,
-) -> Result<(), Dead>
+fn answer_block<O: Objects>(m: &mut O, r: &mut Registers, shape: Shape) -> Result<(), Dead>
     requires within { r.old.ip ≤ℤ pos 16380 }
     requires room { 7 ≤ O.room m.old }
     ensures does { RowDoes O.Objects.own
-        (succeed_by O.names 1 (new_block O.names (word home) (word arguments)))
+        (succeed_by O.names 1 (new_block O.names (word shape.home) (word shape.count)))
         (λ x. true) m.old r.old result m.new r.new }
     ensures takes { Takes O.Objects.own 7 m.old m.new }
 {
-    let block = new_block(m, r, home, arguments)?;
+    let block = new_block(m, r, shape)?;
     answer_with(m, r, 1, block)
 }
 
@@ -133,10 +122,10 @@ pub fn primitive_block_copy<O: Objects>(m: &mut O, r: &mut Registers) -> Result<
     ensures takes { Takes O.Objects.own (tried_changes block_changes result) m.old m.new }
 {
     let context = under(m, r, 1)?;
-    let arguments = top(m, r)?;
-    match home_of_block(m, r, context, arguments) {
+    let count = top(m, r)?;
+    match home_of_block(m, r, context, count) {
         Ok(home) => {
-            answer_block(m, r, home, arguments)?;
+            answer_block(m, r, Shape { home, count })?;
             Ok(Tried::Done(Deed::Nothing))
         }
         Err(_) => Ok(Tried::Failed),

@@ -7,6 +7,7 @@ mod activation;
 mod arithmetic;
 mod at_once;
 mod blocks;
+mod called;
 mod finding;
 mod jump;
 mod jumps;
@@ -17,16 +18,16 @@ mod primitive;
 mod receivers;
 mod returns;
 mod sends;
+mod sent;
 mod stack;
 mod values;
 mod wide;
 
 pub use activation::{activate, activate_at_once};
-pub use arithmetic::{
-    answer_integers, answer_pair, arithmetic_number, integer_answer, integer_under, word_of,
-};
-pub use at_once::{jump_at_once, return_to_caller_at_once, return_to_sender_at_once};
+pub use arithmetic::{answer_integers, arithmetic_number, integer_answer, integer_under, word_of};
+pub use at_once::{jump_at_once, return_past_at_once};
 pub use blocks::{primitive_block_copy, try_blocks};
+pub use called::Called;
 pub use finding::find_method;
 pub use jump::{long_unconditional_jump, short_unconditional_jump};
 pub use jumps::jump_on;
@@ -35,8 +36,9 @@ pub use operands::{constant_value, fetch_literal_constant};
 pub use passing::Passing;
 pub use primitive::method_primitive;
 pub use receivers::{answer_field, equivalence, flush_cache, receiver_class};
-pub use returns::{return_to_caller, return_to_sender};
+pub use returns::return_past;
 pub use sends::{not_understood, send, send_to_super, special_send};
+pub use sent::Sent;
 pub use stack::{
     duplicate_top, extended_push, extended_store, extended_store_and_pop, pop_stack,
     push_active_context, push_constant, push_operand, push_receiver, store_and_pop,

@@ -1,34 +1,29 @@
 ghost use Rattle.std.specs.Prelude.{◌≡◌, ◌<◌, ◌≤◌, ◌+◌};
 ghost use Rattle.st_model.specs.Values.{word};
-ghost use Rattle.st_model.specs.Sends.{call_not_understood, not_understood, call_found, send_from, send, class_above, send_to_super, special_send, call_of};
+ghost use Rattle.st_model.specs.Sends.{not_understood, send_from, send, class_above, send_to_super, special_send, call_of};
 ghost use Rattle.st_model.specs.Calls.{itself};
-ghost use Rattle.st_lookup.specs.Places.{found_word};
 ghost use Rattle.st_frames.specs.Rows.{RowReads, RowMoves, RowDoes, Takes, activation_changes, send_changes, jump_changes, return_changes};
 
 use crate::finding::find_method;
 use crate::messages::replace_by_message;
+use crate::sent::Sent;
 use st_frames::{Registers, fetch_integer, page, under};
 use st_memory::Objects;
 use st_model::{Call, Dead, PageObject, Word};
 
-/// The method for doesNotUnderstand: is called with the Message as its argument. Dead without one.
-#[tactic(auto, using(st_frames::proofs::Doing::rows), unfolding(st_model::specs::Sends::call_not_understood))]
-fn call_not_understood<O: Objects>(
-    m: &mut O,
-    r: &mut Registers,
-    selector: Word,
-    n: u32,
-    method: Option<Word>,
-) -> Result<Call, Dead>
-    requires few { n < 16384 }
+/// The message isn't understood: the method for doesNotUnderstand: is called with a Message as its argument. Dead without one.
+#[tactic(auto, using(st_frames::proofs::Doing::rows), unfolding(st_model::specs::Sends::not_understood, st_model::specs::Sends::call_not_understood))]
+pub fn not_understood<O: Objects>(m: &mut O, r: &mut Registers, sent: Sent) -> Result<Call, Dead>
     requires room { send_changes ≤ O.room m.old }
-    ensures does { RowDoes O.Objects.own (call_not_understood O.names (word selector) n (found_word method))
+    ensures does { RowDoes O.Objects.own
+        (not_understood O.names (word sent.class) (word sent.selector) sent.arguments)
         call_of m.old r.old result m.new r.new }
     ensures takes { Takes O.Objects.own send_changes m.old m.new }
 {
-    match method {
+    let understand = page(m, PageObject::NotUnderstood);
+    match find_method(m, r, sent.class, understand)? {
         Some(method) => {
-            replace_by_message(m, r, selector, n)?;
+            replace_by_message(m, r, sent)?;
             Ok(Call {
                 method,
                 arguments: 1,
@@ -38,69 +33,22 @@ fn call_not_understood<O: Objects>(
     }
 }
 
-/// The selector isn't understood.
-#[tactic(auto, using(st_frames::proofs::Doing::rows), unfolding(st_model::specs::Sends::not_understood))]
-pub fn not_understood<O: Objects>(
-    m: &mut O,
-    r: &mut Registers,
-    class: Word,
-    selector: Word,
-    n: u32,
-) -> Result<Call, Dead>
-    requires few { n < 16384 }
-    requires room { send_changes ≤ O.room m.old }
-    ensures does { RowDoes O.Objects.own (not_understood O.names (word class) (word selector) n)
-        call_of m.old r.old result m.new r.new }
-    ensures takes { Takes O.Objects.own send_changes m.old m.new }
-{
-    let understand = page(m, PageObject::NotUnderstood);
-    let method = find_method(m, r, class, understand)?;
-    call_not_understood(m, r, selector, n, method)
-}
-
-/// The method is called, if there is one.
-#[tactic(auto, using(st_frames::proofs::Doing::rows), unfolding(st_model::specs::Sends::call_found))]
-fn call_found<O: Objects>(
-    m: &mut O,
-    r: &mut Registers,
-    class: Word,
-    selector: Word,
-    n: u32,
-    method: Option<Word>,
-) -> Result<Call, Dead>
-    requires few { n < 16384 }
+/// Sends a message: the method is called, if there is one.
+#[tactic(auto, using(st_frames::proofs::Doing::rows), unfolding(st_model::specs::Sends::send_from, st_model::specs::Sends::call_found))]
+fn send_from<O: Objects>(m: &mut O, r: &mut Registers, sent: Sent) -> Result<Call, Dead>
     requires room { send_changes ≤ O.room m.old }
     ensures does { RowDoes O.Objects.own
-        (call_found O.names (word class) (word selector) n (found_word method))
+        (send_from O.names (word sent.class) (word sent.selector) sent.arguments)
         call_of m.old r.old result m.new r.new }
     ensures takes { Takes O.Objects.own send_changes m.old m.new }
 {
-    match method {
+    match find_method(m, r, sent.class, sent.selector)? {
         Some(method) => Ok(Call {
             method,
-            arguments: n,
+            arguments: sent.arguments,
         }),
-        None => not_understood(m, r, class, selector, n),
+        None => not_understood(m, r, sent),
     }
-}
-
-/// Sends the selector, where the search begins in this class.
-#[tactic(auto, using(st_frames::proofs::Doing::rows), unfolding(st_model::specs::Sends::send_from))]
-fn send_from<O: Objects>(
-    m: &mut O,
-    r: &mut Registers,
-    class: Word,
-    selector: Word,
-    n: u32,
-) -> Result<Call, Dead>
-    requires few { n < 16384 }
-    requires room { send_changes ≤ O.room m.old }
-    ensures does { RowDoes O.Objects.own (send_from O.names (word class) (word selector) n)
-        call_of m.old r.old result m.new r.new }
-    ensures takes { Takes O.Objects.own send_changes m.old m.new }
-{
-    let method = find_method(m, r, class, selector)?;
-    call_found(m, r, class, selector, n, method)
 }
 
 /// Sends the selector with n arguments to the word n words below the top.
@@ -114,7 +62,12 @@ pub fn send<O: Objects>(m: &mut O, r: &mut Registers, selector: Word, n: u32) ->
 {
     let receiver = under(m, r, n)?;
     let class = m.fetch_class(receiver)?;
-    send_from(m, r, class, selector, n)
+    let sent = Sent {
+        class,
+        selector,
+        arguments: n,
+    };
+    send_from(m, r, sent)
 }
 
 /// The superclass of the class of the method that runs.
@@ -143,7 +96,12 @@ pub fn send_to_super<O: Objects>(
 {
     under(m, r, n)?;
     let class = class_above(m, r)?;
-    send_from(m, r, class, selector, n)
+    let sent = Sent {
+        class,
+        selector,
+        arguments: n,
+    };
+    send_from(m, r, sent)
 }
 
 /// Sends the special selector of this number.

@@ -1,10 +1,9 @@
-ghost use Rattle.std.specs.Prelude.{◌≡◌, ◌<◌, ◌≤◌, ◌+◌, ◌≤ℤ◌, pos, negsuc, true, IfOk};
+ghost use Rattle.std.specs.Prelude.{◌≡◌, ◌<◌, ◌≤◌, ◌+◌, true, false, IfOk};
 ghost use Rattle.st_model.specs.Values.{word};
 ghost use Rattle.st_model.specs.Blocks.{start_of, enter_block, value_with_words, primitive_value, passing, value_with_fields, primitive_value_with};
 ghost use Rattle.st_model.specs.Calls.{itself};
 ghost use Rattle.st_model.specs.Deeds.{is_done, deed_of_trial};
-ghost use Rattle.st_control.specs.AtOnce.{IsStill};
-ghost use Rattle.st_control.specs.Passed.{passing_of};
+ghost use Rattle.st_control.specs.Passed.{first_of, passing_of};
 ghost use Rattle.st_frames.specs.Rows.{RowReads, RowDoes, RowLeaves, Takes, tried_changes, block_changes};
 
 use crate::passing::Passing;
@@ -15,14 +14,13 @@ use st_frames::{
 use st_memory::Objects;
 use st_model::{Dead, Deed, PageObject, Tried, Word};
 
-/// The first instruction pointer of a block that takes n arguments, and has fields for them.
+/// What is passed to a block that takes n arguments, and has fields for them.
 #[tactic(auto, using(crate::proofs::Valued::starts), unfolding(st_model::specs::Blocks::start_of))]
-fn start_of<O: Objects>(m: &O, r: &Registers, block: Word, n: u32) -> Result<i32, Dead>
+fn start_of<O: Objects>(m: &O, r: &Registers, block: Word, n: u32) -> Result<Passing, Dead>
     requires size { n ≤ 65533 }
-    ensures does { RowReads O.Objects.own (start_of O.names (word block) n) itself m.now r.now result }
-    ensures few { IfOk result (λ first. n < 16384) }
-    ensures low { IfOk result (λ first. negsuc 16383 ≤ℤ first) }
-    ensures high { IfOk result (λ first. first ≤ℤ pos 16383) }
+    ensures does { RowReads O.Objects.own (start_of O.names (word block) n) first_of m.now r.now result }
+    ensures block { IfOk result (λ p. p.block ≡ block) }
+    ensures count { IfOk result (λ p. p.count ≡ n) }
 {
     check_class(m, r, block, PageObject::BlockContextClass)?;
     let fields = m.count_fields(block)?;
@@ -35,56 +33,64 @@ fn start_of<O: Objects>(m: &O, r: &Registers, block: Word, n: u32) -> Result<i32
     if fields < 6 + n {
         return Err(Dead::Sp);
     }
-    Ok(first)
+    Ok(Passing {
+        block,
+        count: n,
+        first,
+    })
 }
 
-/// A block becomes the active context, with n words on its stack; the one that was active is its caller.
+/// A block becomes the active context, with what is passed to it on its stack; the one that was active is its caller.
 #[tactic(auto, using(crate::proofs::Valued::entering), unfolding(st_model::specs::Blocks::enter_block))]
-fn enter_block<O: Objects>(
-    m: &mut O,
-    r: &mut Registers,
-    block: Word,
-    n: u32,
-    first: i32,
-) -> Result<(), Dead>
-    requires few { n < 16384 }
-    requires low { negsuc 16383 ≤ℤ first }
-    requires high { first ≤ℤ pos 16383 }
+fn enter_block<O: Objects>(m: &mut O, r: &mut Registers, passing: Passing) -> Result<(), Dead>
     requires room { 5 ≤ O.room m.old }
-    ensures does { RowDoes O.Objects.own (enter_block O.names (word block) n first)
+    ensures does { RowDoes O.Objects.own
+        (enter_block O.names (word passing.block) passing.count passing.first)
         itself m.old r.old result m.new r.new }
     ensures takes { Takes O.Objects.own 5 m.old m.new }
 {
-    m.store_field(block, 1, small_integer(first))?;
-    m.store_field(block, 2, small(n))?;
-    m.store_field(block, 0, r.active)?;
-    switch(m, r, block)
+    m.store_field(passing.block, 1, small_integer(passing.first))?;
+    m.store_field(passing.block, 2, small(passing.count))?;
+    m.store_field(passing.block, 0, r.active)?;
+    switch(m, r, passing.block)
 }
 
-/// A block's value, where its n arguments stand at the top of the stack, and the block below them.
+/// A block's value, where its arguments stand at the top of the stack, and the block below them.
 #[tactic(auto, using(crate::proofs::Valued::integers), unfolding(st_model::specs::Blocks::value_with_words))]
-fn value_with_words<O: Objects>(
-    m: &mut O,
-    r: &mut Registers,
-    block: Word,
-    n: u32,
-    first: i32,
-) -> Result<(), Dead>
-    requires few { n < 16384 }
-    requires low { negsuc 16383 ≤ℤ first }
-    requires high { first ≤ℤ pos 16383 }
+fn value_with_words<O: Objects>(m: &mut O, r: &mut Registers, passing: Passing) -> Result<(), Dead>
     requires room { 6 ≤ O.room m.old }
-    ensures does { RowDoes O.Objects.own (value_with_words O.names (word block) n first)
+    ensures does { RowDoes O.Objects.own
+        (value_with_words O.names (word passing.block) passing.count passing.first)
         (λ x. true) m.old r.old result m.new r.new }
     ensures takes { Takes O.Objects.own 6 m.old m.new }
 {
-    m.transfer(n, r.active, (r.sp + 1).saturating_sub(n), block, 6)?;
-    drop_words(m, r, n + 1)?;
-    enter_block(m, r, block, n, first)
+    let from = (r.sp + 1).saturating_sub(passing.count);
+    m.transfer(passing.count, r.active, from, passing.block, 6)?;
+    drop_words(m, r, passing.count + 1)?;
+    enter_block(m, r, passing)
 }
 
-/// Primitive 81: the value of the receiver, a block, with n arguments.
+/// Primitive 81: the value of the receiver, a block, with n arguments. Answers whether it succeeded; else nothing is changed.
 #[tactic(auto, using(crate::proofs::Valued::values), unfolding(st_model::specs::Blocks::primitive_value, st_model::specs::Blocks::value_if_any))]
+pub fn value_at_once<O: Objects>(m: &mut O, r: &mut Registers, n: u32) -> Result<bool, Dead>
+    requires few { n < 16384 }
+    requires room { 6 ≤ O.room m.old }
+    ensures does { RowDoes O.Objects.own (primitive_value O.names n) itself m.old r.old result m.new r.new }
+    ensures takes { Takes O.Objects.own 6 m.old m.new }
+    ensures still { IfOk result (λ done. done ≡ false → m.new ≡ m.old) }
+{
+    let block = under(m, r, n)?;
+    match start_of(m, r, block, n) {
+        Ok(passing) => {
+            value_with_words(m, r, passing)?;
+            Ok(true)
+        }
+        Err(_) => Ok(false),
+    }
+}
+
+/// Primitive 81, as one that is tried.
+#[tactic(auto, using(st_frames::proofs::Doing::rows))]
 pub fn primitive_value<O: Objects>(m: &mut O, r: &mut Registers, n: u32) -> Result<Tried, Dead>
     requires few { n < 16384 }
     requires room { block_changes ≤ O.room m.old }
@@ -92,50 +98,23 @@ pub fn primitive_value<O: Objects>(m: &mut O, r: &mut Registers, n: u32) -> Resu
         is_done deed_of_trial m.old r.old result m.new r.new }
     ensures takes { Takes O.Objects.own (tried_changes block_changes result) m.old m.new }
 {
-    let block = under(m, r, n)?;
-    match start_of(m, r, block, n) {
-        Ok(first) => {
-            value_with_words(m, r, block, n, first)?;
-            Ok(Tried::Done(Deed::Nothing))
-        }
-        Err(_) => Ok(Tried::Failed),
-    }
-}
-
-/// Primitive 81: the value of the receiver, a block, with n arguments. Answers whether it succeeded.
-#[tactic(auto, using(crate::proofs::Valued::values), unfolding(st_model::specs::Blocks::primitive_value, st_model::specs::Blocks::value_if_any))]
-pub fn value_at_once<O: Objects>(m: &mut O, r: &mut Registers, n: u32) -> Result<bool, Dead>
-    requires few { n < 16384 }
-    requires room { 6 ≤ O.room m.old }
-    ensures does { RowDoes O.Objects.own (primitive_value O.names n) itself m.old r.old result m.new r.new }
-    ensures takes { Takes O.Objects.own 6 m.old m.new }
-    ensures still { IsStill O.Objects.own m.old result m.new }
-{
-    let block = under(m, r, n)?;
-    match start_of(m, r, block, n) {
-        Ok(first) => {
-            value_with_words(m, r, block, n, first)?;
-            Ok(true)
-        }
-        Err(_) => Ok(false),
+    if value_at_once(m, r, n)? {
+        Ok(Tried::Done(Deed::Nothing))
+    } else {
+        Ok(Tried::Failed)
     }
 }
 
 /// How the fields of an Array are passed to a block.
 #[tactic(auto, using(st_frames::proofs::Doing::rows), unfolding(st_model::specs::Blocks::passing))]
-fn array_passing<O: Objects>(
-    m: &O,
-    r: &Registers,
-    block: Word,
-    array: Word,
-) -> Result<Passing, Dead>
+fn passing<O: Objects>(m: &O, r: &Registers, block: Word, array: Word) -> Result<Passing, Dead>
     ensures does { RowReads O.Objects.own (passing O.names (word block) (word array))
         passing_of m.now r.now result }
+    ensures block { IfOk result (λ p. p.block ≡ block) }
 {
     check_class(m, r, array, PageObject::ArrayClass)?;
     let count = m.count_fields(array)?;
-    let first = start_of(m, r, block, count)?;
-    Ok(Passing { count, first })
+    start_of(m, r, block, count)
 }
 
 /// A block's value, where its arguments are the fields of an Array, which stands at the top of the stack, and the block below it.
@@ -143,19 +122,18 @@ fn array_passing<O: Objects>(
 fn value_with_fields<O: Objects>(
     m: &mut O,
     r: &mut Registers,
-    block: Word,
     array: Word,
     passing: Passing,
 ) -> Result<(), Dead>
     requires room { 6 ≤ O.room m.old }
     ensures does { RowDoes O.Objects.own
-        (value_with_fields O.names (word block) (word array) (passing_of passing))
+        (value_with_fields O.names (word passing.block) (word array) (passing_of passing))
         (λ x. true) m.old r.old result m.new r.new }
     ensures takes { Takes O.Objects.own 6 m.old m.new }
 {
-    m.transfer(passing.count, array, 0, block, 6)?;
+    m.transfer(passing.count, array, 0, passing.block, 6)?;
     drop_words(m, r, 2)?;
-    enter_block(m, r, block, passing.count, passing.first)
+    enter_block(m, r, passing)
 }
 
 /// Primitive 82: the value of the receiver, a block, with the fields of the argument, an Array.
@@ -168,9 +146,9 @@ pub fn primitive_value_with<O: Objects>(m: &mut O, r: &mut Registers) -> Result<
 {
     let block = under(m, r, 1)?;
     let array = top(m, r)?;
-    match array_passing(m, r, block, array) {
+    match passing(m, r, block, array) {
         Ok(passing) => {
-            value_with_fields(m, r, block, array, passing)?;
+            value_with_fields(m, r, array, passing)?;
             Ok(Tried::Done(Deed::Nothing))
         }
         Err(_) => Ok(Tried::Failed),

@@ -5,7 +5,6 @@ ghost use Rattle.st_model.specs.Integers.{large, large_shift};
 ghost use Rattle.st_model.specs.Calls.{itself};
 ghost use Rattle.st_model.specs.Values.{word};
 ghost use Rattle.st_model.specs.Deeds.{is_done, deed_of_trial, copies_pixels};
-ghost use Rattle.st_model.specs.Primitives.{number};
 ghost use Rattle.st_model.specs.Arithmetic.{large_under, large_answer, value_of_large, large_arithmetic, shift_answer, shift_large};
 ghost use Rattle.st_frames.specs.Answering.{succeed_by, answer_word, answer_deed};
 ghost use Rattle.st_frames.specs.Rows.{RowReads, RowLeaves, Takes};
@@ -113,18 +112,6 @@ pub fn large_arithmetic<O: Objects>(m: &mut O, r: &mut Registers, n: u32) -> Res
     }
 }
 
-/// A number takes the place of receiver and argument.
-#[tactic(auto, using(st_frames::proofs::Doing::rows), unfolding(st_frames::specs::Answering::succeed_by))]
-fn answer_number<O: Objects>(m: &mut O, r: &mut Registers, n: u128) -> Result<Tried, Dead>
-    requires room { 2 ≤ O.room m.old }
-    ensures does { RowLeaves O.Objects.own (succeed_by O.names 1 (number O.names n))
-        is_done deed_of_trial m.old r.old result m.new r.new }
-    ensures takes { Takes O.Objects.own 2 m.old m.new }
-{
-    let value = number(m, r, n)?;
-    succeed_leaving(m, r, 1, value)
-}
-
 /// What a shift of an integer answers; an error where it fails.
 #[tactic(auto, using(crate::proofs::Tries::answers))]
 fn shift_of<O: Objects>(m: &O, r: &Registers, receiver: u128, by: i16) -> Result<u128, Dead>
@@ -156,7 +143,7 @@ pub fn shift_large<O: Objects>(m: &mut O, r: &mut Registers) -> Result<Tried, De
     ensures takes { Takes O.Objects.own 2 m.old m.new }
 {
     match shift_answer(m, r) {
-        Ok(n) => answer_number(m, r, n),
+        Ok(n) => answer_large(m, r, LargeAnswer::Number(n)),
         Err(_) => Ok(Tried::Failed),
     }
 }

@@ -57,6 +57,11 @@ below_few n (e ∷ t) (suc k) = let a = below_step n e t k in let s = below_few 
 pub below_more : (n : ℕ) (t : Table) (k : ℕ) → uses_below n t (k + 1) ≡ object_uses n (entry t k) + uses_below n t k
 below_more n t k = let e : suc k ≡ k + 1 = omega arith in ap (uses_below n t) (sym e)
 
+-- one object more is counted
+pub tallied_more : (t : Table) (k : ℕ) (cs cs1 : List (Option ℕ)) → IsTallied t (λ j. uses_below j t k) cs → IsTallied t (λ j. object_uses j (entry t k) + number_at cs j) cs1 → IsTallied t (λ j. uses_below j t (k + 1)) cs1
+tallied_more t k cs cs1 so_far now = tally_live t (λ j. object_uses j (entry t k) + number_at cs j) (λ j. uses_below j t (k + 1)) cs1 now (λ j live.
+    let a = below_more j t k in let b = tally_number t (λ j. uses_below j t k) cs j so_far live in omega (arith, a, b))
+
 -- one field more
 pub times_more : (k : ℕ) (xs : List Value) (i : ℕ) (x : Value) → i < length xs → slice_get xs i ≡ Some x → times k (take (i + 1) xs) ≡ cond (names x k) 1 0 + times k (take i xs)
 times_more k xs i x l is =

@@ -7,6 +7,7 @@ use Rattle.st_model.specs.declared.oop.Oop.{Oop}
 use Rattle.st_model.specs.Values.{Value, Small, Ref, value, value_of, is_small}
 use Rattle.st_model.specs.Table.{Table}
 use Rattle.st_model.specs.View.{is_live, object_of, is_instance}
+use Rattle.st_model.proofs.Making.{live_even}
 use Rattle.st_model.proofs.Pointers.{value_of-even, even_word}
 
 module _ (t : Table) where
@@ -50,6 +51,11 @@ same_word w u n p q =
     halves : {x y z : ℕ} → Ref x ≡ Ref z → Ref y ≡ Ref z → x ≡ y
     halves e f = cc
 
+-- none of the class is above `start` up to `after`
+pub record HasNone (t : Table) (class : Value) (start after : ℕ) : Type 0 where
+  pub on : start ≤ after
+  pub none : (q : Oop) → start < q.0 → q.0 ≤ after → is_instance t class (value q) ≡ false
+
 -- of a live object that follows the last one that was looked at, and of what is below it
 module _ (t : Table) (class : Value) (start after : ℕ) (before : (q : Oop) → start < q.0 → q.0 ≤ after → is_instance t class (value q) ≡ false) where
   -- none is below it
@@ -76,3 +82,7 @@ module _ (t : Table) (class : Value) (start after : ℕ) (before : (q : Oop) →
 -- an object whose class another word names is none of the class
 pub other_class : (t : Table) (found class : ℕ) (v : Value) → value_of found ≡ Ref (object_of t v).class → found ≢ class → is_instance t (value_of class) v ≡ false
 other_class t found class v is differ = other_instance t (value_of class) (value_of found) v is (λ q. differ (same_word found class (object_of t v).class is (sym q ∙ is)))
+
+-- a pointer of a live object is twice its place
+pub live_half : (t : Table) (o : Oop) → is_live t (value o) ≡ true → is_live t (Ref (o.0 / 2)) ≡ true
+live_half t o live = subst (λ (v : Value). is_live t v ≡ true) (value_of-even o.0 (live_even t (value o) live)) live

@@ -9,11 +9,20 @@ use Rattle.st_memory.specs.Places.{KeepsPlaces, KeepsPlacesIn}
 use Rattle.st_heap.specs.declared.objects.Objects.{Objects}
 use Rattle.st_heap.specs.Places.{SamePlaces, SameOtherPlaces, Stands}
 use Rattle.st_heap.specs.Tables.{objects_of}
+use Rattle.st_counted.specs.Links.{SameObjects}
 use Rattle.st_counted.proofs.Referring.{entry-set_other}
 
 pub all_stand : (o o' : Objects) → SamePlaces o.store o'.store → KeepsPlaces (Stands o) (Stands o')
 all_stand o o' same (Small n) at s = absurd s
 all_stand o o' same (Ref n) at s = same n ∙ s
+
+-- one change of links after another
+pub same_then : (o o' o'' : Objects) → SameObjects o o' → SameObjects o' o'' → SameObjects o o''
+same_then o o' o'' first second = record {
+  objects = second.objects ∙ first.objects;
+  room = second.room ∙ first.room;
+  places = λ k. second.places k ∙ first.places k;
+}
 
 gone : (t : Table) (k : ℕ) → entry (set t k None) k ≡ None
 gone [] k = refl

@@ -35,6 +35,13 @@ changed_is t o us live =
     let e : value o ≡ Ref (o.0 / 2) = value_of-even o.0 (live_small t (value o) live) in
     ap (λ v. changed t (o.0 / 2) (with_units (object_of t v) us)) e ∙ sym (ap (λ v. with_units_in t v us) e)
 
+-- the same as a stretch that is laid there
+pub written_is : (t now : Table) (o : Oop) (at : ℕ) (us : List ℕ) → is_live t (value o) ≡ true → now ≡ changed t (o.0 / 2) (with_units (object_of t (value o)) (with_run (object_of t (value o)).units at us))
+    → now ≡ with_units_in t (value o) (laid at us (object_of t (value o)).units)
+written_is t now o at us live written =
+    let units = (object_of t (value o)).units in
+    written ∙ changed_is t o (with_run units at us) live ∙ ap (with_units_in t (value o)) (laid_is at us units)
+
 at_most : (b : Bool) (f u n : ℕ) → n ≤ (if b then f else 2 * f + u) → n ≤ 2 * f + u
 at_most true f u n l = omega (arith, l)
 at_most false f u n l = l

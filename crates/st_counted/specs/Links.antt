@@ -5,7 +5,8 @@ use Rattle.st_table.specs.Entries.{place}
 use Rattle.st_heap.specs.declared.store.Store.{Store}
 use Rattle.st_heap.specs.declared.objects.Objects.{Objects}
 use Rattle.st_heap.specs.Links.{next_of, before_of}
-use Rattle.st_heap.specs.Tables.{objects_of}
+use Rattle.st_heap.specs.Places.{SamePlaces}
+use Rattle.st_heap.specs.Tables.{objects_of, room_of}
 use Rattle.st_counted.specs.Counts.{is_counted, is_unused}
 use Rattle.st_counted.specs.Contents.{counts_of}
 use Rattle.st_counted.specs.declared.counts.Counts.{Counts}
@@ -43,6 +44,12 @@ AreStored o p = (k : ℕ) → p k ≡ true → is_some (entry (objects_of o) k) 
 pub record IsListed (o : Objects) (c : Counts) : Type 0 where
   pub list : Holds o.store (place c.first) (is_unused (counts_of c))
   pub stored : AreStored o (is_counted (counts_of c))
+
+-- Of the objects only the links may have changed.
+pub record SameObjects (o o' : Objects) : Type 0 where
+  pub objects : objects_of o' ≡ objects_of o
+  pub room : room_of o' ≡ room_of o
+  pub places : SamePlaces o.store o'.store
 
 abbrev pub with_member : ℕ → (ℕ → Bool) → ℕ → Bool
 with_member k p o = if k == o then true else p o

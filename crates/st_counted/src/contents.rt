@@ -7,7 +7,7 @@ ghost use Rattle.st_table.specs.Entries.{place as place_at};
 ghost use Rattle.st_heap.specs.Places.{SamePlaces, SameOtherPlaces, Stands};
 ghost use Rattle.st_counted.specs.Counts.{count_at, is_counted, number_at, is_unused, raised};
 ghost use Rattle.st_heap.specs.Tables.{objects_of, room_of};
-ghost use Rattle.st_counted.specs.Links.{IsListed};
+ghost use Rattle.st_counted.specs.Links.{SameObjects, IsListed};
 ghost use Rattle.st_counted.specs.Contents.{counts_of};
 ghost use Rattle.st_counted.specs.References.{all_roots, nils_of, IsCounted};
 
@@ -44,7 +44,7 @@ pub struct Contents {
 }
 
 impl Contents {
-    ghost use Rattle.st_counted.specs.Counted.{counted_view, numbers_of, HasRoom, AllCounted, SameButLinks};
+    ghost use Rattle.st_counted.specs.Counted.{counted_view, numbers_of, HasRoom, AllCounted, SameButLinks, StoresPointer};
     ghost use Rattle.st_counted.specs.Links.{IsListed};
 
     /// No objects under a head, and nothing held.
@@ -75,14 +75,7 @@ impl Contents {
         requires range { at < length (object_of (counted_view self.old).objects (value o)).fields }
         requires known { IsKnown (counted_view self.old).objects (value v) }
         requires header { IsHeader (object_of (counted_view self.old).objects (value o)) at (value v) }
-        ensures objects { (counted_view self.new).objects
-            ≡ with_stored (counted_view self.old).objects (value o) at (value v) }
-        ensures held { (counted_view self.new).held ≡ (counted_view self.old).held }
-        ensures head { self.new.head ≡ self.old.head }
-        ensures counted { AllCounted self.new }
-        ensures listed { IsListed self.new.objects self.new.counts }
-        ensures room { HasRoom self.old → HasRoom self.new }
-        ensures places { SamePlaces self.old.objects.store self.new.objects.store }
+        ensures { StoresPointer self.old self.new (value o) at (value v) }
     {
         let stand = self.objects.place_of(o);
         self.set_placed_pointer(o, stand, at, v);
@@ -99,14 +92,7 @@ impl Contents {
         requires range { at < length (object_of (counted_view self.old).objects (value o)).fields }
         requires known { IsKnown (counted_view self.old).objects (value v) }
         requires header { IsHeader (object_of (counted_view self.old).objects (value o)) at (value v) }
-        ensures objects { (counted_view self.new).objects
-            ≡ with_stored (counted_view self.old).objects (value o) at (value v) }
-        ensures held { (counted_view self.new).held ≡ (counted_view self.old).held }
-        ensures head { self.new.head ≡ self.old.head }
-        ensures counted { AllCounted self.new }
-        ensures listed { IsListed self.new.objects self.new.counts }
-        ensures room { HasRoom self.old → HasRoom self.new }
-        ensures places { SamePlaces self.old.objects.store self.new.objects.store }
+        ensures { StoresPointer self.old self.new (value o) at (value v) }
     {
         let old = self.objects.placed_field(o, stand, at);
         self.objects.set_placed_field(o, stand, at, v);
@@ -252,8 +238,7 @@ fn raise_nil(counts: &mut Counts, objects: &mut Objects, by: u32)
     requires counted { is_counted (counts_of counts.old) 1 ≡ true }
     requires room { number_at (counts_of counts.old) 1 + by < 4294967296 }
     ensures listed { IsListed objects.new counts.new }
-    ensures objects { objects_of objects.new ≡ objects_of objects.old }
-    ensures room { room_of objects.new ≡ room_of objects.old }
+    ensures rest { SameObjects objects.old objects.new }
     ensures counts { let old = counts_of counts.old in
         counts_of counts.new ≡ (if by == 0 then old else raised old 1 by) }
 {

@@ -4,7 +4,7 @@ ghost use Rattle.st_table.specs.Entries.{place};
 ghost use Rattle.st_counted.specs.Counts.{is_counted, number_at, is_unused};
 ghost use Rattle.st_heap.specs.Places.{SamePlaces};
 ghost use Rattle.st_heap.specs.Tables.{objects_of, room_of};
-ghost use Rattle.st_counted.specs.Links.{IsListed};
+ghost use Rattle.st_counted.specs.Links.{SameObjects, IsListed};
 ghost use Rattle.st_counted.specs.Contents.{counts_of};
 ghost use Rattle.st_counted.specs.References.{raised_by, lowered_by};
 
@@ -32,9 +32,7 @@ pub fn raise(counts: &mut Counts, objects: &mut Objects, v: Oop, by: u32)
     requires room { number_at (counts_of counts.old) (place v) + by < 4294967296 }
     requires listed { IsListed objects.old counts.old }
     ensures listed { IsListed objects.new counts.new }
-    ensures objects { objects_of objects.new ≡ objects_of objects.old }
-    ensures room { room_of objects.new ≡ room_of objects.old }
-    ensures places { SamePlaces objects.old.store objects.new.store }
+    ensures rest { SameObjects objects.old objects.new }
     ensures counts { counts_of counts.new ≡ raised_by (counts_of counts.old) (value v) by }
 {
     if !v.is_small() {
@@ -59,9 +57,7 @@ pub fn lower(counts: &mut Counts, objects: &mut Objects, v: Oop)
     requires some { is_small (value v) ≡ false → number_at (counts_of counts.old) (place v) ≢ 0 }
     requires listed { IsListed objects.old counts.old }
     ensures listed { IsListed objects.new counts.new }
-    ensures objects { objects_of objects.new ≡ objects_of objects.old }
-    ensures room { room_of objects.new ≡ room_of objects.old }
-    ensures places { SamePlaces objects.old.store objects.new.store }
+    ensures rest { SameObjects objects.old objects.new }
     ensures counts { counts_of counts.new ≡ lowered_by (counts_of counts.old) (value v) }
 {
     if !v.is_small() {
@@ -81,9 +77,7 @@ pub fn count_store(counts: &mut Counts, objects: &mut Objects, new: Oop, old: Oo
     requires some { let more = raised_by (counts_of counts.old) (value new) 1 in
         is_small (value old) ≡ false → number_at more (place old) ≢ 0 }
     ensures listed { IsListed objects.new counts.new }
-    ensures objects { objects_of objects.new ≡ objects_of objects.old }
-    ensures room { room_of objects.new ≡ room_of objects.old }
-    ensures places { SamePlaces objects.old.store objects.new.store }
+    ensures rest { SameObjects objects.old objects.new }
     ensures counts { let more = raised_by (counts_of counts.old) (value new) 1 in
         counts_of counts.new ≡ lowered_by more (value old) }
 {

@@ -33,7 +33,7 @@ pub struct Counts {
 
 impl Counts {
     ghost use Rattle.st_counted.specs.Contents.{counts_of};
-    ghost use Rattle.st_counted.specs.Links.{Holds, IsListed, IsEnd, with_member};
+    ghost use Rattle.st_counted.specs.Links.{SameObjects, Holds, IsListed, IsEnd, with_member};
 
     /// No place is counted.
     pub fn new(alloc: Global) -> Result<Counts, AllocError>
@@ -75,8 +75,7 @@ impl Counts {
         requires stored { is_some (entry (objects_of objects.old) k) ≡ true }
         requires listed { IsListed objects.old self.old }
         ensures listed { IsListed objects.new self.new }
-        ensures objects { objects_of objects.new ≡ objects_of objects.old }
-        ensures room { room_of objects.new ≡ room_of objects.old }
+        ensures rest { SameObjects objects.old objects.new }
         ensures counts { counts_of self.new ≡ slice_set (counts_of self.old) k (Some 0) }
     {
         self.start(k);
@@ -108,9 +107,7 @@ impl Counts {
         requires place { k < 32768 }
         requires stored { is_some (entry (objects_of objects.old) k) ≡ true }
         requires head { IsEnd objects.old (place self.old.first) }
-        ensures objects { objects_of objects.new ≡ objects_of objects.old }
-        ensures room { room_of objects.new ≡ room_of objects.old }
-        ensures places { SamePlaces objects.old.store objects.new.store }
+        ensures rest { SameObjects objects.old objects.new }
         ensures counts { counts_of self.new ≡ counts_of self.old }
         ensures holds { (p : ℕ → Bool) → Holds objects.old.store (place self.old.first) p → p k ≡ false
             → Holds objects.new.store (place self.new.first) (with_member k p) }
@@ -123,9 +120,7 @@ impl Counts {
         requires unused { is_unused (counts_of self.old) k ≡ true }
         requires listed { IsListed objects.old self.old }
         ensures listed { IsListed objects.new self.new }
-        ensures objects { objects_of objects.new ≡ objects_of objects.old }
-        ensures room { room_of objects.new ≡ room_of objects.old }
-        ensures places { SamePlaces objects.old.store objects.new.store }
+        ensures rest { SameObjects objects.old objects.new }
         ensures counts { counts_of self.new ≡ slice_set (counts_of self.old) k None }
     {
         self.counts[k].counted = false;
@@ -140,9 +135,7 @@ impl Counts {
         requires room { number_at (counts_of self.old) k + by < 4294967296 }
         requires listed { IsListed objects.old self.old }
         ensures listed { IsListed objects.new self.new }
-        ensures objects { objects_of objects.new ≡ objects_of objects.old }
-        ensures room { room_of objects.new ≡ room_of objects.old }
-        ensures places { SamePlaces objects.old.store objects.new.store }
+        ensures rest { SameObjects objects.old objects.new }
         ensures counts { counts_of self.new ≡ raised (counts_of self.old) k by }
     {
         let count = self.count(k);
@@ -160,9 +153,7 @@ impl Counts {
         requires most { by ≤ number_at (counts_of self.old) k }
         requires listed { IsListed objects.old self.old }
         ensures listed { IsListed objects.new self.new }
-        ensures objects { objects_of objects.new ≡ objects_of objects.old }
-        ensures room { room_of objects.new ≡ room_of objects.old }
-        ensures places { SamePlaces objects.old.store objects.new.store }
+        ensures rest { SameObjects objects.old objects.new }
         ensures counts { counts_of self.new ≡ lowered (counts_of self.old) k by }
     {
         let count = self.count(k) - by;

@@ -16,10 +16,12 @@ ghost use Rattle.st_model.specs.Births.{births};
 ghost use Rattle.st_model.specs.Table.{table};
 ghost use Rattle.st_counted.specs.Taking.{TakesNoneSupported, LeftSupportsItself, TakingSettles};
 
+pub use contents::Head;
 pub use loader::CountedLoader;
 pub use memory::CountedMemory;
 pub use roots::Roots;
 pub use standing::objects_are_stored_and_counted;
+pub use tally::ROOT_PAGE;
 
 /// Where members of the kept objects that are neither a root nor referred to by a member left are taken away one after the
 /// other, in any order, until there is none, what is left is the largest set that supports itself: what is taken away is in no

@@ -6,7 +6,7 @@ ghost use Rattle.st_table.specs.Entries.{place};
 ghost use Rattle.st_heap.specs.Links.{next_of, before_of};
 ghost use Rattle.st_heap.specs.Places.{SamePlaces};
 ghost use Rattle.st_heap.specs.Tables.{objects_of, room_of};
-ghost use Rattle.st_counted.specs.Links.{Holds, IsEnd, with_member, without_member};
+ghost use Rattle.st_counted.specs.Links.{SameObjects, Holds, IsEnd, with_member, without_member};
 
 use st_heap::Objects;
 use st_model::Oop;
@@ -24,9 +24,7 @@ pub fn link(objects: &mut Objects, first: Oop, o: Oop) -> Oop
     requires stored { is_some (entry (objects_of objects.old) (place o)) ≡ true }
     requires head { IsEnd objects.old (place first) }
     ensures head { result ≡ o }
-    ensures objects { objects_of objects.new ≡ objects_of objects.old }
-    ensures room { room_of objects.new ≡ room_of objects.old }
-    ensures places { SamePlaces objects.old.store objects.new.store }
+    ensures rest { SameObjects objects.old objects.new }
     ensures holds { (p : ℕ → Bool) → Holds objects.old.store (place first) p → p (place o) ≡ false
         → Holds objects.new.store (place o) (with_member (place o) p) }
 {
@@ -42,9 +40,7 @@ pub fn unlink(objects: &mut Objects, first: Oop, o: Oop) -> Oop
     requires live { is_live (objects_of objects.old) (value o) ≡ true }
     requires next { IsEnd objects.old (next_of objects.old.store (place o)) }
     requires before { IsEnd objects.old (before_of objects.old.store (place o)) }
-    ensures objects { objects_of objects.new ≡ objects_of objects.old }
-    ensures room { room_of objects.new ≡ room_of objects.old }
-    ensures places { SamePlaces objects.old.store objects.new.store }
+    ensures rest { SameObjects objects.old objects.new }
     ensures holds { (p : ℕ → Bool) → Holds objects.old.store (place first) p → p (place o) ≡ true
         → Holds objects.new.store (place result) (without_member (place o) p) }
 {
@@ -58,9 +54,7 @@ pub fn unlink(objects: &mut Objects, first: Oop, o: Oop) -> Oop
 fn follow(objects: &mut Objects, first: Oop, from: Oop, to: Oop) -> Oop
     requires { IsEnd objects.old (place from) }
     ensures head { result ≡ (if place from == 0 then to else first) }
-    ensures objects { objects_of objects.new ≡ objects_of objects.old }
-    ensures room { room_of objects.new ≡ room_of objects.old }
-    ensures places { SamePlaces objects.old.store objects.new.store }
+    ensures rest { SameObjects objects.old objects.new }
     ensures here { place from ≢ 0 → next_of objects.new.store (place from) ≡ place to }
     ensures others { (k : ℕ) → k ≢ place from → next_of objects.new.store k ≡ next_of objects.old.store k }
     ensures before { (k : ℕ) → before_of objects.new.store k ≡ before_of objects.old.store k }
@@ -75,9 +69,7 @@ fn follow(objects: &mut Objects, first: Oop, from: Oop, to: Oop) -> Oop
 /// Has `to` precede an object, if there is one.
 fn precede(objects: &mut Objects, at: Oop, to: Oop)
     requires { IsEnd objects.old (place at) }
-    ensures objects { objects_of objects.new ≡ objects_of objects.old }
-    ensures room { room_of objects.new ≡ room_of objects.old }
-    ensures places { SamePlaces objects.old.store objects.new.store }
+    ensures rest { SameObjects objects.old objects.new }
     ensures here { place at ≢ 0 → before_of objects.new.store (place at) ≡ place to }
     ensures others { (k : ℕ) → k ≢ place at → before_of objects.new.store k ≡ before_of objects.old.store k }
     ensures next { (k : ℕ) → next_of objects.new.store k ≡ next_of objects.old.store k }

@@ -17,7 +17,7 @@ use crate::links::pointer_of;
 use st_model::Oop;
 
 /// The pointers of the root page.
-const PAGE: [Oop; 20] = [
+pub const ROOT_PAGE: [Oop; 20] = [
     Oop(2),
     Oop(4),
     Oop(6),
@@ -95,7 +95,7 @@ impl Contents {
         ensures counted { AllCounted self.new }
         ensures rest { self.new ≡ record self.old { counts = self.new.counts } }
     {
-        self.raise_all(&PAGE);
+        self.raise_all(&ROOT_PAGE);
         add(&mut self.counts, Oop::NIL, PLACES);
         self.raise_table(self.head.globals);
         self.raise_table(self.head.symbols);

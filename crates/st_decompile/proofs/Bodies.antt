@@ -2,7 +2,7 @@
 use Rattle.std.proofs.Common.{◌≡◌, ℕ, ◌+◌, ◌≤◌, min, Bool, true, false, List, [], ◌∷◌, ◌++◌, None, inr, refl, sym, ap, ap₂, ◌∙◌, subst, arith}
 use Rattle.std.proofs.lemmas.Slice.Eq.{bytes_eq-Decides}
 use Rattle.std.specs.Prelude.{if◌then◌else◌, codes}
-use Rattle.st_scan.specs.Views.{NameView, ExpressionView, StatementsView, no_statements, statement}
+use Rattle.st_scan.specs.Views.{ExpressionView, StatementsView, no_statements, statement}
 use Rattle.st_scan.specs.Views as views
 use Rattle.st_emit.specs.declared.step.Constant.TheVariants.{Receiver}
 use Rattle.st_emit.specs.declared.step.Place.{Place}
@@ -24,7 +24,7 @@ use Rattle.st_decompile.specs.Back.{tree_of, method_tree, method_least, is_self,
 use Rattle.st_decompile.specs.Calling.{AreNames, least_in}
 use Rattle.st_decompile.proofs.Same.{Same, before_next}
 use Rattle.st_decompile.proofs.Backs.{Back, at_next, again_at, least_both}
-use Rattle.st_decompile.proofs.Trees.{expression_is, top_least, some_body}
+use Rattle.st_decompile.proofs.Trees.{expression_is, top_least, last_least, some_body}
 
 pub record SameMethod (x y : Body) : Type 0 where
   pub code : method_code x ≡ method_code y
@@ -126,13 +126,7 @@ module _ (name_of : Place → List ℕ) (names : NamesView) (literals : List Lit
   last_case : (n : Named Node) (count next : ℕ) (plain : Bool) (c : Context) (acc : List LiteralView) → next + (count + 0) ≤ 64 → Back name_of names literals n count next plain c acc
       → MethodBack (record { part = last n.part; literals = n.literals }) (count + 0) next c acc
   last_case n count next plain c acc fits b =
-      let same_count : count + 0 ≡ count = omega arith in
-      record {
-        same = same_last _ n.part b.same;
-        ends = b.ends;
-        counted = omega (arith, b.counted);
-        lowest = ap (λ (k : ℕ). min k 64) b.lowest ∙ top_least name_of names literals are count next (omega (arith, fits)) ∙ sym (ap (λ (k : ℕ). least_in k next) same_count);
-      }
+      record { same = same_last _ n.part b.same; ends = b.ends; counted = omega (arith, b.counted); lowest = last_least name_of names literals are _ count next fits b.lowest }
 
   next_case : (n : Named Node) (b : Named Body) (na nb next : ℕ) (plain : Bool) (s : Scope) (acc : List LiteralView) → next + (na + nb) ≤ 64 → before n.part b.part ≡ following n.part b.part
       → Back name_of names literals n na next plain (ctx' s next) acc → MethodBack b nb (next + na) (ctx' s (next + na)) n.literals

@@ -2,7 +2,7 @@
 use Rattle.std.proofs.Common.{◌≡◌, ℕ, suc, ◌≤◌, max, Bool, true, List, ◌∷◌, Some, None, ap, arith}
 use Rattle.std.proofs.lemmas.Bool.Decides.{nat_tests}
 use Rattle.std.specs.Prelude.{if◌then◌else◌}
-use Rattle.st_emit.specs.Nodes.{Node, constant, small, literal, variable, assign, block, send, one_sided, two_sided, loop, Messages, only, also}
+use Rattle.st_emit.specs.Nodes.{Node, small, literal, Messages, only, also}
 use Rattle.st_resolved.specs.Instructions.{on_some}
 use Rattle.st_resolved.specs.Placed.{IsCount}
 use Rattle.st_expression_stack.specs.Items.{Piece, Item, piece, most_high, is_low}
@@ -38,11 +38,4 @@ fits_messages h ms f e = let m = messages_max ms h in ((omega (arith, m, e.0), e
 pub fits_count : (n : Node) → IsCount n → (f : ℕ) → f ≤ most_high → Fits (high n) f
 fits_count (small k) i f g = (omega arith, g)
 fits_count (literal x place) i f g = (omega arith, g)
-fits_count (constant k) i f g = absurd i
-fits_count (variable p) i f g = absurd i
-fits_count (assign p n) i f g = absurd i
-fits_count (block first arguments n body) i f g = absurd i
-fits_count (send above r ms) i f g = absurd i
-fits_count (one_sided side x a) i f g = absurd i
-fits_count (two_sided side x a b) i f g = absurd i
-fits_count (loop kind x a) i f g = absurd i
+fits_count n i f g = absurd i

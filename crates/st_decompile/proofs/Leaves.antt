@@ -1,21 +1,19 @@
 -- Variables, literals and assignments have their code again.
-use Rattle.std.proofs.Common.{◌≡◌, ℕ, Bool, true, false, cond, List, [], ◌∷◌, Option, Some, None, refl, sym, ap, ◌∙◌, subst}
-use Rattle.std.specs.Prelude.{if◌then◌else◌, is_some, bytes_eq, codes, option_map}
-use Rattle.st_scan.specs.Views.{NameView, ContentView, ExpressionView, is_super}
+use Rattle.std.proofs.Common.{◌≡◌, ℕ, Bool, true, false, List, Option, Some, None, refl, sym, ap, ◌∙◌, subst}
+use Rattle.std.specs.Prelude.{if◌then◌else◌, is_some, bytes_eq, codes}
+use Rattle.st_scan.specs.Views.{NameView, ContentView, ExpressionView}
 use Rattle.st_scan.specs.Views as views
 use Rattle.st_emit.specs.declared.step.Constant.{Constant}
 use Rattle.st_emit.specs.declared.step.Constant.TheVariants.{Receiver, True, False, Nil, Context as Active}
 use Rattle.st_emit.specs.declared.step.Place.{Place}
-use Rattle.st_emit.specs.Names.{NamesView, Scope, Declared, Variable, temporary, field, shared, constant_named, declared_as, field_named, shared_named, variable_named, own_variable, or_else}
+use Rattle.st_emit.specs.Names.{NamesView, Scope, Variable, constant_named, variable_named}
 use Rattle.st_emit.specs.Literals.{LiteralView, Named, small_number}
 use Rattle.st_scan.specs.declared.token.Signed.{Signed}
-use Rattle.st_emit.specs.Nodes.{Node, constant, small, literal, variable, assign, block, send, one_sided, two_sided, loop}
+use Rattle.st_emit.specs.Nodes.{Node, constant, small, literal, variable, assign, block}
 use Rattle.st_emit.specs.Resolving.{Context, name_node, constant_or, place_named, place_of_name, variable_place, content_node, small_or, expression_node}
-use Rattle.st_code.specs.declared.fault.Fault.{Fault}
 use Rattle.st_code.specs.declared.fault.Cause.TheVariants.{Unknown, Store}
 use Rattle.st_code.specs.Faults.{fault_at, read_fault, store_fault, stored_fault}
 use Rattle.st_resolved.proofs.Grows.{Extends}
-use Rattle.st_resolved.specs.Seen.{unnumbered}
 use Rattle.st_expression_stack.specs.Choosing.{called}
 use Rattle.st_decompile.specs.Back.{tree_of}
 use Rattle.st_decompile.specs.Calling.{AreNames}
@@ -98,27 +96,14 @@ module _ (name_of : Place → List ℕ) (names : NamesView) (literals : List Lit
 
   content_leaf : (what : ContentView) (acc : List LiteralView) → IsLeaf (content_node what acc).part
   content_leaf (views.number n) acc = small_leaf (small_number n) n acc
-  content_leaf (views.character b) acc = tt
-  content_leaf (views.bytes t) acc = tt
-  content_leaf (views.symbol t) acc = tt
-  content_leaf (views.array es) acc = tt
-  content_leaf views.nil_object acc = tt
-  content_leaf views.false_object acc = tt
-  content_leaf views.true_object acc = tt
+  content_leaf what acc = tt
 
   module _ (next : ℕ) (c : Context) (acc : List LiteralView) where
     leaf_back : (n : Node) (ls : List LiteralView) → IsLeaf n → expression_node (tree_of name_of n) c acc ≡ record { part = n; literals = ls } → IsBack (record { part = n; literals = ls }) 0 next false c acc
     leaf_back (small k) ls h now = record { same = subst (λ (x : Named Node). Same x.part (small k)) (sym now) (same (small k)); ends = ap (λ (x : Named Node). x.literals) now; counted = refl; block = refl; no_super = refl; lowest = refl }
     leaf_back (literal l place) ls h now =
         record { same = subst (λ (x : Named Node). Same x.part (literal l place)) (sym now) (same (literal l place)); ends = ap (λ (x : Named Node). x.literals) now; counted = refl; block = refl; no_super = refl; lowest = refl }
-    leaf_back (constant k) ls h now = absurd h
-    leaf_back (variable q) ls h now = absurd h
-    leaf_back (assign q x) ls h now = absurd h
-    leaf_back (block f i x b) ls h now = absurd h
-    leaf_back (send above r ms) ls h now = absurd h
-    leaf_back (one_sided side x a) ls h now = absurd h
-    leaf_back (two_sided side x a b) ls h now = absurd h
-    leaf_back (loop kind x a) ls h now = absurd h
+    leaf_back n ls h now = absurd h
 
     pub content_back : (what : ContentView) → IsBack (content_node what acc) 0 next false c acc
     content_back what = leaf_back (content_node what acc).part (content_node what acc).literals (content_leaf what acc) (content_again name_of c acc what)

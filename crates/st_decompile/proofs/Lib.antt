@@ -43,3 +43,4 @@ pub mod Answered
 pub mod Finding
 mod Tested
 pub mod CallsAlike
+mod Sides

@@ -2,17 +2,17 @@
 use Rattle.std.proofs.Common.{◌≡◌, ℕ, suc, ◌+◌, Bool, true, false, not, ◌&&◌, List, [], ◌∷◌, length, Option, Some, None, refl, sym, ap, subst, arith}
 use Rattle.std.specs.Prelude.{if◌then◌else◌}
 use Rattle.st_scan.specs.declared.token.Signed.{Signed}
-use Rattle.st_scan.specs.Views.{is_super, NameView, ContentView, ElementsView, ExpressionView, StatementsView, MessagesView, ExpressionsView}
+use Rattle.st_scan.specs.Views.{is_super, ContentView, ElementsView, ExpressionView, StatementsView, MessagesView, ExpressionsView}
 use Rattle.st_scan.specs.Views as views
 use Rattle.st_emit.specs.declared.step.Constant.{Constant}
 use Rattle.st_emit.specs.declared.step.Place.{Place}
 use Rattle.st_emit.specs.declared.form.TwoSided.TheVariants.{TrueFirst, FalseFirst}
 use Rattle.st_emit.specs.declared.form.Form.{Form}
-use Rattle.st_emit.specs.declared.form.Form.TheVariants.{Message as Plain, One, Two, Repeated}
+use Rattle.st_emit.specs.declared.form.Form.TheVariants.{One, Two, Repeated}
 use Rattle.st_emit.specs.Names.{constant_named}
 use Rattle.st_emit.specs.Literals.{LiteralView, small_number, Naming, given, ◌>>=◌, literal_of, members_of}
 use Rattle.st_emit.specs.Nodes as nodes
-use Rattle.st_emit.specs.Nodes.{Sending, Node, Body, Tail, Messages, Nodes, count, body_of, with_tail}
+use Rattle.st_emit.specs.Nodes.{Sending, Node, Body, Tail, Nodes, count, body_of, with_tail}
 use Rattle.st_emit.specs.Resolving.{Context, behind, inside, names_in, names_in_all, place_of_name, constant_or, small_or, content_node, sending, Message, all_nodes, message_nodes, plain_tail, form_named, formed, single_tail, sends_tail, assign_tail, tailed, is_plain, before, count_node, expression_node, statements_body, messages_of, nodes_of}
 use Rattle.st_grammar.specs.Formed.{IsSelector, HasMessage, ContentFormed, ElementsFormed, LiteralFormed, ReceiverFormed, StatementsFormed, MessagesFormed, ArgumentsFormed, count_of}
 use Rattle.st_resolved.proofs.Grows.{extends_same}
@@ -111,15 +111,7 @@ TailFormed (nodes.looped kind a) = BodyFormed a
 
 body_formed : (n : Node) → Formed n → BodyFormed (body_of n)
 body_formed (nodes.block f i c b) h = h
-body_formed (nodes.constant k) h = tt
-body_formed (nodes.small k) h = tt
-body_formed (nodes.literal x p) h = tt
-body_formed (nodes.variable p) h = tt
-body_formed (nodes.assign p x) h = tt
-body_formed (nodes.send above r ms) h = tt
-body_formed (nodes.one_sided side x a) h = tt
-body_formed (nodes.two_sided side x a b) h = tt
-body_formed (nodes.loop kind x a) h = tt
+body_formed n h = tt
 
 tail_formed : (n : Node) (t : Tail) → Formed n → TailFormed t → Formed (with_tail n t)
 tail_formed n (nodes.assigned p) h k = h
@@ -132,26 +124,15 @@ makes_plain : (above : Bool) (m : Message) (ms : List Message) → MessagesMake 
 makes_plain above m ms h = makes_end MessagesWell TailFormed (message_nodes above m ms) (nodes.sent above) (makes_messages above m ms h) (λ x p. p)
 
 makes_formed : (form : Form) (is_block : Bool) (ms : List (Naming Node)) (otherwise : Naming Tail) → AllMake ms → Makes TailFormed otherwise → Makes TailFormed (formed form is_block ms otherwise)
-makes_formed Plain is_block ms otherwise h k = k
-makes_formed (One side) is_block [] otherwise h k = k
 makes_formed (One side) is_block (a ∷ []) otherwise h k = makes_end Formed TailFormed a (λ n. nodes.sided side (body_of n)) h.0 (λ n p. body_formed n p)
-makes_formed (One side) is_block (a ∷ b ∷ ms) otherwise h k = k
-makes_formed (Two TrueFirst) is_block [] otherwise h k = k
-makes_formed (Two TrueFirst) is_block (a ∷ []) otherwise h k = k
 makes_formed (Two TrueFirst) is_block (a ∷ b ∷ []) otherwise h k =
     makes_then Formed TailFormed a (λ n. b >>= λ o. given (nodes.chosen TrueFirst (body_of n) (body_of o))) h.0
     (λ n p. makes_end Formed TailFormed b (λ o. nodes.chosen TrueFirst (body_of n) (body_of o)) h.1.0 (λ o q. (body_formed n p, body_formed o q)))
-makes_formed (Two TrueFirst) is_block (a ∷ b ∷ c ∷ ms) otherwise h k = k
-makes_formed (Two FalseFirst) is_block [] otherwise h k = k
-makes_formed (Two FalseFirst) is_block (a ∷ []) otherwise h k = k
 makes_formed (Two FalseFirst) is_block (a ∷ b ∷ []) otherwise h k =
     makes_then Formed TailFormed b (λ n. a >>= λ o. given (nodes.chosen FalseFirst (body_of o) (body_of n))) h.1.0
     (λ n p. makes_end Formed TailFormed a (λ o. nodes.chosen FalseFirst (body_of o) (body_of n)) h.0 (λ o q. (body_formed o q, body_formed n p)))
-makes_formed (Two FalseFirst) is_block (a ∷ b ∷ c ∷ ms) otherwise h k = k
-makes_formed (Repeated kind) true [] otherwise h k = k
 makes_formed (Repeated kind) true (a ∷ []) otherwise h k = makes_end Formed TailFormed a (λ n. nodes.looped kind (body_of n)) h.0 (λ n p. body_formed n p)
-makes_formed (Repeated kind) true (a ∷ b ∷ ms) otherwise h k = k
-makes_formed (Repeated kind) false ms otherwise h k = k
+makes_formed form is_block ms otherwise h k = k
 
 makes_single : (above is_block : Bool) (m : Message) → AllMake m.arguments → IsSelector m.selector (length m.arguments) → Makes TailFormed (single_tail above is_block m)
 makes_single above is_block m h r = by_test (not above && m.all_blocks)

@@ -6,7 +6,6 @@ use Rattle.std.specs.Prelude.{if◌then◌else◌, bytes_eq, codes, nat_lt}
 use Rattle.st_scan.specs.Views.{is_super, NameView, ContentView, ElementsView, ExpressionView, StatementsView, MessagesView, ExpressionsView, no_statements, statement, no_expressions, no_messages}
 use Rattle.st_scan.specs.Views as views
 use Rattle.st_emit.specs.declared.step.Constant.{Constant}
-use Rattle.st_emit.specs.declared.step.Constant.TheVariants.{Receiver, True, False, Nil, Context as Active}
 use Rattle.st_emit.specs.declared.step.Place.{Place}
 use Rattle.st_emit.specs.declared.form.OneSided.{OneSided}
 use Rattle.st_emit.specs.declared.form.TwoSided.TheVariants.{TrueFirst, FalseFirst}
@@ -27,6 +26,7 @@ use Rattle.st_grammar.specs.Faults.{most}
 use Rattle.st_grammar.specs.Formed.{ReceiverFormed, StatementsFormed, MessagesFormed, ArgumentsFormed}
 use Rattle.st_expression_stack.specs.Items.{no_arguments, most_high}
 use Rattle.st_expression_stack.specs.Choosing.{content_of, elements_of, constant_tree, received, alone, one_sided_by, sides_by, choice_tree, loop_selector, with_block, with_blocks}
+use Rattle.st_decompile.proofs.Sides.{IfNamed, each_side}
 use Rattle.st_decompile.specs.Back.{tree_of, body_tree, nodes_tree, messages_list, high, body_high, messages_high, nodes_high, body_least, method_tree, without_self, is_self}
 use Rattle.st_decompile.proofs.High.{messages_max}
 use Rattle.st_decompile.proofs.Making.{Makes, makes_then, makes_end, makes_sending}
@@ -116,22 +116,7 @@ receiver_few (views.message s (views.expression e es) (views.message s' es' ms))
 -- FORMS
 
 abbrev IsWordly : Option (List ℕ) → Type 0
-IsWordly None = Unit {0}
-IsWordly (Some s) = is_word s ≡ true
-
-sided_word : (on : Bool) (k : Option Constant) → IsWordly (one_sided_by on k)
-sided_word true None = tt
-sided_word false None = tt
-sided_word true (Some Nil) = refl
-sided_word false (Some Nil) = refl
-sided_word true (Some False) = tt
-sided_word false (Some False) = refl
-sided_word true (Some True) = refl
-sided_word false (Some True) = tt
-sided_word true (Some Receiver) = tt
-sided_word false (Some Receiver) = tt
-sided_word true (Some Active) = tt
-sided_word false (Some Active) = tt
+IsWordly = IfNamed (λ s. is_word s ≡ true)
 
 -- an expression that nests no deeper, and is a keyword message
 record Within (e : ExpressionView) (m : ℕ) : Type 0 where
@@ -154,7 +139,7 @@ within_more : (e : ExpressionView) (m n : ℕ) → m ≤ n → Within e m → Wi
 within_more e m n h w = record { low = omega (arith, h, w.low); rank = w.rank }
 
 choice_within : (on : Bool) (e : ExpressionView) (a : StatementsView) (la : ℕ) (b : StatementsView) (lb : ℕ) → Within (choice_tree on e a la b lb) (max (put Binary e) (max (statements_nesting a + 1) (statements_nesting b + 1)))
-choice_within on e a la b lb = by_form (one_sided_by on (alone b)) (sided_word on (alone b))
+choice_within on e a la b lb = by_form (one_sided_by on (alone b)) (each_side (λ s. is_word s ≡ true) refl refl refl refl on (alone b))
   where
     by_order : (t : Bool) → Within (if t then with_blocks e (codes "ifFalse:ifTrue:") b a else with_blocks e (codes "ifTrue:ifFalse:") a b) (max (put Binary e) (max (statements_nesting a + 1) (statements_nesting b + 1)))
     by_order true = within_more _ _ _ (omega arith) (blocks_within e (codes "ifFalse:ifTrue:") b a refl)
@@ -323,27 +308,31 @@ module _ (name_of : Place → List ℕ) where
   abbrev with_two : ExpressionView → List ℕ → (a b : ExpressionView) → ExpressionView
   with_two e s a b = views.send e (views.message s (views.expression a (views.expression b no_expressions)) no_messages)
 
+  -- a node whose tree is no deeper than a choice is
+  record TwoNest (e : ExpressionView) (n m o t : Node) : Type 0 where
+    tree : Within (tree_of name_of t) (max (put Binary (tree_of name_of n)) (max (sides (body_of m)) (sides (body_of o))))
+    inside : sides (body_of t) ≤ 1
+    height : high t ≤ max (high n) (suc (max (body_high (body_of m) 0) (body_high (body_of o) 0)))
+    within : suc (body_high (body_of t) 0) ≤ 3
+
+  two_nests : (e : ExpressionView) (s : List ℕ) (a b : ExpressionView) (n m o t : Node) → is_word s ≡ true → is_plain a ≡ true → is_plain b ≡ true → Nests a m → Nests b o → Nests e n → TwoNest e n m o t → Nests (with_two e s a b) t
+  two_nests e s a b n m o t w pa pb q r h c = record {
+    low = omega (arith, c.tree.low, put_low Binary (tree_of name_of n) e h.rank h.low, q.inside, r.inside, plain_deep a pa, plain_deep b pb, wrapped_least (is_loose (argument_rank s) (rank_of a)) (nesting a), wrapped_least (is_loose (argument_rank s) (rank_of b)) (nesting b));
+    rank = c.tree.rank ∙ sym (form_rank s a (views.expression b no_expressions) w);
+    inside = omega (arith, c.inside);
+    height = omega (arith, c.height, ap loose (form_rank s a (views.expression b no_expressions) w), put_room Binary e (high n) h.height, q.within, r.within, plain_deep a pa, plain_deep b pb, wrapped_least (is_loose (argument_rank s) (rank_of a)) (nesting a), wrapped_least (is_loose (argument_rank s) (rank_of b)) (nesting b));
+    within = omega (arith, c.within);
+  }
+
   true_nests : (e : ExpressionView) (s : List ℕ) (a b : ExpressionView) (m o : Node) → is_word s ≡ true → is_plain a ≡ true → is_plain b ≡ true → Nests a m → Nests b o → TailNests e (with_two e s a b) (nodes.chosen TrueFirst (body_of m) (body_of o))
   true_nests e s a b m o w pa pb q r n h =
       let c = choice_within false (tree_of name_of n) (body_tree name_of (body_of m) no_statements) (body_least (body_of m) no_arguments) (body_tree name_of (body_of o) no_statements) (body_least (body_of o) no_arguments) in
-      record {
-        low = omega (arith, c.low, put_low Binary (tree_of name_of n) e h.rank h.low, q.inside, r.inside, plain_deep a pa, plain_deep b pb, wrapped_least (is_loose (argument_rank s) (rank_of a)) (nesting a), wrapped_least (is_loose (argument_rank s) (rank_of b)) (nesting b));
-        rank = c.rank ∙ sym (form_rank s a (views.expression b no_expressions) w);
-        inside = omega arith;
-        height = omega (arith, ap loose (form_rank s a (views.expression b no_expressions) w), put_room Binary e (high n) h.height, q.within, r.within, plain_deep a pa, plain_deep b pb, wrapped_least (is_loose (argument_rank s) (rank_of a)) (nesting a), wrapped_least (is_loose (argument_rank s) (rank_of b)) (nesting b));
-        within = omega arith;
-      }
+      two_nests e s a b n m o _ w pa pb q r h (record { tree = c; inside = omega arith; height = omega arith; within = omega arith })
 
   false_nests : (e : ExpressionView) (s : List ℕ) (a b : ExpressionView) (m o : Node) → is_word s ≡ true → is_plain a ≡ true → is_plain b ≡ true → Nests a m → Nests b o → TailNests e (with_two e s a b) (nodes.chosen FalseFirst (body_of m) (body_of o))
   false_nests e s a b m o w pa pb q r n h =
       let c = choice_within false (tree_of name_of n) (body_tree name_of (body_of o) no_statements) (body_least (body_of o) no_arguments) (body_tree name_of (body_of m) no_statements) (body_least (body_of m) no_arguments) in
-      record {
-        low = omega (arith, c.low, put_low Binary (tree_of name_of n) e h.rank h.low, q.inside, r.inside, plain_deep a pa, plain_deep b pb, wrapped_least (is_loose (argument_rank s) (rank_of a)) (nesting a), wrapped_least (is_loose (argument_rank s) (rank_of b)) (nesting b));
-        rank = c.rank ∙ sym (form_rank s a (views.expression b no_expressions) w);
-        inside = omega arith;
-        height = omega (arith, ap loose (form_rank s a (views.expression b no_expressions) w), put_room Binary e (high n) h.height, q.within, r.within, plain_deep a pa, plain_deep b pb, wrapped_least (is_loose (argument_rank s) (rank_of a)) (nesting a), wrapped_least (is_loose (argument_rank s) (rank_of b)) (nesting b));
-        within = omega arith;
-      }
+      two_nests e s a b n m o _ w pa pb q r h (record { tree = within_more _ _ _ (omega arith) c; inside = omega arith; height = omega arith; within = omega arith })
 
   -- LEAVES
 
@@ -427,36 +416,33 @@ module _ (name_of : Place → List ℕ) where
   plain_nests : (above : Bool) (e : ExpressionView) (ms : MessagesView) (m : Message) (rest : List Message) → MessagesAll ms (m ∷ rest) → Makes (TailNests e (views.send e ms)) (plain_tail above m rest)
   plain_nests above e ms m rest h = makes_end (MessagesNest ms) (TailNests e (views.send e ms)) (message_nodes above m rest) (nodes.sent above) (messages_nest above ms m rest h) (λ x q. sent_nests above e ms x q)
 
+  abbrev AreTwo : ExpressionsView → Type 0
+  AreTwo (views.expression a (views.expression b views.no_expressions)) = Unit {0}
+  AreTwo es = ⊥
+
+  two_expressions : (es : ExpressionsView) (m o : Naming Node) → AllNest es (m ∷ o ∷ []) → AreTwo es
+  two_expressions views.no_expressions m o h = h
+  two_expressions (views.expression a views.no_expressions) m o h = h.1
+  two_expressions (views.expression a (views.expression b views.no_expressions)) m o h = tt
+  two_expressions (views.expression a (views.expression b (views.expression c es))) m o h = h.1.1
+
   formed_nests : (form : Form) (e : ExpressionView) (s : List ℕ) (es : ExpressionsView) (ms : List (Naming Node)) (otherwise : Naming Tail) → HasForm form s → all_plain es ≡ true → AllNest es ms
       → Makes (TailNests e (views.send e (views.message s es no_messages))) otherwise → Makes (TailNests e (views.send e (views.message s es no_messages))) (formed form (is_plain e) ms otherwise)
-  formed_nests Plain e s es ms otherwise w p h k = k
-  formed_nests (One side) e s es [] otherwise w p h k = k
-  formed_nests (One side) e s views.no_expressions (m ∷ []) otherwise w p h k = absurd h
   formed_nests (One side) e s (views.expression a views.no_expressions) (m ∷ []) otherwise w p h k =
       makes_end (Nests a) (TailNests e (views.send e (views.message s (views.expression a no_expressions) no_messages))) m (λ n. nodes.sided side (body_of n)) h.0
       (λ n q. sided_nests side e s a n w (and_parts (is_plain a) true p).0 q)
+  formed_nests (One side) e s views.no_expressions (m ∷ []) otherwise w p h k = absurd h
   formed_nests (One side) e s (views.expression a (views.expression b es)) (m ∷ []) otherwise w p h k = absurd h.1
-  formed_nests (One side) e s es (m ∷ o ∷ ms) otherwise w p h k = k
-  formed_nests (Two TrueFirst) e s es [] otherwise w p h k = k
-  formed_nests (Two FalseFirst) e s es [] otherwise w p h k = k
-  formed_nests (Two TrueFirst) e s es (m ∷ []) otherwise w p h k = k
-  formed_nests (Two FalseFirst) e s es (m ∷ []) otherwise w p h k = k
-  formed_nests (Two TrueFirst) e s views.no_expressions (m ∷ o ∷ []) otherwise w p h k = absurd h
-  formed_nests (Two TrueFirst) e s (views.expression a views.no_expressions) (m ∷ o ∷ []) otherwise w p h k = absurd h.1
   formed_nests (Two TrueFirst) e s (views.expression a (views.expression b views.no_expressions)) (m ∷ o ∷ []) otherwise w p h k =
       let pa = and_parts (is_plain a) (is_plain b && true) p in
       makes_then (Nests a) (TailNests e (with_two e s a b)) m (λ x. o >>= λ y. given (nodes.chosen TrueFirst (body_of x) (body_of y))) h.0
       (λ x q. makes_end (Nests b) (TailNests e (with_two e s a b)) o (λ y. nodes.chosen TrueFirst (body_of x) (body_of y)) h.1.0 (λ y r. true_nests e s a b x y w pa.0 (and_parts (is_plain b) true pa.1).0 q r))
-  formed_nests (Two TrueFirst) e s (views.expression a (views.expression b (views.expression c es))) (m ∷ o ∷ []) otherwise w p h k = absurd h.1.1
-  formed_nests (Two TrueFirst) e s es (m ∷ o ∷ l ∷ ms) otherwise w p h k = k
-  formed_nests (Two FalseFirst) e s views.no_expressions (m ∷ o ∷ []) otherwise w p h k = absurd h
-  formed_nests (Two FalseFirst) e s (views.expression a views.no_expressions) (m ∷ o ∷ []) otherwise w p h k = absurd h.1
+  formed_nests (Two TrueFirst) e s es (m ∷ o ∷ []) otherwise w p h k = absurd (two_expressions es m o h)
   formed_nests (Two FalseFirst) e s (views.expression a (views.expression b views.no_expressions)) (m ∷ o ∷ []) otherwise w p h k =
       let pa = and_parts (is_plain a) (is_plain b && true) p in
       makes_then (Nests b) (TailNests e (with_two e s a b)) o (λ y. m >>= λ x. given (nodes.chosen FalseFirst (body_of x) (body_of y))) h.1.0
       (λ y r. makes_end (Nests a) (TailNests e (with_two e s a b)) m (λ x. nodes.chosen FalseFirst (body_of x) (body_of y)) h.0 (λ x q. false_nests e s a b x y w pa.0 (and_parts (is_plain b) true pa.1).0 q r))
-  formed_nests (Two FalseFirst) e s (views.expression a (views.expression b (views.expression c es))) (m ∷ o ∷ []) otherwise w p h k = absurd h.1.1
-  formed_nests (Two FalseFirst) e s es (m ∷ o ∷ l ∷ ms) otherwise w p h k = k
+  formed_nests (Two FalseFirst) e s es (m ∷ o ∷ []) otherwise w p h k = absurd (two_expressions es m o h)
   formed_nests (Repeated kind) e s es ms otherwise w p h k = by_block (is_plain e) refl ms es p h k
     where
       by_block : (b : Bool) → is_plain e ≡ b → (ms : List (Naming Node)) (es : ExpressionsView) → all_plain es ≡ true → AllNest es ms
@@ -469,6 +455,7 @@ module _ (name_of : Place → List ℕ) where
           (λ n q. looped_nests kind e s a n w pe (and_parts (is_plain a) true p).0 q)
       by_block true pe (m ∷ []) (views.expression a (views.expression b es)) p h k = absurd h.1
       by_block true pe (m ∷ o ∷ ms) es p h k = k
+  formed_nests form e s es ms otherwise w p h k = k
 
   abbrev message_of : List ℕ → List (Naming Node) → ExpressionsView → Message
   message_of s ms es = record { selector = s; arguments = ms; all_blocks = all_plain es }

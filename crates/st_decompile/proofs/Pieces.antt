@@ -1,6 +1,6 @@
 -- What lies on the stack when nodes, statements and arguments have been read.
 use Rattle.std.proofs.Common.{◌≡◌, ℕ, zero, suc, ◌+◌, ◌<◌, true, false, List, [], ◌∷◌, Option, Some, refl, ap, ◌∙◌, arith, ne_eqb, eq-eqb}
-use Rattle.st_scan.specs.Views.{ExpressionView, ExpressionsView, StatementsView, MessagesView, no_statements, no_messages, statement, expression, no_expressions, with_message}
+use Rattle.st_scan.specs.Views.{ExpressionsView, StatementsView, MessagesView, no_statements, no_messages, no_expressions, with_message}
 use Rattle.st_scan.specs.Views as views
 use Rattle.st_emit.specs.declared.step.Constant.TheVariants.{Receiver, Nil}
 use Rattle.st_emit.specs.declared.step.Place.{Place}
@@ -31,10 +31,8 @@ module _ (name_of : Place → List ℕ) where
 
   pub body_before : (b : Body) (at : ℕ) (ss : StatementsView) (l h : ℕ) (items : List Item)
       → statements_before ss l h (body_items b at items) ≡ statements_before (body_tree name_of b ss) (body_least b l) (body_high b h) items
-  body_before nothing at ss l h items = refl
-  body_before (last n) at ss l h items = refl
   body_before (next n b) at ss l h items = body_before b (at + size (code_of for_effect n)) ss l h (piece (piece_of n at) ∷ items)
-  body_before (returned n) at ss l h items = refl
+  body_before b at ss l h items = refl
 
   -- in a region of their own
   pub body_alone : (b : Body) (at : ℕ) → statements_of (body_items b at []) ≡ body_taken b no_statements no_arguments 0 []
@@ -143,10 +141,8 @@ module _ (name_of : Place → List ℕ) where
 
   pub method_before : (b : Body) (at : ℕ) (ss : StatementsView) (l h : ℕ) (items : List Item)
       → statements_before ss l h (method_items b at items) ≡ statements_before (method_tree name_of b ss) (method_least b l) (method_high b h) items
-  method_before nothing at ss l h items = refl
-  method_before (last n) at ss l h items = refl
   method_before (next n b) at ss l h items = method_before b (at + size (code_of for_effect n)) ss l h (piece (piece_of n at) ∷ items)
-  method_before (returned n) at ss l h items = refl
+  method_before b at ss l h items = refl
 
   pub method_taken : (b : Body) → statements_of (method_items b 0 []) ≡ record { statements = method_tree name_of b no_statements; least = method_least b no_arguments; height = method_high b 0; below = [] }
   method_taken b = method_before b 0 no_statements no_arguments 0 []

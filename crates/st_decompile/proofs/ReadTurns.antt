@@ -1,5 +1,5 @@
 -- What is done with the top of a stack.
-use Rattle.std.proofs.Common.{◌≡◌, ◌<◌, ◌≤◌, ℕ, suc, ◌+◌, ◌-◌, ◌==◌, Bool, true, false, List, [], ◌∷◌, ◌++◌, map, take, drop, length, get_or, Option, Some, None, refl, sym, ap, ap₂, ◌∙◌, arith}
+use Rattle.std.proofs.Common.{◌≡◌, ℕ, suc, ◌+◌, ◌-◌, Bool, false, List, [], ◌∷◌, ◌++◌, map, Option, Some, None, refl, sym, ap, ap₂, ◌∙◌, subst}
 use Rattle.std.proofs.lemmas.List.{append-nil, append_assoc, map-append}
 use Rattle.std.proofs.lemmas.Option.{slice_get-map}
 use Rattle.std.specs.Borrow.{Bor}
@@ -16,11 +16,11 @@ use Rattle.st_expression_stack.specs.declared.item.Piece.{Piece as Kept}
 use Rattle.st_expression_stack.specs.declared.item.Item.{Item as KeptItem}
 use Rattle.st_expression_stack.specs.declared.item.Item.TheVariants as kept
 use Rattle.st_decompile.specs.declared.reading.Reading.{Reading}
-use Rattle.st_expression_stack.specs.Items.{Piece, Item, Taken, statements_of, arguments_of, piece, cascade, again, answered, argument, over, back, Acted, goes_on, statements_from, put_low}
+use Rattle.st_expression_stack.specs.Items.{on_piece, Piece, Item, Taken, statements_of, arguments_of, piece, argument, goes_on, statements_from, put_low}
 use Rattle.st_decompile.specs.Reading.{loop_piece, block_piece, least_among}
 use Rattle.st_expression_stack.specs.Stacks.{piece_view, stack_view, IsPieceless, IsPopped, IsArgumentless}
 use Rattle.st_decompile.specs.Read.{selector_now, name_by, literals_by, region_by, arguments_by, block_by, popped_by, popped_into_by, looped_by}
-use Rattle.st_expression_stack.proofs.Stacking.{stack_push, arguments_end}
+use Rattle.st_expression_stack.proofs.Stacking.{on_piece_none, stack_push, arguments_end}
 use Rattle.st_expression_stack.proofs.Got.{got_as}
 
 -- A PIECE ON TOP
@@ -28,16 +28,17 @@ use Rattle.st_expression_stack.proofs.Got.{got_as}
 pub piece_put : (old new : List KeptItem) (k : Kept) (p : Piece) → new ≡ old ++ kept.Piece k ∷ [] → piece_view k ≡ p → stack_view new ≡ piece p ∷ stack_view old
 piece_put old new k p e is = stack_push old new (kept.Piece k) e ∙ ap (λ (x : Piece). piece x ∷ stack_view old) is
 
+-- what stands on top where a piece was asked for
+pub popped_none : {A : Type 0} (old new : List KeptItem) (v : Option Kept) (f : Piece → List Item → Option A) → v ≡ None → IsPopped old new v → None ≡ on_piece (stack_view old) f
+popped_none old new v f e h = sym (on_piece_none (stack_view old) f (subst (IsPopped old new) e h).0)
+
+pub popped_some : (old new : List KeptItem) (v : Option Kept) (p : Kept) → v ≡ Some p → IsPopped old new v → stack_view old ≡ piece (piece_view p) ∷ stack_view new
+popped_some old new v p e h = (subst (IsPopped old new) e h).0
+
 module _ (r : Reading) (place : Place) where
   into_none : (xs : List Item) → IsPieceless xs → popped_into_by r place xs ≡ goes_on (argument place ∷ xs)
-  into_none [] h = refl
   into_none (piece x ∷ xs) h = absurd h
-  into_none (cascade x ms ∷ xs) h = refl
-  into_none (again ∷ xs) h = refl
-  into_none (answered ∷ xs) h = refl
-  into_none (argument p ∷ xs) h = refl
-  into_none (over d ∷ xs) h = refl
-  into_none (back d ∷ xs) h = refl
+  into_none xs h = refl
 
   pub popped_is : (old new : List KeptItem) (value : Option Kept) → IsPopped old new value → popped_into_by r place (stack_view old) ≡ goes_on (popped_by r place (option_map piece_view value) ∷ stack_view new)
   popped_is old new None h = into_none (stack_view old) h.0 ∙ ap (λ (xs : List KeptItem). goes_on (argument place ∷ stack_view xs)) (sym h.1)

@@ -1,5 +1,5 @@
 -- What is done once a region is read.
-use Rattle.std.proofs.Common.{◌≡◌, ◌+◌, ◌-◌, ◌==◌, ℕ, Bool, true, false, List, [], ◌∷◌, ◌++◌, Option, Some, None, refl, sym, ap, ap₂, ◌∙◌, arith}
+use Rattle.std.proofs.Common.{◌≡◌, ◌+◌, ◌-◌, ℕ, Bool, true, false, List, [], ◌∷◌, ◌++◌, Option, Some, None, refl, sym, ap, ap₂, ◌∙◌}
 use Rattle.std.specs.Borrow.{Bor}
 use Rattle.std.specs.Global.{Vec}
 use Rattle.st_scan.specs.Views.{no_statements}
@@ -11,7 +11,7 @@ use Rattle.st_expression_stack.specs.declared.item.Item.TheVariants as kept
 use Rattle.st_decompile.specs.declared.reading.Reading.{Reading}
 use Rattle.st_decompile.specs.declared.region.Jump.{Jump}
 use Rattle.st_decompile.specs.declared.region.Spot.{Spot}
-use Rattle.st_expression_stack.specs.Items.{Item, Piece, Taken, piece, cascade, again, answered, argument, over, back, no_arguments, statements_of, Acted, statements_from, put_low}
+use Rattle.st_expression_stack.specs.Items.{Item, Taken, piece, cascade, again, answered, argument, over, back, no_arguments, statements_of, Acted, statements_from, put_low}
 use Rattle.st_decompile.specs.declared.located.Located.{Located}
 use Rattle.st_decompile.specs.Located.{steps_in, split_of, AreSpaced}
 use Rattle.st_decompile.specs.Reading.{loop_piece, passes, passed, front, behind}
@@ -215,20 +215,6 @@ module _ (r : Reading) (depth : ℕ) (j : Jump) (s : Spot) (first xs : List Item
 -- ONE INSTRUCTION
 
 pub is_plain : (s : Step) → ((on : Bool) (d : ℕ) → s ≡ JumpIf on d → ⊥) → ((k : ℕ) → s ≡ SendSpecial k → ⊥) → IsPlain s
-is_plain (Push p) n m = tt
-is_plain (PushConstant k) n m = tt
-is_plain (PushNumber k) n m = tt
-is_plain (Store p) n m = tt
-is_plain (PopStore p) n m = tt
-is_plain Pop n m = tt
-is_plain Duplicate n m = tt
-is_plain (Send k l) n m = tt
-is_plain (SendSuper k l) n m = tt
-is_plain (SendSpecial k) n m = absurd (m k refl)
-is_plain (ReturnConstant k) n m = tt
-is_plain ReturnTop n m = tt
-is_plain ReturnBlock n m = tt
-is_plain (JumpOver d) n m = tt
-is_plain (JumpBack d) n m = tt
 is_plain (JumpIf on d) n m = absurd (n on d refl)
-is_plain (JumpPast d) n m = tt
+is_plain (SendSpecial k) n m = absurd (m k refl)
+is_plain s n m = tt

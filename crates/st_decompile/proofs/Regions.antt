@@ -14,7 +14,7 @@ use Rattle.st_emit.specs.Emitting.{choice, repeat, pop_arguments, body_code}
 use Rattle.st_resolved.specs.Instructions.{on_some}
 use Rattle.st_resolved.proofs.Sizes.{size-append}
 use Rattle.st_decompile.proofs.Cuts.{front_is, behind_is}
-use Rattle.st_expression_stack.specs.Items.{Piece, Item, piece, cascade, again, answered, argument, over, back, no_arguments, Taken, statements_of, Acted, goes_on, on_piece, statements_from, most_high}
+use Rattle.st_expression_stack.specs.Items.{Piece, Item, piece, argument, over, back, no_arguments, Taken, statements_of, Acted, goes_on, on_piece, statements_from, most_high}
 use Rattle.st_decompile.specs.Reading.{front, behind, decided, choice_piece, loop_piece, block_piece, popped_into, passes}
 use Rattle.st_decompile.proofs.Pieces.{body_items, body_taken, body_from, body_popped, IsBare, argument_items}
 use Rattle.st_decompile.proofs.High.{passes_is}
@@ -154,14 +154,8 @@ module _ (name_of : Place → List ℕ) (literals : List LiteralView) where
       (moves.one_follows name_of literals f at s items more (λ ss. popped_bare items h)) (pops_follow f first n (at + size_of s) more tt)
     where
       popped_bare : (st : List Item) → IsBare name_of st → popped_into name_of literals (within f) (Temporary (first + n)) st ≡ goes_on (argument (Temporary (first + n)) ∷ st)
-      popped_bare [] h = refl
       popped_bare (piece p ∷ st) h = absurd h
-      popped_bare (cascade p ms ∷ st) h = refl
-      popped_bare (again ∷ st) h = refl
-      popped_bare (answered ∷ st) h = refl
-      popped_bare (argument p ∷ st) h = refl
-      popped_bare (over d ∷ st) h = refl
-      popped_bare (back d ∷ st) h = refl
+      popped_bare st h = refl
 
   module _ (f at : ℕ) (inside : List Step) (made : List Item) (count_piece context : Piece) (items : List Item) where
     abbrev made_piece : Piece

@@ -1,6 +1,6 @@
 -- The tree that is read of a tree's code has this code again.
 use Rattle.std.proofs.Common.{◌≡◌, ℕ, zero, suc, ◌+◌, ◌≤◌, min, Bool, true, false, not, ◌&&◌, List, [], ◌∷◌, ◌++◌, None, length, refl, sym, ap, ap₂, ◌∙◌, subst, arith, append-nil}
-use Rattle.st_scan.specs.Views.{NameView, ExpressionView, ExpressionsView, StatementsView, MessagesView, is_super, no_statements, statement}
+use Rattle.st_scan.specs.Views.{NameView, ExpressionView, ExpressionsView, StatementsView, MessagesView, is_super, no_statements}
 use Rattle.st_scan.specs.Views as views
 use Rattle.st_emit.specs.declared.step.Place.{Place}
 use Rattle.st_emit.specs.declared.form.TwoSided.TheVariants.{TrueFirst, FalseFirst}
@@ -109,18 +109,18 @@ module _ (name_of : Place → List ℕ) (names : NamesView) (literals : List Lit
     lowest = ap (λ (k : ℕ). min k 64) b.lowest ∙ top_least count next fits;
   }
 
+  -- where nothing more is named
+  pub last_least : (l count next : ℕ) → next + (count + 0) ≤ 64 → l ≡ least_in count next → min l 64 ≡ least_in (count + 0) next
+  last_least l count next fits low =
+      let same_count : count + 0 ≡ count = omega arith in
+      ap (λ (k : ℕ). min k 64) low ∙ top_least count next (omega (arith, fits)) ∙ sym (ap (λ (k : ℕ). least_in k next) same_count)
+
   abbrev last_named : Named Node → Named Body
   last_named n = record { part = last n.part; literals = n.literals }
 
   last_back : (n : Named Node) (count next : ℕ) (plain : Bool) (c : Context) (acc : List LiteralView) → next + (count + 0) ≤ 64 → Back name_of names literals n count next plain c acc → BodyBack name_of names literals (last_named n) (count + 0) next c acc
   last_back n count next plain c acc fits b =
-      let same_count : count + 0 ≡ count = omega arith in
-      record {
-        same = same_last _ n.part b.same;
-        ends = b.ends;
-        counted = omega (arith, b.counted);
-        lowest = ap (λ (k : ℕ). min k 64) b.lowest ∙ top_least count next (omega (arith, fits)) ∙ sym (ap (λ (k : ℕ). least_in k next) same_count);
-      }
+      record { same = same_last _ n.part b.same; ends = b.ends; counted = omega (arith, b.counted); lowest = last_least _ count next fits b.lowest }
 
   some_back : (b : Body) (c : Context) (acc : List LiteralView) → IsSome (statements_body (body_back name_of names literals b) c acc).part
   some_back nothing c acc = tt

@@ -1,7 +1,7 @@
 -- The tree of nodes is one that a text may have, where all variables are called by names.
 use Rattle.std.proofs.Common.{◌≡◌, ℕ, zero, suc, ◌≤◌, Bool, true, false, List, [], ◌∷◌, Option, Some, None, map, inr, refl, sym, subst, arith}
 use Rattle.std.specs.Prelude.{IsFalse, if◌then◌else◌, bytes_eq, codes, nat_lt}
-use Rattle.st_scan.specs.Views.{is_super, NameView, ExpressionView, ExpressionsView, StatementsView, MessagesView, no_statements, statement, no_expressions}
+use Rattle.st_scan.specs.Views.{is_super, ExpressionView, StatementsView, no_statements, statement, no_expressions}
 use Rattle.st_scan.specs.Views as views
 use Rattle.st_emit.specs.declared.step.Constant.{Constant}
 use Rattle.st_emit.specs.declared.step.Constant.TheVariants.{Receiver, True, False, Nil, Context}
@@ -14,14 +14,14 @@ use Rattle.st_scan.specs.Pieces.{is_name}
 use Rattle.st_grammar.specs.Formed.{IsSelector, NamesFormed, HasMessage, ReceiverFormed, StatementsFormed, MessagesFormed, ArgumentsFormed, count_of}
 use Rattle.st_expression_stack.specs.Items.{no_arguments}
 use Rattle.st_expression_stack.specs.Choosing.{called, small_signed, constant_tree, received, alone, one_sided_by, sides_by, choice_tree, loop_selector, with_block, with_blocks}
+use Rattle.st_decompile.proofs.Sides.{IfNamed, each_side}
 use Rattle.st_decompile.specs.Back.{tree_of, body_tree, nodes_tree, messages_list, body_least, places_from, method_tree, without_self, is_self}
 use Rattle.st_decompile.specs.Formed.{Formed, BodyFormed, MessagesWell, NodesFormed}
 
 -- FORMS
 
 abbrev IsSided : Option (List ℕ) → Type 0
-IsSided None = Unit {0}
-IsSided (Some s) = IsSelector s 1
+IsSided = IfNamed (λ s. IsSelector s 1)
 
 if_true : IsSelector (codes "ifTrue:") 1
 if_true = inr (record { names = codes "ifTrue" ∷ []; are_names = refl; is_joined = refl; counted = refl })
@@ -45,20 +45,6 @@ looping : (on : Bool) → IsSelector (loop_selector on) 1
 looping false = inr (record { names = codes "whileTrue" ∷ []; are_names = refl; is_joined = refl; counted = refl })
 looping true = inr (record { names = codes "whileFalse" ∷ []; are_names = refl; is_joined = refl; counted = refl })
 
-is_sided : (on : Bool) (k : Option Constant) → IsSided (one_sided_by on k)
-is_sided true None = tt
-is_sided false None = tt
-is_sided true (Some Nil) = if_false
-is_sided false (Some Nil) = if_true
-is_sided true (Some False) = tt
-is_sided false (Some False) = and_then
-is_sided true (Some True) = or_then
-is_sided false (Some True) = tt
-is_sided true (Some Receiver) = tt
-is_sided false (Some Receiver) = tt
-is_sided true (Some Context) = tt
-is_sided false (Some Context) = tt
-
 -- an expression that may be an argument: it isn't super alone
 abbrev Written : ExpressionView → Type 0
 Written e = ReceiverFormed e × IsFalse (is_super e)
@@ -70,7 +56,7 @@ blocks_written : (e : ExpressionView) (s : List ℕ) (a b : StatementsView) → 
 blocks_written e s a b h i j k = ((h, tt, (i, ((tt, j), refl, ((tt, k), refl, tt)), tt)), refl)
 
 choice_written : (on : Bool) (e : ExpressionView) (a : StatementsView) (la : ℕ) (b : StatementsView) (lb : ℕ) → ReceiverFormed e → StatementsFormed a → StatementsFormed b → Written (choice_tree on e a la b lb)
-choice_written on e a la b lb h j k = by_form (one_sided_by on (alone b)) (is_sided on (alone b))
+choice_written on e a la b lb h j k = by_form (one_sided_by on (alone b)) (each_side (λ s. IsSelector s 1) if_true if_false and_then or_then on (alone b))
   where
     by_order : (t : Bool) → Written (if t then with_blocks e (codes "ifFalse:ifTrue:") b a else with_blocks e (codes "ifTrue:ifFalse:") a b)
     by_order true = blocks_written e (codes "ifFalse:ifTrue:") b a h false_first k j

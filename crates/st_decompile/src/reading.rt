@@ -304,7 +304,8 @@ fn returns_constant(
     items: &mut Stack,
 ) -> Result<bool, AllocError>
     ensures { Acts result items.new (goes_on
-        (piece (record (leaf (constant_tree constant) at) { returns = true }) ∷ stack_view items.old.items)) }
+        (piece (record (leaf (constant_tree constant) at) { returns = true })
+        ∷ stack_view items.old.items)) }
 {
     let tree = constant_tree(alloc, constant)?;
     put(Item::Piece(returned(leaf(tree, at))), items)
@@ -320,7 +321,8 @@ fn plain_act(
 ) -> Result<bool, AllocError>
     requires { IsPlain step }
     ensures { IfOk result (λ ok. (depth next : ℕ) (rest : List StepView) →
-        acted_if ok items.new.items ≡ act_by reading.entry depth step at next rest (stack_view items.old.items)) }
+        acted_if ok items.new.items
+        ≡ act_by reading.entry depth step at next rest (stack_view items.old.items)) }
 {
     match step {
         Step::Push(place) => pushes(alloc, reading, place, at, items),
@@ -361,7 +363,8 @@ pub fn acts_plainly(
 ) -> Result<Option<usize>, AllocError>
     requires { IsPlain step }
     ensures { IfOk result (λ skip. (depth next : ℕ) (rest : List StepView) →
-        acted_by skip items.new.items ≡ act_by reading.entry depth step at next rest (stack_view items.old.items)) }
+        acted_by skip items.new.items
+        ≡ act_by reading.entry depth step at next rest (stack_view items.old.items)) }
 {
     let acted = plain_act(alloc, reading, step, at, items)?;
     if acted { Ok(Some(0)) } else { Ok(None) }
@@ -375,7 +378,8 @@ fn other_arguments(
     items: &mut Stack,
 ) -> Result<NameList, AllocError>
     ensures { IfOk result (λ ns.
-        names_view ns.items ≡ names_view first.items ++ arguments_by reading.entry (stack_view items.old.items)) }
+        names_view ns.items
+        ≡ names_view first.items ++ arguments_by reading.entry (stack_view items.old.items)) }
 {
     let mut names = first;
     while let Some(place) = pop_argument(items)? {

@@ -3,16 +3,16 @@ use Rattle.std.proofs.Common.{◌≡◌, ℕ, zero, suc, ◌+◌, ◌<◌, ◌�
 use Rattle.std.specs.Prelude.{if◌then◌else◌}
 use Rattle.st_scan.specs.declared.chain.Link.{Link}
 use Rattle.st_scan.specs.declared.chain.Link.TheVariants.{Assign, Send}
-use Rattle.st_scan.specs.Views.{NameView, ExpressionView, StatementsView, MessagesView, ExpressionsView, no_messages, message, no_expressions, expression, block, is_super}
+use Rattle.st_scan.specs.Views.{ExpressionView, StatementsView, MessagesView, ExpressionsView, no_messages, message, no_expressions, expression, block, is_super}
 use Rattle.st_scan.specs.Views as views
-use Rattle.st_scan.specs.Chains.{LinkView, assigned, sent, with_link, linked, link_view, links_view, link_size, links_size}
+use Rattle.st_scan.specs.Chains.{LinkView, assigned, sent, with_link, linked, link_view, links_view}
 use Rattle.st_emit.specs.declared.form.Form.{Form}
 use Rattle.st_emit.specs.declared.form.Form.TheVariants.{Message as Plain, One, Two, Repeated}
 use Rattle.st_emit.specs.declared.form.TwoSided.{TwoSided}
 use Rattle.st_emit.specs.declared.form.TwoSided.TheVariants.{TrueFirst, FalseFirst}
 use Rattle.st_emit.specs.declared.level.Level.{Level}
 use Rattle.st_emit.specs.Literals.{LiteralView, Naming, Named}
-use Rattle.st_emit.specs.Nodes.{Node, Body, Tail, with_tail}
+use Rattle.st_emit.specs.Nodes.{Node, Tail, with_tail}
 use Rattle.st_emit.specs.Nodes as nodes
 use Rattle.st_emit.specs.Emitting.{for_value, code_of}
 use Rattle.st_emit.specs.Depths.{level_of}
@@ -211,13 +211,10 @@ loop_same e a selector r c ls loop =
 -- what a loop adds, as an expression with its first link
 pub repetition_same : (e : ExpressionView) (l : LinkView) (r : RepetitionView) (c : Context) (ls : List LiteralView) → repetition_of e l ≡ Some r
     → IsSamePart (loop_part c r ls) (value_part c (with_link l e) ls) × (names_in (with_link l e) ≡ names_in_repetition r)
-repetition_same e (assigned target) r c ls h = absurd cc
-repetition_same e (sent views.no_messages) r c ls h = absurd cc
-repetition_same e (sent (views.message selector views.no_expressions views.no_messages)) r c ls h = absurd cc
+repetition_same e (sent (views.message selector es (views.message other fs ms))) r c ls h = absurd cc
 repetition_same e (sent (views.message selector (views.expression a views.no_expressions) views.no_messages)) r c ls h =
     loop_same e a selector r c ls (loop_parts (is_plain e) (is_plain a) e a selector r refl refl h)
-repetition_same e (sent (views.message selector (views.expression a (views.expression b es)) views.no_messages)) r c ls h = absurd cc
-repetition_same e (sent (views.message selector es (views.message other fs ms))) r c ls h = absurd cc
+repetition_same e l r c ls h = absurd cc
 
 -- THE SHAPE OF A MESSAGE
 
@@ -342,12 +339,6 @@ no_loop_at zero e [] d h k = absurd (omega arith)
 no_loop_at zero e (l ∷ ls) d h k = k refl
 no_loop_at (suc i) e [] d h k = absurd (omega arith)
 no_loop_at (suc i) e (l ∷ ls) d h k = no_loop (linked (with_link (link_view l) e) (links_view (take i ls))) (link_view (get_or ls i d)) (later_plain l e (take i ls))
-
--- the links of a chain are no deeper than the deepest
-pub link_within : (ls : List Link) (i : ℕ) (d : Link) → i < length ls → link_size (get_or ls i d) ≤ links_size ls
-link_within [] i d h = absurd (omega arith)
-link_within (l ∷ ls) zero d h = omega arith
-link_within (l ∷ ls) (suc i) d h = let r = link_within ls i d (omega arith) in omega (arith, r)
 
 -- an expression that begins with a loop
 pub begins_loop : (e : ExpressionView) (links : List Link) (r : RepetitionView) (c : Context) (ls : List LiteralView) → first_repetition e (links_view links) ≡ Some r

@@ -17,3 +17,4 @@ pub mod Members
 pub mod Sizes
 pub mod SpecialSelectors
 mod InstructionRows
+pub mod Worked

@@ -41,31 +41,12 @@ key_is owner u e = absurd (true≢false (ap is_some e))
 
 -- nothing shares a place with a literal that has no key
 keyless : (l v : LiteralView) → shared v ≡ None → shares l v ≡ false
+keyless (number m) (number n) h = absurd (true≢false (ap is_some h))
 keyless l (number n) h = absurd (true≢false (ap is_some h))
 keyless l (character b) h = absurd (true≢false (ap is_some h))
 keyless l (symbol t) h = absurd (true≢false (ap is_some h))
 keyless l (named p) h = absurd (true≢false (ap is_some h))
-keyless (number n) (bytes t) h = refl
-keyless (character n) (bytes t) h = refl
-keyless (bytes n) (bytes t) h = refl
-keyless (symbol n) (bytes t) h = refl
-keyless (array n) (bytes t) h = refl
-keyless (named n) (bytes t) h = refl
-keyless owner (bytes t) h = refl
-keyless (number n) (array ms) h = refl
-keyless (character n) (array ms) h = refl
-keyless (bytes n) (array ms) h = refl
-keyless (symbol n) (array ms) h = refl
-keyless (array n) (array ms) h = refl
-keyless (named n) (array ms) h = refl
-keyless owner (array ms) h = refl
-keyless (number n) owner h = refl
-keyless (character n) owner h = refl
-keyless (bytes n) owner h = refl
-keyless (symbol n) owner h = refl
-keyless (array n) owner h = refl
-keyless (named n) owner h = refl
-keyless owner owner h = refl
+keyless l v h = refl
 
 pub no_literal_place : (ls : List LiteralView) (v : LiteralView) → shared v ≡ None → None ≡ literal_place ls v
 no_literal_place ls v none = no_place (shares v) (λ m. by m (shares v m) refl) ls

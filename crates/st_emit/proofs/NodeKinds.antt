@@ -2,7 +2,7 @@
 use Rattle.std.proofs.Common.{◌≡◌, ℕ, Bool, true, false, not, ◌&&◌, List, [], ◌∷◌, ◌++◌, Option, Some, None, refl}
 use Rattle.std.specs.Prelude.{if◌then◌else◌}
 use Rattle.st_scan.specs.declared.token.Signed.{Signed}
-use Rattle.st_scan.specs.Views.{NameView, ContentView, ExpressionView, StatementsView, MessagesView, ExpressionsView, is_super}
+use Rattle.st_scan.specs.Views.{ContentView, ExpressionView, is_super}
 use Rattle.st_scan.specs.Views as views
 use Rattle.st_scan.specs.Chains.{LinkView, assigned, sent}
 use Rattle.st_emit.specs.declared.step.Constant.{Constant}
@@ -14,7 +14,7 @@ use Rattle.st_emit.specs.declared.form.Form.TheVariants.{Message as Plain, One, 
 use Rattle.st_emit.specs.declared.level.Level.{Level}
 use Rattle.st_emit.specs.Names.{constant_named}
 use Rattle.st_emit.specs.Literals.{LiteralView, small_number, Naming, Named}
-use Rattle.st_emit.specs.Nodes.{Node, Body, Tail, with_tail}
+use Rattle.st_emit.specs.Nodes.{Node, Tail, with_tail}
 use Rattle.st_emit.specs.Nodes as nodes
 use Rattle.st_emit.specs.Resolving.{Context as Surroundings, behind, names_in, place_of_name, constant_or, small_or, content_node, Message, plain_tail, form_named, formed, single_tail, sends_tail, messages_of, is_plain, expression_node}
 use Rattle.st_emit.specs.Emitting.{for_value, for_effect, code_of, return_code}
@@ -131,23 +131,11 @@ small_no_constant (Some k) n ls = tt
 
 content_other : (w : ContentView) (ls : List LiteralView) → IsOther (content_node w ls).part
 content_other (views.number n) ls = small_other (small_number n) n ls
-content_other (views.character b) ls = tt
-content_other (views.bytes t) ls = tt
-content_other (views.symbol t) ls = tt
-content_other (views.array es) ls = tt
-content_other views.nil_object ls = tt
-content_other views.false_object ls = tt
-content_other views.true_object ls = tt
+content_other w ls = tt
 
 content_no_constant : (w : ContentView) (ls : List LiteralView) → IsNoConstant (content_node w ls).part
 content_no_constant (views.number n) ls = small_no_constant (small_number n) n ls
-content_no_constant (views.character b) ls = tt
-content_no_constant (views.bytes t) ls = tt
-content_no_constant (views.symbol t) ls = tt
-content_no_constant (views.array es) ls = tt
-content_no_constant views.nil_object ls = tt
-content_no_constant views.false_object ls = tt
-content_no_constant views.true_object ls = tt
+content_no_constant w ls = tt
 
 -- only an assignment is one
 node_other : (e : ExpressionView) (c : Surroundings) (ls : List LiteralView) → IsNoAssignment e → IsOther (expression_node e c ls).part
@@ -165,16 +153,8 @@ node_other (views.send r ms) c ls h =
 
 -- an effect of what is no assignment is its value, popped
 other_code : (n : Node) → IsOther n → code_of for_effect n ≡ code_of for_value n ++ Pop ∷ []
-other_code (nodes.constant k) h = refl
-other_code (nodes.small k) h = refl
-other_code (nodes.literal x p) h = refl
-other_code (nodes.variable p) h = refl
 other_code (nodes.assign p n) h = absurd h
-other_code (nodes.block f a x b) h = refl
-other_code (nodes.send above r ms) h = refl
-other_code (nodes.one_sided side x a) h = refl
-other_code (nodes.two_sided side x a b) h = refl
-other_code (nodes.loop kind x a) h = refl
+other_code n h = refl
 
 other_level : (n : Node) (v : Level) → IsOther n → level_of for_effect n v ≡ popped 1 (level_of for_value n v)
 other_level (nodes.constant k) v h = refl
@@ -204,15 +184,7 @@ pub record IsReturned (n : Node) : Type 0 where
 
 no_constant_returned : (n : Node) → IsNoConstant n → IsReturned n
 no_constant_returned (nodes.constant k) h = absurd h
-no_constant_returned (nodes.small k) h = record { code = refl; level = λ l. refl }
-no_constant_returned (nodes.literal x p) h = record { code = refl; level = λ l. refl }
-no_constant_returned (nodes.variable p) h = record { code = refl; level = λ l. refl }
-no_constant_returned (nodes.assign p n) h = record { code = refl; level = λ l. refl }
-no_constant_returned (nodes.block f a x b) h = record { code = refl; level = λ l. refl }
-no_constant_returned (nodes.send above r ms) h = record { code = refl; level = λ l. refl }
-no_constant_returned (nodes.one_sided side x a) h = record { code = refl; level = λ l. refl }
-no_constant_returned (nodes.two_sided side x a b) h = record { code = refl; level = λ l. refl }
-no_constant_returned (nodes.loop kind x a) h = record { code = refl; level = λ l. refl }
+no_constant_returned n h = record { code = refl; level = λ l. refl }
 
 pub value_returned : (e : ExpressionView) (c : Surroundings) (ls : List LiteralView) → returned_constant e ≡ None → IsReturned (expression_node e c ls).part
 value_returned (views.variable n) c ls h = by_name (constant_named n.text) h

@@ -90,7 +90,8 @@ fn to_receiver(
     least: usize,
     height: usize,
 ) -> Result<Piece, AllocError>
-    ensures { IfOk result (λ p. piece_view p ≡ to_receiver (is_above lookup) least height (piece_view receiver)) }
+    ensures { IfOk result
+        (λ p. piece_view p ≡ to_receiver (is_above lookup) least height (piece_view receiver)) }
 {
     let tree = received(alloc, lookup, receiver.tree)?;
     Ok(Piece {

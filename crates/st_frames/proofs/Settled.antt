@@ -18,26 +18,24 @@ use Rattle.st_model.proofs.Reclaiming.{table_finite}
 
 -- what a memory holds for devices is what they name, or nil
 
+names_with : (d : Devices) (ps qs : List Value) (n : ℕ) → (AnyRefTo n ps → AnyRefTo n qs ⊎ IsRefTo n nil)
+    → AnyRefTo n (device_roots (record d { pending = ps })) → AnyRefTo n (device_roots (record d { pending = qs })) ⊎ IsRefTo n nil
+names_with d ps qs n f (inl h) = inl (inl h)
+names_with d ps qs n f (inr (inl h)) = inl (inr (inl h))
+names_with d ps qs n f (inr (inr (inl h))) = inl (inr (inr (inl h)))
+names_with d ps qs n f (inr (inr (inr (inl h)))) = inl (inr (inr (inr (inl h))))
+names_with d ps qs n f (inr (inr (inr (inr (inl h))))) = inl (inr (inr (inr (inr (inl h)))))
+names_with d ps qs n f (inr (inr (inr (inr (inr (inl h)))))) = inl (inr (inr (inr (inr (inr (inl h))))))
+names_with d ps qs n f (inr (inr (inr (inr (inr (inr h)))))) = elim (f h) [ inl x ↦ inl (inr (inr (inr (inr (inr (inr x)))))) | inr x ↦ inr x ]
+
 filled_names : (d : Devices) (n : ℕ) → AnyRefTo n (device_roots (filled d)) → AnyRefTo n (device_roots d) ⊎ IsRefTo n nil
-filled_names d n (inl h) = inl (inl h)
-filled_names d n (inr (inl h)) = inl (inr (inl h))
-filled_names d n (inr (inr (inl h))) = inl (inr (inr (inl h)))
-filled_names d n (inr (inr (inr (inl h)))) = inl (inr (inr (inr (inl h))))
-filled_names d n (inr (inr (inr (inr (inl h))))) = inl (inr (inr (inr (inr (inl h)))))
-filled_names d n (inr (inr (inr (inr (inr (inl h)))))) = inl (inr (inr (inr (inr (inr (inl h))))))
-filled_names d n (inr (inr (inr (inr (inr (inr h)))))) = elim (any_either n d.pending (replicate (4096 - length d.pending) nil) h) [
-  | inl x ↦ inl (inr (inr (inr (inr (inr (inr x))))))
+filled_names d n = names_with d (d.pending ++ replicate (4096 - length d.pending) nil) d.pending n (λ h. elim (any_either n d.pending (replicate (4096 - length d.pending) nil) h) [
+  | inl x ↦ inl x
   | inr x ↦ inr (any_replicate n (4096 - length d.pending) nil x)
-]
+])
 
 names_filled : (d : Devices) (n : ℕ) → AnyRefTo n (device_roots d) → AnyRefTo n (device_roots (filled d)) ⊎ IsRefTo n nil
-names_filled d n (inl h) = inl (inl h)
-names_filled d n (inr (inl h)) = inl (inr (inl h))
-names_filled d n (inr (inr (inl h))) = inl (inr (inr (inl h)))
-names_filled d n (inr (inr (inr (inl h)))) = inl (inr (inr (inr (inl h))))
-names_filled d n (inr (inr (inr (inr (inl h))))) = inl (inr (inr (inr (inr (inl h)))))
-names_filled d n (inr (inr (inr (inr (inr (inl h)))))) = inl (inr (inr (inr (inr (inr (inl h))))))
-names_filled d n (inr (inr (inr (inr (inr (inr h)))))) = inl (inr (inr (inr (inr (inr (inr (any_left n d.pending (replicate (4096 - length d.pending) nil) h)))))))
+names_filled d n = names_with d d.pending (d.pending ++ replicate (4096 - length d.pending) nil) n (λ h. inl (any_left n d.pending (replicate (4096 - length d.pending) nil) h))
 
 abbrev roots_with : Value → Value → Value → Value → Head → Devices → List Value
 roots_with a h m r head d = a ∷ h ∷ m ∷ r ∷ (head_roots head ++ device_roots d)

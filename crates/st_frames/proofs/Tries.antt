@@ -47,6 +47,12 @@ module _ {A : Type 0} (m : ObjectMemory Table) (n : ℕ) (c : Step Table A) (f :
   unfolding succeed_by primitive succeed tried succeed_with ◌>>=◌ ◌>>◌ after answer
   primitive-done x e k = rw e k
 
+-- its effect dies
+pub primitive-died : {A : Type 0} (m : ObjectMemory Table) (n : ℕ) (c : Step Table A) (f : A → Step Table Value) (s : State Table) (a : A) (k : Dead) → c.run s ≡ Went a s → (f a).run s ≡ Died k
+    → (primitive m n c f).run s ≡ Died k
+unfolding primitive succeed tried ◌>>=◌ ◌>>◌ after
+primitive-died m n c f s a k e h = rw (e, h) refl
+
 -- its conditions give the answer
 pub primitive-given : (m : ObjectMemory Table) (n : ℕ) (c : Step Table Value) (s : State Table) (v : Value) (x : Transition (State Table) Bool) → c.run s ≡ Went v s → (succeed_with m n v).run s ≡ x
     → (primitive m n c answer).run s ≡ x
@@ -65,7 +71,7 @@ pub primitive-same : {A : Type 0} (m : ObjectMemory Table) (n : ℕ) (c : Step T
 unfolding primitive succeed tried succeed_with ◌>>=◌ ◌>>◌ after answer
 primitive-same m n c s a v x e h = rw e h
 
-pub ruleset tries = (rows, primitive-given, primitive-small, primitive-failed, primitive-held)
+pub ruleset tries = (rows, primitive-given, primitive-small, primitive-failed, primitive-died, primitive-held)
 
 pub ruleset effects = (rows, primitive-failed)
 

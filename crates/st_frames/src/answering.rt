@@ -1,7 +1,5 @@
 ghost use Rattle.std.specs.Prelude.{◌≡◌, ◌<◌, ◌≤◌, ◌+◌, ◌-◌, true, false, IfOk};
-ghost use Rattle.st_model.specs.Values.{word};
-ghost use Rattle.st_model.specs.Primitives.{pop_words, answer_with};
-ghost use Rattle.st_model.specs.Calls.{itself};
+ghost use Rattle.st_model.specs.{Values.word, Primitives.{pop_words, answer_with}, Calls.itself};
 ghost use Rattle.st_model.specs.Deeds.{copies_pixels, is_done, deed_of_trial};
 ghost use Rattle.st_frames.specs.Answering.{RowFollows, succeed_with};
 ghost use Rattle.st_frames.specs.Rows.{RowMoves, RowDoes, RowLeaves, Takes};

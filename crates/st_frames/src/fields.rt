@@ -1,9 +1,6 @@
 ghost use Rattle.std.specs.Prelude.{◌≡◌, ◌≤◌, IfOk, OnErr};
-ghost use Rattle.st_model.specs.Values.{value};
-ghost use Rattle.st_model.specs.View.{IsKnown};
-ghost use Rattle.st_model.specs.Table.{table};
-ghost use Rattle.st_model.specs.Steps.{fetch_field, store_field, count_fields};
-ghost use Rattle.st_model.specs.Calls.{Reads, itself};
+ghost use Rattle.st_model.specs.{Values.value, View.IsKnown, Table.table};
+ghost use Rattle.st_model.specs.{Steps.{fetch_field, store_field, count_fields}, Calls.{Reads, itself}};
 ghost use Rattle.st_frames.specs.Shown.{FrameDoes};
 
 use crate::frame::Frame;

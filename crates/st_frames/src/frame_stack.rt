@@ -1,10 +1,6 @@
 ghost use Rattle.std.specs.Prelude.{◌≡◌, ◌≤◌, IfOk, OnOk, OnErr};
-ghost use Rattle.st_model.specs.Values.{value};
-ghost use Rattle.st_model.specs.View.{IsKnown};
-ghost use Rattle.st_model.specs.Table.{table};
-ghost use Rattle.st_model.specs.Steps.{put, push, pop, top, under};
-ghost use Rattle.st_model.specs.Contexts.{store_context_registers};
-ghost use Rattle.st_model.specs.Calls.{itself};
+ghost use Rattle.st_model.specs.{Values.value, View.IsKnown, Table.table, Steps.{put, push, pop, top, under}};
+ghost use Rattle.st_model.specs.{Contexts.store_context_registers, Calls.itself};
 ghost use Rattle.st_frames.specs.Shown.{IsFrame, StaysFrame, FrameDoes, FrameReads};
 
 use crate::fields::{count_fields, fetch_field, store_field};

@@ -1,10 +1,7 @@
 ghost use Rattle.std.specs.Prelude.{◌≡◌, ◌<◌, ◌≤◌, ◌+◌, ◌^◌, IfOk};
-ghost use Rattle.st_model.specs.declared.kind.Kind.TheVariants.{Bytes};
-ghost use Rattle.st_model.specs.Values.{word};
-ghost use Rattle.st_model.specs.Calls.{itself};
+ghost use Rattle.st_model.specs.{declared.kind.Kind.TheVariants.Bytes, Values.word, Calls.itself};
 ghost use Rattle.st_model.specs.Primitives.{check_class, check_bytes, bits_or_die, positive_small, large_value, positive_value};
-ghost use Rattle.st_frames.specs.Answering.{IsOfKind, number_read};
-ghost use Rattle.st_frames.specs.Rows.{RowReads};
+ghost use Rattle.st_frames.specs.{Answering.{IsOfKind, number_read}, Rows.RowReads};
 
 use crate::fetching::page;
 use crate::registers::Registers;

@@ -1,6 +1,5 @@
 ghost use Rattle.std.specs.Prelude.{◌≡◌, ◌≤◌, ◌≤ℤ◌, ◌+ℤ◌, pos, negsuc, true, Ok, Err, IfOk, IfErr, IfSome};
-ghost use Rattle.st_model.specs.Values.{word};
-ghost use Rattle.st_model.specs.Machine.{is_there};
+ghost use Rattle.st_model.specs.{Values.word, Machine.is_there};
 ghost use Rattle.st_model.specs.Steps.{are_there, fetch_field, fetch_integer, count_fields};
 ghost use Rattle.st_model.specs.Contexts.{home_of, stack_place, fetch_stack_pointer, context_registers, fetch_context_registers};
 ghost use Rattle.st_model.specs.Calls.{Reads, itself};

@@ -1,8 +1,6 @@
 ghost use Rattle.std.specs.Prelude.{◌≡◌, ◌<◌, ◌≤◌, ◌==◌, ◌&&◌, not, map, length, slice_get, IfOk};
 ghost use Rattle.std.specs.Option.{option_map};
-ghost use Rattle.st_model.specs.Values.{value};
-ghost use Rattle.st_model.specs.Objects.{nil};
-ghost use Rattle.st_model.specs.Machine.{empty_world};
+ghost use Rattle.st_model.specs.{Values.value, Objects.nil, Machine.empty_world};
 ghost use Rattle.st_model.specs.Events.{is_held, has_signal_room};
 ghost use Rattle.st_model.specs.Surroundings.{held_by, newest_of, changed_world, Hold, AddSignal, TakeSignal, SetDue, SetLow, MoveMouse, AddWord, TakeWord, SetSecondClock, SetMillisecondClock};
 

@@ -10,12 +10,12 @@ use Rattle.st_grammar.specs.Leaves.{among, openings, closings}
 use Rattle.st_grammar.specs.Phrases.{One, names, one_text, Parameter, plain_block, full_block, empty_block, Expression, Statements, no_statements, last, next, returned, returned_ended, parameters_text, block_text, expression_text, statements_text}
 use Rattle.st_grammar.specs.Trees.{name_at, parameters_tree, block_tree, expression_tree, statements_tree}
 use Rattle.st_grammar.specs.Reading.{Read, ◌>>=◌, first, token_at, primary_starts, statement_starts, array_at, expression_at, statements_at, parameters_step, parameters_at, argument_body_at, argument_block_at, plain_block_at, block_at, bracket_at, block_primary_at, group_primary_at}
-use Rattle.st_grammar.proofs.KindSets.{apart, within, neutral, sample, one_name}
+use Rattle.st_grammar.proofs.KindSets.{apart, within, neutral, one_of, one_name}
 use Rattle.st_grammar.proofs.Balanced.{parameters_balanced, block_balanced, expression_balanced}
 use Rattle.st_grammar.proofs.Readers.{Reads, nothing, first_nothing, is_nil, mapped, renamed, token_reads, both, either, anyway, pure, text_both, goes_both, text_either, tree_either, goes_either}
-use Rattle.st_grammar.proofs.Repeats.{IsRepeat, IsMore, repeated}
+use Rattle.st_grammar.proofs.Repeats.{IsRepeat, repeated}
 use Rattle.st_grammar.proofs.Bracketed.{bracket_zero_zero, bracket_zero_suc, bracket_suc_suc}
-use Rattle.st_grammar.proofs.Lists.{and_false, or_false}
+use Rattle.st_grammar.proofs.Lists.{lists_repeat, or_false}
 use Rattle.st_grammar.proofs.Expressions.{Inner, FitBlock, FitExpression, BlockBracket, GroupBracket, block_bracket_text, group_bracket_text}
 use Rattle.st_grammar.proofs.Assignments.{expression_goes, expression_reads, expression_not, foreign, IsForeign}
 use Rattle.st_grammar.proofs.Bodies.{FitStatements, statements_goes, statements_last, stays, statements_reads, one_expression, expression_begins, into_statements}
@@ -31,10 +31,7 @@ abbrev parameter_text : Parameter → List Leaf
 parameter_text p = p.colon.leaf ∷ p.name.leaf ∷ []
 
 abbrev one_parameter : Parameter
-one_parameter = record { colon = record { leaf = sample Colon; fits = refl }; name = one_name }
-
-abbrev one_bar : One bar
-one_bar = record { leaf = sample Bar; fits = refl }
+one_parameter = record { colon = one_of Colon; name = one_name }
 
 abbrev returning : List Kind
 returning = Return ∷ []
@@ -51,23 +48,20 @@ record IsOutside (x : Leaf) : Type 0 where
   colon : among colon x ≡ false
   bar : among bar x ≡ false
 
-closes_outside : (x : Leaf) → among (Close ∷ []) x ≡ true → IsOutside x
-closes_outside x e = record {
-  alien = foreign (Close ∷ []) refl refl refl refl refl refl x e;
-  start = apart (Close ∷ []) statement_starts refl x e;
-  period = apart (Close ∷ []) (Period ∷ []) refl x e;
-  colon = apart (Close ∷ []) colon refl x e;
-  bar = apart (Close ∷ []) bar refl x e;
+outside : (x : Leaf) → among closings x ≡ true → IsOutside x
+outside x e = record {
+  alien = foreign closings refl refl refl refl refl refl x e;
+  start = apart closings statement_starts refl x e;
+  period = apart closings (Period ∷ []) refl x e;
+  colon = apart closings colon refl x e;
+  bar = apart closings bar refl x e;
 }
 
+closes_outside : (x : Leaf) → among (Close ∷ []) x ≡ true → IsOutside x
+closes_outside x e = outside x (within (Close ∷ []) closings refl x e)
+
 closes_block_outside : (x : Leaf) → among (CloseBlock ∷ []) x ≡ true → IsOutside x
-closes_block_outside x e = record {
-  alien = foreign (CloseBlock ∷ []) refl refl refl refl refl refl x e;
-  start = apart (CloseBlock ∷ []) statement_starts refl x e;
-  period = apart (CloseBlock ∷ []) (Period ∷ []) refl x e;
-  colon = apart (CloseBlock ∷ []) colon refl x e;
-  bar = apart (CloseBlock ∷ []) bar refl x e;
-}
+closes_block_outside x e = outside x (within (CloseBlock ∷ []) closings refl x e)
 
 module _ (text : List ℕ) where
   last_not : (ss : Statements) (x : Leaf) → IsOutside x → statements_last text ss x ≡ false
@@ -84,32 +78,9 @@ module _ (text : List ℕ) where
   with_parameter p ns = ns ++ name_at text p.name.leaf ∷ []
 
   parameters_repeat : IsRepeat (λ (ns : List NameView). among colon) parameter_text with_parameter (λ p. nothing) (λ ns ps. Unit {0}) parameters_text (λ ps ns. ns ++ parameters_tree text ps) (λ ps. nothing)
-  parameters_repeat = record {
-    some = λ p. omega arith;
-    nil = [];
-    nil_valid = λ a. tt;
-    nil_text = refl;
-    nil_is = λ a. append-nil a;
-    nil_last = λ x. refl;
-    cons = λ p ps. p ∷ ps;
-    cons_more = λ a p ps x e v. (tt, refl, sym (append_assoc a (name_at text p.name.leaf ∷ []) (parameters_tree text ps)));
-    cons_last = λ a p ps x v. sym (and_false (is_nil (parameters_text ps)));
-    uncons = uncons;
-  }
-    where
-      uncons : (ns : List NameView) (ps : List Parameter) → Unit {0} → ((parameters_text ps ≡ []) × (ns ++ parameters_tree text ps ≡ ns))
-          ⊎ IsMore (λ (ns : List NameView). among colon) parameter_text with_parameter (λ p. nothing) (λ ns ps. Unit {0}) parameters_text (λ ps ns. ns ++ parameters_tree text ps) (λ ps. nothing) ns ps
-      uncons ns [] v = inl (refl, append-nil ns)
-      uncons ns (p ∷ ps) v = inr (record {
-        p = p;
-        rest = ps;
-        valid = tt;
-        parts = refl;
-        is = sym (append_assoc ns (name_at text p.name.leaf ∷ []) (parameters_tree text ps));
-        last_is = λ x. sym (and_false (is_nil (parameters_text ps)));
-        starts = λ k. p.colon.fits;
-        ends = λ x e. refl;
-      })
+  parameters_repeat =
+      lists_repeat (among colon) parameter_text with_parameter parameters_text (λ ps ns. ns ++ parameters_tree text ps) (λ p. omega arith) refl (λ p l. refl) (λ p k. p.colon.fits)
+      append-nil (λ p ps ns. sym (append_assoc ns (name_at text p.name.leaf ∷ []) (parameters_tree text ps)))
 
   -- BLOCKS
 
@@ -242,7 +213,7 @@ module _ (text : List ℕ) where
     unfolding argument_body_at
     body_reads ns =
         either (among bar)
-        (anyway (among bar) (both (token_reads bar one_bar (neutral bar refl) n m I.fewer) (λ (ss : FitStatements text). statements_text ss.0) (λ ss o. views.block ns (statements_tree text ss.0)) (λ ss. statements_goes text ss.0) nothing
+        (anyway (among bar) (both (token_reads bar (one_of Bar) (neutral bar refl) n m I.fewer) (λ (ss : FitStatements text). statements_text ss.0) (λ ss o. views.block ns (statements_tree text ss.0)) (λ ss. statements_goes text ss.0) nothing
         (λ o ts. statements_at text (array_at text n) (bracket_at text n) ts >>= λ ss. Ok (views.block ns ss.0, ss.1)) (λ o ts. statements_at text (array_at text m) (bracket_at text m) ts >>= λ ss. Ok (views.block ns ss.0, ss.1))
         (λ o. mapped (λ ss. views.block ns ss) (statements_reads text n m I)) (no_statements, tt) (among bar) (λ p q l e. first_nothing (statements_text q.0 ++ l)) (λ x ts e. inl e) (λ p x e. inl (omega arith))))
         (pure (views.block ns views.no_statements) nothing n m I.fewer) nothing (λ x e. e) (λ p l. p.0.fits) (λ q x us e. absurd cc) (λ x e f. absurd cc)
@@ -281,18 +252,6 @@ module _ (text : List ℕ) where
   expression_ends : (e : FitExpression text) (x : Leaf) → among (Close ∷ []) x ≡ true → expression_goes text e.0 x ≡ false
   expression_ends e x c = expression_not text e.0 x (closes_outside x c).alien
 
-  abbrev open_block : One (OpenBlock ∷ [])
-  open_block = record { leaf = sample OpenBlock; fits = refl }
-
-  abbrev end_block : One (CloseBlock ∷ [])
-  end_block = record { leaf = sample CloseBlock; fits = refl }
-
-  abbrev open_group : One (Open ∷ [])
-  open_group = record { leaf = sample Open; fits = refl }
-
-  abbrev end_group : One (Close ∷ [])
-  end_group = record { leaf = sample Close; fits = refl }
-
   abbrev BlockPrimaryReads : ℕ → ℕ → Type 0
   BlockPrimaryReads n m = Reads {P = BlockBracket text} (block_bracket_text text) (λ b. block_tree text b.1.0) (λ b. nothing) (among (OpenBlock ∷ [])) n m (block_primary_at text (array_at text n) (bracket_at text n)) (block_primary_at text (array_at text m) (bracket_at text m))
 
@@ -308,37 +267,37 @@ module _ (text : List ℕ) where
   blocks_zero_zero : BlockPrimaryReads zero zero
   unfolding block_primary_at bracket_at
   blocks_zero_zero =
-      bracket_zero_zero (OpenBlock ∷ []) (CloseBlock ∷ []) open_block one_block end_block (within (OpenBlock ∷ []) openings refl) close_block (λ (b : FitBlock text). block_text b.0) (λ b. block_tree text b.0) block_goes (λ b. block_balanced b.0) block_ends
+      bracket_zero_zero (OpenBlock ∷ []) (CloseBlock ∷ []) (one_of OpenBlock) one_block (one_of CloseBlock) (within (OpenBlock ∷ []) openings refl) close_block (λ (b : FitBlock text). block_text b.0) (λ b. block_tree text b.0) block_goes (λ b. block_balanced b.0) block_ends
       block_body (λ k. bracket_at text k true) (λ ts. refl) (λ k ts. refl) (λ x e. e)
 
   blocks_zero_suc : (j k : ℕ) → Inner text j k → BlockPrimaryReads zero (suc k)
   unfolding block_primary_at bracket_at
   blocks_zero_suc j k I =
-      bracket_zero_suc (OpenBlock ∷ []) (CloseBlock ∷ []) open_block one_block end_block (within (OpenBlock ∷ []) openings refl) close_block (λ (b : FitBlock text). block_text b.0) (λ b. block_tree text b.0) block_goes (λ b. block_balanced b.0) block_ends
+      bracket_zero_suc (OpenBlock ∷ []) (CloseBlock ∷ []) (one_of OpenBlock) one_block (one_of CloseBlock) (within (OpenBlock ∷ []) openings refl) close_block (λ (b : FitBlock text). block_text b.0) (λ b. block_tree text b.0) block_goes (λ b. block_balanced b.0) block_ends
       block_body (λ k. bracket_at text k true) (λ ts. refl) (λ k ts. refl) (λ x e. e) j k (block_reads j k I)
 
   blocks_suc_suc : (j k : ℕ) → Inner text j k → BlockPrimaryReads (suc j) (suc k)
   unfolding block_primary_at bracket_at
   blocks_suc_suc j k I =
-      bracket_suc_suc (OpenBlock ∷ []) (CloseBlock ∷ []) open_block one_block end_block (within (OpenBlock ∷ []) openings refl) close_block (λ (b : FitBlock text). block_text b.0) (λ b. block_tree text b.0) block_goes (λ b. block_balanced b.0) block_ends
+      bracket_suc_suc (OpenBlock ∷ []) (CloseBlock ∷ []) (one_of OpenBlock) one_block (one_of CloseBlock) (within (OpenBlock ∷ []) openings refl) close_block (λ (b : FitBlock text). block_text b.0) (λ b. block_tree text b.0) block_goes (λ b. block_balanced b.0) block_ends
       block_body (λ k. bracket_at text k true) (λ ts. refl) (λ k ts. refl) (λ x e. e) j k (block_reads j k I)
 
   groups_zero_zero : GroupPrimaryReads zero zero
   unfolding group_primary_at bracket_at
   groups_zero_zero =
-      bracket_zero_zero (Open ∷ []) (Close ∷ []) open_group (one_expression text) end_group (within (Open ∷ []) openings refl) close (λ (e : FitExpression text). expression_text e.0) (λ e. expression_tree text e.0) (λ e. expression_goes text e.0) (λ e. expression_balanced e.0) expression_ends
+      bracket_zero_zero (Open ∷ []) (Close ∷ []) (one_of Open) (one_expression text) (one_of Close) (within (Open ∷ []) openings refl) close (λ (e : FitExpression text). expression_text e.0) (λ e. expression_tree text e.0) (λ e. expression_goes text e.0) (λ e. expression_balanced e.0) expression_ends
       group_body (λ k. bracket_at text k false) (λ ts. refl) (λ k ts. refl) (λ x e. e)
 
   groups_zero_suc : (j k : ℕ) → Inner text j k → GroupPrimaryReads zero (suc k)
   unfolding group_primary_at bracket_at
   groups_zero_suc j k I =
-      bracket_zero_suc (Open ∷ []) (Close ∷ []) open_group (one_expression text) end_group (within (Open ∷ []) openings refl) close (λ (e : FitExpression text). expression_text e.0) (λ e. expression_tree text e.0) (λ e. expression_goes text e.0) (λ e. expression_balanced e.0) expression_ends
+      bracket_zero_suc (Open ∷ []) (Close ∷ []) (one_of Open) (one_expression text) (one_of Close) (within (Open ∷ []) openings refl) close (λ (e : FitExpression text). expression_text e.0) (λ e. expression_tree text e.0) (λ e. expression_goes text e.0) (λ e. expression_balanced e.0) expression_ends
       group_body (λ k. bracket_at text k false) (λ ts. refl) (λ k ts. refl) (λ x e. e) j k (expression_reads text j k I)
 
   groups_suc_suc : (j k : ℕ) → Inner text j k → GroupPrimaryReads (suc j) (suc k)
   unfolding group_primary_at bracket_at
   groups_suc_suc j k I =
-      bracket_suc_suc (Open ∷ []) (Close ∷ []) open_group (one_expression text) end_group (within (Open ∷ []) openings refl) close (λ (e : FitExpression text). expression_text e.0) (λ e. expression_tree text e.0) (λ e. expression_goes text e.0) (λ e. expression_balanced e.0) expression_ends
+      bracket_suc_suc (Open ∷ []) (Close ∷ []) (one_of Open) (one_expression text) (one_of Close) (within (Open ∷ []) openings refl) close (λ (e : FitExpression text). expression_text e.0) (λ e. expression_tree text e.0) (λ e. expression_goes text e.0) (λ e. expression_balanced e.0) expression_ends
       group_body (λ k. bracket_at text k false) (λ ts. refl) (λ k ts. refl) (λ x e. e) j k (expression_reads text j k I)
 
   -- with any number of brackets to open

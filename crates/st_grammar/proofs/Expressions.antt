@@ -5,12 +5,12 @@ use Rattle.st_scan.specs.Views.{is_super, NameView, ElementView, ExpressionView}
 use Rattle.st_scan.specs.Views as views
 use Rattle.st_grammar.specs.declared.leaf.Leaf.{Leaf}
 use Rattle.st_grammar.specs.declared.leaf.Kind.{Kind}
-use Rattle.st_grammar.specs.declared.leaf.Kind.TheVariants.{Opening, Open, Close, OpenBlock, CloseBlock}
+use Rattle.st_grammar.specs.declared.leaf.Kind.TheVariants.{Constant, Opening, Open, Close, OpenBlock, CloseBlock}
 use Rattle.st_grammar.specs.Leaves.{among, operators}
 use Rattle.st_grammar.specs.Phrases.{One, names, constants, one_text, ones_text, constant, array, Primary, name, literal, block, group, Block, Expression, Unary, unary, Binary, binary, Operations, no_operations, operation, primary_text, block_text, expression_text, unary_text, binary_text, operations_text}
 use Rattle.st_grammar.specs.Trees.{bytes, name_at, constant_at, sent, primary_tree, block_tree, expression_tree, after_names, unary_tree, binary_tree, after_operations, PrimaryFits, BlockFits, ExpressionFits, UnaryFits, BinaryFits, OperationsFit}
 use Rattle.st_grammar.specs.Reading.{◌>>=◌, first, token_at, primary_starts, name_primary_at, constant_primary_at, array_primary_at, array_at, block_primary_at, group_primary_at, primary_at, bracket_at, names_step, names_at, any_unary_at, unary_at, operations_step, operations_at, any_binary_at, binary_at}
-use Rattle.st_grammar.proofs.KindSets.{apart, covered, neutral, one_name, one_constant, one_operator}
+use Rattle.st_grammar.proofs.KindSets.{apart, covered, neutral, sample, one_name, one_operator}
 use Rattle.st_grammar.proofs.Balanced.{operations_balanced}
 use Rattle.st_grammar.proofs.Readers.{Reads, nothing, first_nothing, is_nil, mapped, renamed, token_reads, both, either, anyway, tested, text_both, goes_both, text_either, tree_either, goes_either}
 use Rattle.st_grammar.proofs.Repeats.{IsRepeat, IsMore, repeated}
@@ -325,7 +325,7 @@ module _ (text : List ℕ) where
 
     literal_reads : Reads (one_text {kinds = constants}) (λ o. views.literal (constant_at text o.leaf)) (λ o. nothing) (among constants) n m (constant_primary_at text (array_at text n) (bracket_at text n)) (constant_primary_at text (array_at text m) (bracket_at text m))
     unfolding constant_primary_at
-    literal_reads = mapped views.literal (constant_reads text constants one_constant n m I.fewer refl)
+    literal_reads = mapped views.literal (constant_reads text constants (record { leaf = sample Constant; fits = refl }) n m I.fewer refl)
 
     array_primary_reads : Reads {P = Array hash_open} (array_text {ks = hash_open}) (λ a. views.literal (array_tree text a)) (λ o. nothing) (among hash_open) n m (array_primary_at text (array_at text n) (bracket_at text n)) (array_primary_at text (array_at text m) (bracket_at text m))
     unfolding array_primary_at

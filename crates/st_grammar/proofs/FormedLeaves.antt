@@ -169,42 +169,26 @@ word_formed b e =
     (chosen_content ContentFormed (bytes_eq b (codes "false")) views.false_object _ tt
     (chosen_content ContentFormed (bytes_eq b (codes "true")) views.true_object (views.symbol b) tt (symbol_of_name b e)))
 
+-- what is made of a sort, whatever gives the sort
+at_sort : (P : ContentView → Type 0) (t s : Sort) (b : List ℕ) → Some t ≡ Some s → P (content_of t b) → P (content_of s b)
+at_sort P t s b e h = let same : t ≡ s = cc in subst (λ (u : Sort). P (content_of u b)) same h
+
 -- what a piece is as an element
 plain_content : (p : Piece) (s : Sort) (j sign : Bool) (b rest : List ℕ) (k : Kind) → Stands sign p rest → sort_of p ≡ Some s → spelling p ≡ b → k ≡ kind_of_sort j b s → IsIn plain_elements k → ContentFormed (content_of s b)
-plain_content (pieces.name n) s j sign b rest k stands sort spelled kind is =
-    let same : sorts.Name ≡ s = cc in
-    subst (λ (t : Sort). ContentFormed (content_of t b)) same (word_formed b (ap is_name (sym spelled) ∙ stands.0))
-plain_content (pieces.operator o) s j sign b rest k stands sort spelled kind is =
-    let same : sorts.Operator ≡ s = cc in
-    subst (λ (t : Sort). ContentFormed (content_of t b)) same (suc zero, inl (ap is_operator (sym spelled) ∙ stands.0, refl))
-plain_content (pieces.number minus ds) s j sign b rest k stands sort spelled kind is =
-    let same : sorts.Number (record { minus = minus; size = size ds }) ≡ s = cc in
-    subst (λ (t : Sort). ContentFormed (content_of t b)) same (allowed_greatest ds stands.1)
-plain_content (pieces.character c) s j sign b rest k stands sort spelled kind is =
-    let same : sorts.Character c ≡ s = cc in
-    subst (λ (t : Sort). ContentFormed (content_of t b)) same tt
-plain_content (pieces.string inside) s j sign b rest k stands sort spelled kind is =
-    let same : sorts.Bytes ≡ s = cc in
-    subst (λ (t : Sort). ContentFormed (content_of t b)) same tt
-plain_content (pieces.symbol x) s j sign b rest k stands sort spelled kind is =
-    let same : sorts.Symbol ≡ s = cc in
-    subst (λ (t : Sort). ContentFormed (content_of t b)) same (subst IsSymbol (ap (drop 1) spelled) (symbol_formed x rest stands))
+plain_content (pieces.name n) s j sign b rest k stands sort spelled kind is = at_sort ContentFormed _ s b sort (word_formed b (ap is_name (sym spelled) ∙ stands.0))
+plain_content (pieces.operator o) s j sign b rest k stands sort spelled kind is = at_sort ContentFormed _ s b sort (suc zero, inl (ap is_operator (sym spelled) ∙ stands.0, refl))
+plain_content (pieces.number minus ds) s j sign b rest k stands sort spelled kind is = at_sort ContentFormed _ s b sort (allowed_greatest ds stands.1)
+plain_content (pieces.character c) s j sign b rest k stands sort spelled kind is = at_sort ContentFormed _ s b sort tt
+plain_content (pieces.string inside) s j sign b rest k stands sort spelled kind is = at_sort ContentFormed _ s b sort tt
+plain_content (pieces.symbol x) s j sign b rest k stands sort spelled kind is = at_sort ContentFormed _ s b sort (subst IsSymbol (ap (drop 1) spelled) (symbol_formed x rest stands))
 plain_content p s j sign b rest k stands sort spelled kind is = absurd (not_in plain_elements (sort_of p) s j b k sort refl kind is)
 
 -- and as a literal of its own
 constant_content : (p : Piece) (s : Sort) (j sign : Bool) (b rest : List ℕ) (k : Kind) → Stands sign p rest → sort_of p ≡ Some s → spelling p ≡ b → k ≡ kind_of_sort j b s → IsIn constants k → LiteralFormed (content_of s b)
-constant_content (pieces.number minus ds) s j sign b rest k stands sort spelled kind is =
-    let same : sorts.Number (record { minus = minus; size = size ds }) ≡ s = cc in
-    subst (λ (t : Sort). LiteralFormed (content_of t b)) same (allowed_greatest ds stands.1)
-constant_content (pieces.character c) s j sign b rest k stands sort spelled kind is =
-    let same : sorts.Character c ≡ s = cc in
-    subst (λ (t : Sort). LiteralFormed (content_of t b)) same tt
-constant_content (pieces.string inside) s j sign b rest k stands sort spelled kind is =
-    let same : sorts.Bytes ≡ s = cc in
-    subst (λ (t : Sort). LiteralFormed (content_of t b)) same tt
-constant_content (pieces.symbol x) s j sign b rest k stands sort spelled kind is =
-    let same : sorts.Symbol ≡ s = cc in
-    subst (λ (t : Sort). LiteralFormed (content_of t b)) same (subst IsSymbol (ap (drop 1) spelled) (symbol_formed x rest stands))
+constant_content (pieces.number minus ds) s j sign b rest k stands sort spelled kind is = at_sort LiteralFormed _ s b sort (allowed_greatest ds stands.1)
+constant_content (pieces.character c) s j sign b rest k stands sort spelled kind is = at_sort LiteralFormed _ s b sort tt
+constant_content (pieces.string inside) s j sign b rest k stands sort spelled kind is = at_sort LiteralFormed _ s b sort tt
+constant_content (pieces.symbol x) s j sign b rest k stands sort spelled kind is = at_sort LiteralFormed _ s b sort (subst IsSymbol (ap (drop 1) spelled) (symbol_formed x rest stands))
 constant_content p s j sign b rest k stands sort spelled kind is = absurd (not_in constants (sort_of p) s j b k sort refl kind is)
 
 module _ (text : List ℕ) (x : Leaf) (l : IsLeaf text x) where

@@ -1,13 +1,13 @@
 -- Lists of kinds: which have no kind in common, and which lie in others.
 use Rattle.std.proofs.Common.{◌≡◌, ℕ, Bool, true, false, eqb, ◌||◌, ◌&&◌, not, List, [], ◌∷◌, refl, sym, ap, ◌∙◌, inl, inr}
 use Rattle.std.specs.List.{list_any, list_all}
-use Rattle.std.proofs.lemmas.Bool.{and_parts, or_cases, not-true, eqb-true}
+use Rattle.std.proofs.lemmas.Bool.{and_parts, or_cases, not-true, eqb-true, eq-eqb}
 use Rattle.st_scan.specs.declared.token.Sort.TheVariants as sorts
 use Rattle.st_grammar.specs.declared.leaf.Leaf.{Leaf}
 use Rattle.st_grammar.specs.declared.leaf.Kind.{Kind}
-use Rattle.st_grammar.specs.declared.leaf.Kind.TheVariants.{Name, Keyword, Operator, Constant}
+use Rattle.st_grammar.specs.declared.leaf.Kind.TheVariants.{Name, Keyword, Operator}
 use Rattle.st_grammar.specs.Leaves.{kind_number, among, keywords, operators, openings, closings}
-use Rattle.st_grammar.specs.Phrases.{One, names, constants, plain_elements, first_keywords}
+use Rattle.st_grammar.specs.Phrases.{One, names}
 
 abbrev pub contains : List Kind → Kind → Bool
 contains js k = list_any (λ j. eqb (kind_number k) (kind_number j)) js
@@ -67,17 +67,11 @@ neutral ks e x a = let parts = and_parts (are_apart ks openings) (are_apart ks c
 abbrev pub sample : Kind → Leaf
 sample k = record { kind = k; token = record { start = 0; end = 0; sort = sorts.Name }; place = 0 }
 
+abbrev pub one_of : (k : Kind) → One (k ∷ [])
+one_of k = record { leaf = sample k; fits = ap (λ (b : Bool). b || false) (eq-eqb (kind_number k) (kind_number k) refl) }
+
 abbrev pub one_name : One names
 one_name = record { leaf = sample Name; fits = refl }
-
-abbrev pub one_constant : One constants
-one_constant = record { leaf = sample Constant; fits = refl }
-
-abbrev pub one_plain : One plain_elements
-one_plain = record { leaf = sample Name; fits = refl }
-
-abbrev pub one_first_keyword : One first_keywords
-one_first_keyword = record { leaf = sample Keyword; fits = refl }
 
 abbrev pub one_keyword : One keywords
 one_keyword = record { leaf = sample Keyword; fits = refl }

@@ -17,6 +17,8 @@ pub mod Methods
 pub mod Readers
 pub mod Repeats
 pub mod Rows
+pub mod Scanned
 pub mod Shorter
+pub mod Syntaxes
 pub mod Theorems
 pub mod Unquoting

@@ -5,12 +5,12 @@ use Rattle.st_scan.specs.Views.{ElementView, ElementsView, with_element}
 use Rattle.st_scan.specs.Views as views
 use Rattle.st_grammar.specs.declared.leaf.Leaf.{Leaf}
 use Rattle.st_grammar.specs.declared.leaf.Kind.{Kind}
-use Rattle.st_grammar.specs.declared.leaf.Kind.TheVariants.{Joined, Opening, Open, Close}
+use Rattle.st_grammar.specs.declared.leaf.Kind.TheVariants.{Name, Keyword, Joined, Opening, Open, Close}
 use Rattle.st_grammar.specs.Leaves.{among, openings, closings}
 use Rattle.st_grammar.specs.Phrases.{One, plain_elements, first_keywords, Element, plain, keyword_symbol, nested, Elements, no_elements, element, one_text, ones_text, element_text, elements_text}
 use Rattle.st_grammar.specs.Trees.{bytes, joined_bytes, constant_at, element_tree, elements_tree}
 use Rattle.st_grammar.specs.Reading.{◌>>=◌, first, token_at, element_starts, joined_step, joined_at, keyword_symbol_at, constant_element_at, nested_at, element_at, elements_step, elements_at, array_at}
-use Rattle.st_grammar.proofs.KindSets.{apart, within, neutral, are_neutral, are_apart, covered, sample, one_plain, one_first_keyword}
+use Rattle.st_grammar.proofs.KindSets.{apart, within, neutral, are_neutral, are_apart, covered, sample}
 use Rattle.st_grammar.proofs.Balanced.{elements_balanced}
 use Rattle.st_grammar.proofs.Readers.{Reads, nothing, first_nothing, is_nil, mapped, renamed, token_reads, both, either, anyway, text_both, goes_both, text_either, tree_either, goes_either}
 use Rattle.st_grammar.proofs.Repeats.{IsRepeat, IsMore, repeated}
@@ -92,7 +92,7 @@ module _ (text : List ℕ) where
       → Reads {P = One first_keywords × List (One (Joined ∷ []))} (text_both one_text ones_text) (λ k. symbol_of k.0.leaf k.1) (goes_both (λ o. nothing) ones_text (λ l. among (Joined ∷ []))) (among first_keywords) n m (keyword_symbol_at text) (keyword_symbol_at text)
   unfolding keyword_symbol_at
   keyword_symbol_reads n m le =
-      both (token_reads first_keywords one_first_keyword (neutral first_keywords refl) n m le)
+      both (token_reads first_keywords (record { leaf = sample Keyword; fits = refl }) (neutral first_keywords refl) n m le)
       ones_text (λ ks k. symbol_of k ks) (λ l. among (Joined ∷ [])) (among (Joined ∷ []))
       (λ k ts. joined_at text (bytes text k) ts >>= λ ks. Ok (record { place = k.place; what = views.symbol ks.0 }, ks.1))
       (λ k ts. joined_at text (bytes text k) ts >>= λ ks. Ok (record { place = k.place; what = views.symbol ks.0 }, ks.1))
@@ -171,7 +171,7 @@ module _ (text : List ℕ) where
   pub element_reads : (n m : ℕ) → n ≤ m → ArrayReads any_open n m → Reads element_text (element_tree text) element_goes (among element_starts) n m (element_at text (array_at text n)) (element_at text (array_at text m))
   unfolding element_at goes_sum
   element_reads n m le R =
-      renamed (either (among plain_elements) (anyway (among plain_elements) (constant_reads plain_elements one_plain n m le refl))
+      renamed (either (among plain_elements) (anyway (among plain_elements) (constant_reads plain_elements (record { leaf = sample Name; fits = refl }) n m le refl))
       (either (among first_keywords) (anyway (among first_keywords) (keyword_symbol_reads n m le)) R (among (first_keywords ++ any_open)) (λ x e. e) (λ p l. p.0.fits) array_not (λ x e f. covered (first_keywords ++ any_open) first_keywords any_open refl x e f))
       (among element_starts) (λ x e. e) (λ p l. p.fits) starts_not (λ x e f. covered element_starts plain_elements (first_keywords ++ any_open) refl x e f))
       element_text (element_tree text) element_goes to text_to tree_to goes_to from text_from tree_from goes_from
@@ -255,25 +255,18 @@ module _ (text : List ℕ) where
         bracket_suc_suc ks (Close ∷ []) some (no_elements, tt) one_close opens closing (λ (l : Elements × Unit {0}). elements_text l.0) (λ l. elements_tree text l.0) (λ l x. among element_starts x || elements_last l.0 x) (λ l. elements_balanced l.0) body_ends
         (λ k ts. elements_at text (array_at text k) views.no_elements ts) (array_at text) (λ ts. refl) (λ k ts. refl) (λ x es. record { place = x.place; what = views.array es }) j k R
 
-  abbrev some_open : One any_open
-  some_open = record { leaf = sample Open; fits = refl }
+  -- an array from what opens it on: m brackets may be open, and the arrays in it may have one fewer
+  opened_reads : (m : ℕ) (ks : List Kind) (some : One ks) (opens : (x : Leaf) → among ks x ≡ true → among openings x ≡ true) (n : ℕ) → n ≤ m → ArrayReads ks n m
+  opened_reads zero ks some opens zero le = unpaired ks some opens zero zero (zero_zero ks some opens)
+  opened_reads zero ks some opens (suc n) le = absurd (omega arith)
+  opened_reads (suc k) ks some opens zero le =
+      unpaired ks some opens zero (suc k) (zero_suc ks some opens zero k (elements_read zero k (omega arith) (opened_reads k any_open (record { leaf = sample Open; fits = refl }) (within any_open openings refl) zero (omega arith))))
+  opened_reads (suc k) ks some opens (suc j) le =
+      unpaired ks some opens (suc j) (suc k) (suc_suc ks some opens j k (elements_read j k (omega arith) (opened_reads k any_open (record { leaf = sample Open; fits = refl }) (within any_open openings refl) j (omega arith))))
 
   pub nested_reads : (m n : ℕ) → n ≤ m → ArrayReads any_open n m
-  nested_reads zero zero le = unpaired any_open some_open (within any_open openings refl) zero zero (zero_zero any_open some_open (within any_open openings refl))
-  nested_reads zero (suc n) le = absurd (omega arith)
-  nested_reads (suc k) zero le =
-      unpaired any_open some_open (within any_open openings refl) zero (suc k) (zero_suc any_open some_open (within any_open openings refl) zero k (elements_read zero k (omega arith) (nested_reads k zero (omega arith))))
-  nested_reads (suc k) (suc j) le =
-      unpaired any_open some_open (within any_open openings refl) (suc j) (suc k) (suc_suc any_open some_open (within any_open openings refl) j k (elements_read j k (omega arith) (nested_reads k j (omega arith))))
-
-  abbrev some_hash : One hash_open
-  some_hash = record { leaf = sample Opening; fits = refl }
+  nested_reads m = opened_reads m any_open (record { leaf = sample Open; fits = refl }) (within any_open openings refl)
 
   -- an array from its #( on
   pub array_reads : (m n : ℕ) → n ≤ m → ArrayReads hash_open n m
-  array_reads zero zero le = unpaired hash_open some_hash (within hash_open openings refl) zero zero (zero_zero hash_open some_hash (within hash_open openings refl))
-  array_reads zero (suc n) le = absurd (omega arith)
-  array_reads (suc k) zero le =
-      unpaired hash_open some_hash (within hash_open openings refl) zero (suc k) (zero_suc hash_open some_hash (within hash_open openings refl) zero k (elements_read zero k (omega arith) (nested_reads k zero (omega arith))))
-  array_reads (suc k) (suc j) le =
-      unpaired hash_open some_hash (within hash_open openings refl) (suc j) (suc k) (suc_suc hash_open some_hash (within hash_open openings refl) j k (elements_read j k (omega arith) (nested_reads k j (omega arith))))
+  array_reads m = opened_reads m hash_open (record { leaf = sample Opening; fits = refl }) (within hash_open openings refl)

@@ -10,11 +10,11 @@ use Rattle.st_grammar.specs.Leaves.{among, keywords, operators}
 use Rattle.st_grammar.specs.Phrases.{One, names, one_text, ones_text, KeywordName, Pattern, unary_pattern, binary_pattern, keyword_pattern, Temporaries, Primitive', Options, no_options, with_temporaries, with_primitive, temporaries_first, primitive_first, Method, method, Statements, no_statements, keyword_names_text, pattern_text, temporaries_text, primitive_text, options_text, statements_text, method_text}
 use Rattle.st_grammar.specs.Trees.{bytes, name_at, names_of, number_of, keyword_selector, keyword_arguments, pattern_selector, pattern_arguments, primitive_number, options_temporaries, options_primitive, statements_tree, method_tree, MethodFits}
 use Rattle.st_grammar.specs.Reading.{◌>>=◌, first, token_at, statement_starts, PatternView, OptionsView, array_at, bracket_at, statements_at, pattern_step, keyword_names_at, unary_pattern_at, binary_pattern_at, keyword_pattern_at, pattern_at, name_step, name_list_at, temporaries_at, primitive_at, temporaries_first_at, primitive_first_at, options_at, method_at}
-use Rattle.st_grammar.proofs.KindSets.{apart, neutral, sample, one_name, one_operator, one_keyword}
+use Rattle.st_grammar.proofs.KindSets.{apart, neutral, one_of, one_name, one_operator, one_keyword}
 use Rattle.st_grammar.proofs.Balanced.{keyword_names_balanced}
 use Rattle.st_grammar.proofs.Readers.{Reads, nothing, first_nothing, is_nil, mapped, renamed, token_reads, both, either, anyway, pure, weaker, text_both, goes_both, text_either, tree_either, goes_either}
-use Rattle.st_grammar.proofs.Repeats.{IsRepeat, IsMore, repeated}
-use Rattle.st_grammar.proofs.Lists.{and_false, or_false, or_and_false, ones_reads}
+use Rattle.st_grammar.proofs.Repeats.{IsRepeat, repeated}
+use Rattle.st_grammar.proofs.Lists.{and_false, lists_repeat, lists_repeat, or_false, or_and_false, ones_reads}
 use Rattle.st_grammar.proofs.Expressions.{Inner}
 use Rattle.st_grammar.proofs.Bodies.{FitStatements, statements_goes, statements_reads}
 use Rattle.st_grammar.proofs.Blocks.{statement_begins}
@@ -25,21 +25,6 @@ bar = Bar ∷ []
 
 abbrev less : List Kind
 less = Less ∷ []
-
-abbrev one_bar : One bar
-one_bar = record { leaf = sample Bar; fits = refl }
-
-abbrev one_less : One less
-one_less = record { leaf = sample Less; fits = refl }
-
-abbrev one_primitive : One (Primitive ∷ [])
-one_primitive = record { leaf = sample Primitive; fits = refl }
-
-abbrev one_number : One (Number ∷ [])
-one_number = record { leaf = sample Number; fits = refl }
-
-abbrev one_greater : One (Greater ∷ [])
-one_greater = record { leaf = sample Greater; fits = refl }
 
 abbrev pattern_view : List ℕ → List NameView → PatternView
 pattern_view selector arguments = record { selector = selector; arguments = arguments }
@@ -71,23 +56,7 @@ module _ (text : List ℕ) where
       (sym (append_assoc p.selector (bytes text k.keyword.leaf) (keyword_selector text ks))) (sym (append_assoc p.arguments (name_at text k.name.leaf ∷ []) (keyword_arguments text ks)))
 
   keyword_names_repeat : IsRepeat (λ (p : PatternView). among keywords) keyword_name_text with_keyword (λ k. nothing) (λ p ks. Unit {0}) keyword_names_text with_keywords (λ ks. nothing)
-  keyword_names_repeat = record {
-    some = λ p. omega arith;
-    nil = [];
-    nil_valid = λ a. tt;
-    nil_text = refl;
-    nil_is = no_more;
-    nil_last = λ x. refl;
-    cons = λ k ks. k ∷ ks;
-    cons_more = λ a k ks x e v. (tt, refl, one_more k ks a);
-    cons_last = λ a k ks x v. sym (and_false (is_nil (keyword_names_text ks)));
-    uncons = uncons;
-  }
-    where
-      uncons : (p : PatternView) (ks : List KeywordName) → Unit {0} → ((keyword_names_text ks ≡ []) × (with_keywords ks p ≡ p))
-          ⊎ IsMore (λ (p : PatternView). among keywords) keyword_name_text with_keyword (λ k. nothing) (λ p ks. Unit {0}) keyword_names_text with_keywords (λ ks. nothing) p ks
-      uncons p [] v = inl (refl, no_more p)
-      uncons p (k ∷ ks) v = inr (record { p = k; rest = ks; valid = tt; parts = refl; is = one_more k ks p; last_is = λ x. sym (and_false (is_nil (keyword_names_text ks))); starts = λ l. k.keyword.fits; ends = λ x e. refl })
+  keyword_names_repeat = lists_repeat (among keywords) keyword_name_text with_keyword keyword_names_text with_keywords (λ p. omega arith) refl (λ p l. refl) (λ k l. k.keyword.fits) no_more one_more
 
   abbrev PatternSum : Type 0
   PatternSum = One names ⊎ ((One operators × One names) ⊎ (KeywordName × List KeywordName))
@@ -284,7 +253,7 @@ module _ (text : List ℕ) where
   not_bar (inr u) x us e = absurd cc
 
   one_temporaries : Temporaries
-  one_temporaries = record { open_bar = one_bar; inside = []; close_bar = one_bar }
+  one_temporaries = record { open_bar = (one_of Bar); inside = []; close_bar = (one_of Bar) }
 
   -- METHODS
 
@@ -398,26 +367,26 @@ module _ (text : List ℕ) where
     temporaries_reads : Reads temporaries_text (λ t. names_of text t.inside) (λ t. nothing) (among bar) n m (temporaries_at text) (temporaries_at text)
     unfolding temporaries_at
     temporaries_reads =
-        renamed (both (token_reads bar one_bar (neutral bar refl) n m I.fewer) (text_both (ones_text {kinds = names}) (one_text {kinds = bar})) (λ q o. names_of text q.0) (goes_both (λ (l : List (One names)). among names) (one_text {kinds = bar}) (λ c. nothing)) nothing
+        renamed (both (token_reads bar (one_of Bar) (neutral bar refl) n m I.fewer) (text_both (ones_text {kinds = names}) (one_text {kinds = bar})) (λ q o. names_of text q.0) (goes_both (λ (l : List (One names)). among names) (one_text {kinds = bar}) (λ c. nothing)) nothing
         (λ o ts. name_list_at text [] ts >>= λ ns. token_at bar ns.1 >>= λ c. Ok (ns.0, c.1)) (λ o ts. name_list_at text [] ts >>= λ ns. token_at bar ns.1 >>= λ c. Ok (ns.0, c.1))
         (λ o. both (name_list_reads []) (one_text {kinds = bar}) (λ c ns. ns) (λ c. nothing) (among bar) (λ ns ts. token_at bar ts >>= λ c. Ok (ns, c.1)) (λ ns ts. token_at bar ts >>= λ c. Ok (ns, c.1))
-        (λ ns. mapped (λ c. ns) (token_reads bar one_bar (neutral bar refl) n m I.fewer)) one_bar nothing (λ p q l e. apart bar names refl q.leaf q.fits) (λ x ts e. absurd cc) (λ p x e. absurd cc))
-        ([], one_bar) (among bar) (λ p q l e. first_nothing (text_both (ones_text {kinds = names}) (one_text {kinds = bar}) q ++ l)) (λ x ts e. inl e) (λ p x e. inl (omega arith)))
+        (λ ns. mapped (λ c. ns) (token_reads bar (one_of Bar) (neutral bar refl) n m I.fewer)) (one_of Bar) nothing (λ p q l e. apart bar names refl q.leaf q.fits) (λ x ts e. absurd cc) (λ p x e. absurd cc))
+        ([], (one_of Bar)) (among bar) (λ p q l e. first_nothing (text_both (ones_text {kinds = names}) (one_text {kinds = bar}) q ++ l)) (λ x ts e. inl e) (λ p x e. inl (omega arith)))
         temporaries_text (λ t. names_of text t.inside) (λ t. nothing)
         (λ t. record { open_bar = t.0; inside = t.1.0; close_bar = t.1.1 }) (λ t. refl) (λ t. refl) (λ t x. sym (and_false (is_nil (ones_text t.1.0 ++ t.1.1.leaf ∷ [])))) (λ t. (t.open_bar, (t.inside, t.close_bar))) (λ t. refl) (λ t. refl) (λ t x. and_false (is_nil (ones_text t.inside ++ t.close_bar.leaf ∷ [])))
 
     primitive_reads : Reads primitive_text (primitive_number text) (λ p. nothing) (among less) n m primitive_at primitive_at
     unfolding primitive_at
     primitive_reads =
-        renamed (both (token_reads less one_less (neutral less refl) n m I.fewer) (text_both (one_text {kinds = Primitive ∷ []}) (text_both (one_text {kinds = Number ∷ []}) (one_text {kinds = Greater ∷ []}))) (λ q o. number_of q.1.0.leaf.token.sort) (λ q. nothing) nothing
+        renamed (both (token_reads less (one_of Less) (neutral less refl) n m I.fewer) (text_both (one_text {kinds = Primitive ∷ []}) (text_both (one_text {kinds = Number ∷ []}) (one_text {kinds = Greater ∷ []}))) (λ q o. number_of q.1.0.leaf.token.sort) (λ q. nothing) nothing
         (λ l ts. token_at (Primitive ∷ []) ts >>= λ k. token_at (Number ∷ []) k.1 >>= λ v. token_at (Greater ∷ []) v.1 >>= λ g. Ok (number_of v.0.token.sort, g.1)) (λ l ts. token_at (Primitive ∷ []) ts >>= λ k. token_at (Number ∷ []) k.1 >>= λ v. token_at (Greater ∷ []) v.1 >>= λ g. Ok (number_of v.0.token.sort, g.1))
-        (λ l. both (token_reads (Primitive ∷ []) one_primitive (neutral (Primitive ∷ []) refl) n m I.fewer) (text_both (one_text {kinds = Number ∷ []}) (one_text {kinds = Greater ∷ []})) (λ q o. number_of q.0.leaf.token.sort) (λ q. nothing) nothing
+        (λ l. both (token_reads (Primitive ∷ []) (one_of Primitive) (neutral (Primitive ∷ []) refl) n m I.fewer) (text_both (one_text {kinds = Number ∷ []}) (one_text {kinds = Greater ∷ []})) (λ q o. number_of q.0.leaf.token.sort) (λ q. nothing) nothing
         (λ k ts. token_at (Number ∷ []) ts >>= λ v. token_at (Greater ∷ []) v.1 >>= λ g. Ok (number_of v.0.token.sort, g.1)) (λ k ts. token_at (Number ∷ []) ts >>= λ v. token_at (Greater ∷ []) v.1 >>= λ g. Ok (number_of v.0.token.sort, g.1))
-        (λ k. both (token_reads (Number ∷ []) one_number (neutral (Number ∷ []) refl) n m I.fewer) (one_text {kinds = Greater ∷ []}) (λ g v. number_of v.token.sort) (λ g. nothing) nothing
+        (λ k. both (token_reads (Number ∷ []) (one_of Number) (neutral (Number ∷ []) refl) n m I.fewer) (one_text {kinds = Greater ∷ []}) (λ g v. number_of v.token.sort) (λ g. nothing) nothing
         (λ v ts. token_at (Greater ∷ []) ts >>= λ g. Ok (number_of v.token.sort, g.1)) (λ v ts. token_at (Greater ∷ []) ts >>= λ g. Ok (number_of v.token.sort, g.1))
-        (λ v. mapped (λ g. number_of v.token.sort) (weaker nothing (λ x e. absurd cc) (token_reads (Greater ∷ []) one_greater (neutral (Greater ∷ []) refl) n m I.fewer))) one_greater nothing (λ p q l e. first_nothing (one_text q ++ l)) (λ x ts e. absurd cc) (λ p x e. absurd cc))
-        (one_number, one_greater) nothing (λ p q l e. first_nothing (text_both one_text one_text q ++ l)) (λ x ts e. absurd cc) (λ p x e. absurd cc))
-        (one_primitive, (one_number, one_greater)) (among less) (λ p q l e. first_nothing (text_both one_text (text_both one_text one_text) q ++ l)) (λ x ts e. inl e) (λ p x e. inl (omega arith)))
+        (λ v. mapped (λ g. number_of v.token.sort) (weaker nothing (λ x e. absurd cc) (token_reads (Greater ∷ []) (one_of Greater) (neutral (Greater ∷ []) refl) n m I.fewer))) (one_of Greater) nothing (λ p q l e. first_nothing (one_text q ++ l)) (λ x ts e. absurd cc) (λ p x e. absurd cc))
+        ((one_of Number), (one_of Greater)) nothing (λ p q l e. first_nothing (text_both one_text one_text q ++ l)) (λ x ts e. absurd cc) (λ p x e. absurd cc))
+        ((one_of Primitive), ((one_of Number), (one_of Greater))) (among less) (λ p q l e. first_nothing (text_both one_text (text_both one_text one_text) q ++ l)) (λ x ts e. inl e) (λ p x e. inl (omega arith)))
         primitive_text (primitive_number text) (λ p. nothing)
         (λ p. record { less = p.0; keyword = p.1.0; number = p.1.1.0; greater = p.1.1.1 }) (λ p. refl) (λ p. refl) (λ p x. refl) (λ p. (p.less, (p.keyword, (p.number, p.greater)))) (λ p. refl) (λ p. refl) (λ p x. refl)
 

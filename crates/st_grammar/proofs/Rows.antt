@@ -1,17 +1,22 @@
 -- Worked texts, by the definitions alone: their pieces, their phrases, and the trees that they mean.
-use Rattle.std.proofs.Common.{ℕ, ◌+◌, Bool, true, false, List, [], ◌∷◌, refl, arith, None}
+use Rattle.std.proofs.Common.{◌≡◌, ℕ, ◌+◌, Bool, true, false, List, [], ◌∷◌, ◌++◌, length, refl, arith, None}
 use Rattle.std.specs.Prelude.{codes}
 use Rattle.st_scan.specs.declared.token.Token.{Token}
 use Rattle.st_scan.specs.declared.token.Sort.{Sort}
 use Rattle.st_scan.specs.declared.token.Sort.TheVariants as sorts
 use Rattle.st_scan.specs.Views.{NameView, ExpressionView, ExpressionsView, MessagesView, StatementsView, MethodView}
 use Rattle.st_scan.specs.Views as views
-use Rattle.st_scan.specs.Pieces.{blank, name, keyword, operator, mark}
+use Rattle.st_scan.specs.Scans.{start, after_all, joined, AllStand, tokens_from, EndsBy, ScansTo}
+use Rattle.st_scan.specs.Pieces.{Piece, blank, name, keyword, operator, mark}
 use Rattle.st_grammar.specs.declared.leaf.Leaf.{Leaf}
 use Rattle.st_grammar.specs.declared.leaf.Kind.{Kind}
 use Rattle.st_grammar.specs.declared.leaf.Kind.TheVariants as kinds
 use Rattle.st_grammar.specs.Phrases as phrases
 use Rattle.st_grammar.specs.Texts.{Means}
+
+-- the scan of a text that its pieces are the whole of
+abbrev whole_scan : {text : List ℕ} {tokens : List Token} (pieces : List Piece) → joined pieces ++ [] ≡ text → AllStand start pieces [] → tokens_from 0 pieces ≡ tokens → EndsBy (after_all start pieces) (length (joined pieces)) [] None → ScansTo text tokens None
+whole_scan pieces parts stand are_tokens ends = record { pieces = pieces; rest = []; parts = parts; stand = stand; are_tokens = are_tokens; ends = ends }
 
 abbrev token : Sort → ℕ → ℕ → Token
 token sort start end = record { start = start; end = end; sort = sort }
@@ -54,14 +59,9 @@ all_messages : Means (codes "foo ^a b + c d: e")
     (tree true (sent (sent (sent (variable (codes "a") 6) (codes "b") none) (codes "+") (one (variable (codes "c") 12))) (codes "d:") (one (variable (codes "e") 17))))
 all_messages = record {
   tokens = token sorts.Name 0 3 ∷ token sorts.Mark 4 5 ∷ token sorts.Name 5 6 ∷ token sorts.Name 7 8 ∷ token sorts.Operator 9 10 ∷ token sorts.Name 11 12 ∷ token sorts.Keyword 13 15 ∷ token sorts.Name 16 17 ∷ [];
-  scan = record {
-    pieces = name (codes "foo") ∷ blank 32 ∷ mark (codes "^") ∷ name (codes "a") ∷ blank 32 ∷ name (codes "b") ∷ blank 32 ∷ operator (codes "+") ∷ blank 32 ∷ name (codes "c") ∷ blank 32 ∷ keyword (codes "d") ∷ blank 32 ∷ name (codes "e") ∷ [];
-    rest = [];
-    parts = refl;
-    stand = ((refl, refl, refl), (refl, ((refl, refl), ((refl, refl, refl), (refl, ((refl, refl, refl), (refl, ((refl, refl, refl), (refl, ((refl, refl, refl), (refl, ((refl, refl), (refl, ((refl, refl, refl), tt))))))))))))));
-    are_tokens = refl;
-    ends = refl;
-  };
+  scan = whole_scan
+      (name (codes "foo") ∷ blank 32 ∷ mark (codes "^") ∷ name (codes "a") ∷ blank 32 ∷ name (codes "b") ∷ blank 32 ∷ operator (codes "+") ∷ blank 32 ∷ name (codes "c") ∷ blank 32 ∷ keyword (codes "d") ∷ blank 32 ∷ name (codes "e") ∷ [])
+      refl ((refl, refl, refl), (refl, ((refl, refl), ((refl, refl, refl), (refl, ((refl, refl, refl), (refl, ((refl, refl, refl), (refl, ((refl, refl, refl), (refl, ((refl, refl), (refl, ((refl, refl, refl), tt)))))))))))))) refl refl;
   method = (
     phrases.method
         (phrases.unary_pattern (the_name 0 3))
@@ -86,14 +86,9 @@ all_messages = record {
 a_cascade : Means (codes "foo x a; + b") (tree false (views.send (variable (codes "x") 5) (views.message (codes "a") none (views.message (codes "+") (one (variable (codes "b") 12)) views.no_messages))))
 a_cascade = record {
   tokens = token sorts.Name 0 3 ∷ token sorts.Name 4 5 ∷ token sorts.Name 6 7 ∷ token sorts.Mark 7 8 ∷ token sorts.Operator 9 10 ∷ token sorts.Name 11 12 ∷ [];
-  scan = record {
-    pieces = name (codes "foo") ∷ blank 32 ∷ name (codes "x") ∷ blank 32 ∷ name (codes "a") ∷ mark (codes ";") ∷ blank 32 ∷ operator (codes "+") ∷ blank 32 ∷ name (codes "b") ∷ [];
-    rest = [];
-    parts = refl;
-    stand = ((refl, refl, refl), (refl, ((refl, refl, refl), (refl, ((refl, refl, refl), ((refl, refl), (refl, ((refl, refl, refl), (refl, ((refl, refl, refl), tt))))))))));
-    are_tokens = refl;
-    ends = refl;
-  };
+  scan = whole_scan
+      (name (codes "foo") ∷ blank 32 ∷ name (codes "x") ∷ blank 32 ∷ name (codes "a") ∷ mark (codes ";") ∷ blank 32 ∷ operator (codes "+") ∷ blank 32 ∷ name (codes "b") ∷ [])
+      refl ((refl, refl, refl), (refl, ((refl, refl, refl), (refl, ((refl, refl, refl), ((refl, refl), (refl, ((refl, refl, refl), (refl, ((refl, refl, refl), tt)))))))))) refl refl;
   method = (
     phrases.method
         (phrases.unary_pattern (the_name 0 3))
@@ -115,14 +110,9 @@ a_cascade = record {
 assignments : Means (codes "foo a _ b := c") (tree false (views.assign (record { text = codes "a"; place = 5 }) (views.assign (record { text = codes "b"; place = 9 }) (variable (codes "c") 14))))
 assignments = record {
   tokens = token sorts.Name 0 3 ∷ token sorts.Name 4 5 ∷ token sorts.Mark 6 7 ∷ token sorts.Name 8 9 ∷ token sorts.Mark 10 12 ∷ token sorts.Name 13 14 ∷ [];
-  scan = record {
-    pieces = name (codes "foo") ∷ blank 32 ∷ name (codes "a") ∷ blank 32 ∷ mark (codes "_") ∷ blank 32 ∷ name (codes "b") ∷ blank 32 ∷ mark (codes ":=") ∷ blank 32 ∷ name (codes "c") ∷ [];
-    rest = [];
-    parts = refl;
-    stand = ((refl, refl, refl), (refl, ((refl, refl, refl), (refl, ((refl, refl), (refl, ((refl, refl, refl), (refl, ((refl, refl), (refl, ((refl, refl, refl), tt)))))))))));
-    are_tokens = refl;
-    ends = refl;
-  };
+  scan = whole_scan
+      (name (codes "foo") ∷ blank 32 ∷ name (codes "a") ∷ blank 32 ∷ mark (codes "_") ∷ blank 32 ∷ name (codes "b") ∷ blank 32 ∷ mark (codes ":=") ∷ blank 32 ∷ name (codes "c") ∷ [])
+      refl ((refl, refl, refl), (refl, ((refl, refl, refl), (refl, ((refl, refl), (refl, ((refl, refl, refl), (refl, ((refl, refl), (refl, ((refl, refl, refl), tt))))))))))) refl refl;
   method = (
     phrases.method
         (phrases.unary_pattern (the_name 0 3))

@@ -1,10 +1,11 @@
 //! Laws of the definition.
 
-ghost use Rattle.std.specs.Prelude.{◌≡◌, ℕ, List};
-ghost use Rattle.st_scan.specs.Views.{MethodView};
+ghost use Rattle.std.specs.Prelude.{◌≡◌, ℕ, List, Result};
+ghost use Rattle.st_scan.specs.{declared.fault.Fault.Fault, Views.MethodView};
 ghost use Rattle.st_grammar.specs.Texts.{Means};
 ghost use Rattle.st_grammar.specs.Laws.{HasOneFault, HasNoFault};
 ghost use Rattle.st_grammar.specs.Formed.{IsWellFormed};
+ghost use Rattle.st_grammar.specs.Syntax.{IsSyntax, syntax};
 
 /// A text has at most one tree.
 pub fn one_tree()
@@ -15,6 +16,12 @@ pub fn one_tree()
 pub fn one_fault()
     ensures one { (text : List ℕ) → HasOneFault text }
     ensures none { (text : List ℕ) (t : MethodView) → Means text t → HasNoFault text }
+{}
+
+/// `syntax` is the tree that a text means, or its first fault, and nothing else is.
+pub fn one_syntax()
+    ensures is { (text : List ℕ) → IsSyntax text (syntax text) }
+    ensures only { (text : List ℕ) (r : Result MethodView Fault) → IsSyntax text r → r ≡ syntax text }
 {}
 
 /// What a text means is well-formed: its names are names, each selector fits its arguments, no number is too great, and

@@ -5,4 +5,4 @@ mod laws;
 pub mod leaf;
 pub mod read;
 
-pub use laws::{formed_tree, one_fault, one_tree};
+pub use laws::{formed_tree, one_fault, one_syntax, one_tree};

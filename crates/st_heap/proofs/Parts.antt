@@ -1,5 +1,5 @@
 -- The parts of a live object, fields, words and bytes: where they are among the words that are stored, what is read there, and what a write leaves.
-use Rattle.std.proofs.Common.{◌≡◌, ◌≢◌, ℕ, ◌+◌, ◌-◌, ◌*◌, ◌/◌, ◌%◌, ◌<◌, ◌≤◌, Bool, true, false, List, Option, Some, length, take, drop, get_or, set, inl, inr, ◌⊎◌, refl, sym, ap, ◌∙◌, subst, arith}
+use Rattle.std.proofs.Common.{◌≡◌, ◌≢◌, ℕ, ◌+◌, ◌-◌, ◌*◌, ◌/◌, ◌%◌, ◌^◌, ◌<◌, ◌≤◌, Bool, true, false, List, Option, Some, length, take, drop, get_or, set, inl, inr, ◌⊎◌, refl, sym, ap, ◌∙◌, subst, arith}
 use Rattle.std.specs.Prelude.{◌==◌, slice_get, if◌then◌else◌}
 use Rattle.st_model.specs.declared.oop.Oop.{Oop}
 use Rattle.st_model.specs.declared.kind.Kind.{Kind}
@@ -74,12 +74,18 @@ module _ (o : Objects) (p : Oop) (live : is_live (objects_of o) (value p) ≡ tr
   field_below : (at : ℕ) → at < length (named o p).fields → at < field_count (under o p)
   field_below at range = let long = fields_long in omega (arith, long, range)
 
-  pub field_within : (at : ℕ) → at < length (named o p).fields → (2 + at < length (under o p).cells) × (2 + at < 65535)
+  pub field_within : (at : ℕ) → at < length (named o p).fields → 2 + at < length (under o p).cells
   field_within at range =
       let below = field_below at range in
       let f = is.sound.fields in
+      omega (arith, below, f)
+
+  pub field_small : (at : ℕ) → at < length (named o p).fields → 2 + at < 2 ^ 32
+  field_small at range =
+      let below = field_below at range in
+      let f = is.sound.fields in
       let small = is.sound.small in
-      (omega (arith, below, f), omega (arith, below, f, small))
+      omega (arith, below, f, small)
 
   pub field_read : (at : ℕ) → at < length (named o p).fields → slice_get (named o p).fields at ≡ Some (value_of (cell (under o p) (2 + at)))
   field_read at range = ap (λ (x : Object). slice_get x.fields at) is.is ∙ field_is (under o p) at (field_below at range)
@@ -89,7 +95,7 @@ module _ (o : Objects) (p : Oop) (live : is_live (objects_of o) (value p) ≡ tr
   field_written at v range header =
       let s = under o p in
       let below = field_below at range in
-      let within = (field_within at range).0 in
+      let within = field_within at range in
       let same = same_count s (2 + at) v.0 within (λ method e. (header (ap (λ (x : Object). is_method x.kind) is.is ∙ method) (omega (arith, e))).1 ∙ fields_long) in (
         sound_set (stored_of o.store) (p.0 / 2) (with_cell s (2 + at) v.0) o.sound (sound_cell s (2 + at) v.0 within is.sound (omega arith) same),
         stored_field (stored_of o.store) p s (with_cell s (2 + at) v.0) is at (value_of v.0) (object-field s at v.0 is.sound below same),

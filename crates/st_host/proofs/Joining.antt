@@ -102,18 +102,6 @@ module _ {D : Type 0} (host : Ghosts D) where
     same = λ told n. ⊎_elim (λ same. subst (λ x. host.files new x ≡ host.files old x) (sym same) (own told)) (λ other. others told n other) (same_or_other n name);
   }
 
-  -- one run more
-  pub reads_join : (old mid new : D) → OnlyReads host old mid → OnlyReads host mid new → OnlyReads host old new
-  reads_join old mid new first second = record {
-    disk = omega (arith, first.disk, second.disk);
-    say = second.say ∙ first.say;
-    alike = alike_unless old mid new first.disk second.disk first.alike second.alike;
-    quiet = λ told. second.quiet told ∙ first.quiet told;
-    stops = λ told. stops_join (host.may_leave old) (host.may_leave mid) (host.may_leave new) (first.stops told) (second.stops told);
-    moments = λ told. moments_join old mid new (Here (host.may_leave old) (host.said old)) (Here (host.may_leave mid) (host.said mid))
-        (first.moments told) (second.moments told) (λ f s here. (λ n. (first.stops told).fewer n (f n) (here.0 n), here.1 ∙ first.quiet told));
-  }
-
   -- A run that only reads leaves a stop no more.
   pub reads_narrow : (old new : D) → OnlyReads host old new → Narrows host old new
   reads_narrow old new run = record {
@@ -135,6 +123,19 @@ module _ {D : Type 0} (host : Ghosts D) where
     moments = λ told. moments_join old mid new (Here (host.may_leave old) (host.said old)) (Here (host.may_leave mid) (host.said mid))
         (first.moments told) (second.moments told) (λ f s here. (λ n. first.fewer told n (f n) (here.0 n), here.1 ∙ first.quiet told));
   }
+
+  -- one run more
+  pub reads_join : (old mid new : D) → OnlyReads host old mid → OnlyReads host mid new → OnlyReads host old new
+  reads_join old mid new first second =
+      let run = narrows_join old mid new (reads_narrow old mid first) (reads_narrow mid new second) in
+      record {
+        disk = run.disk;
+        say = run.say;
+        alike = run.alike;
+        quiet = run.quiet;
+        stops = λ told. stops_join (host.may_leave old) (host.may_leave mid) (host.may_leave new) (first.stops told) (second.stops told);
+        moments = run.moments;
+      }
 
   -- what was synced stays so while there are only reads and syncs
   pub synced_on : (name : List ℕ) (old new : D) → IsSynced host name old → Narrows host old new → ReadsAlike host old new → IsSynced host name new

@@ -28,22 +28,18 @@ if_other n name one other differ = if_not n name one other differ (bytes_eq n na
 same_by_name : (name n : List ℕ) (own other : Option (List ℕ) → Type 0) (c : Option (List ℕ)) → own c → other c → ForName name n (own c) (other c)
 same_by_name name n own other c of_own of_other = ⊎_elim (λ same. inl (same, of_own)) (λ differ. inr (differ, of_other)) (same_or_other n name)
 
+-- a write that left a file as it could be
+write_stays : (name n : List ℕ) (at len : ℕ) (file old : Option (List ℕ)) (could : Option (List ℕ) → Type 0) → could old → ForName name n (Comes (TornByWrite file at len) could old) (could old)
+write_stays name n at len file old could can =
+    let end = length (bytes_of file) in
+    same_by_name name n (λ c. Comes (TornByWrite file at len) could c) could old (comes old can (torn_same end at len (max end (at + len)) old)) can
+
 old_may : (deeds : List Deed) (n : List ℕ) → MayLeave deeds n (old_after deeds n)
 old_may [] n = refl
 old_may (Put name bytes ∷ earlier) n =
     by_name name n (Some bytes) (old_after earlier n) (λ c. c ≡ Some bytes) (MayLeave earlier n) refl (old_may earlier n) (bytes_eq n name) refl
-old_may (Wrote name at bytes ∷ earlier) n =
-    let file = files_after earlier n in
-    let old = old_after earlier n in
-    let read = length (bytes_of file) in
-    same_by_name name n (λ c. Comes (TornByWrite file at (length bytes)) (MayLeave earlier n) c) (MayLeave earlier n) old
-    (comes old (old_may earlier n) (torn_same read at (length bytes) (max read (at + length bytes)) old)) (old_may earlier n)
-old_may (Tore name at bytes done ∷ earlier) n =
-    let file = files_after earlier n in
-    let old = old_after earlier n in
-    let read = length (bytes_of file) in
-    same_by_name name n (λ c. Comes (TornByWrite file at (length bytes)) (MayLeave earlier n) c) (MayLeave earlier n) old
-    (comes old (old_may earlier n) (torn_same read at (length bytes) (max read (at + length bytes)) old)) (old_may earlier n)
+old_may (Wrote name at bytes ∷ earlier) n = write_stays name n at (length bytes) (files_after earlier n) (old_after earlier n) (MayLeave earlier n) (old_may earlier n)
+old_may (Tore name at bytes done ∷ earlier) n = write_stays name n at (length bytes) (files_after earlier n) (old_after earlier n) (MayLeave earlier n) (old_may earlier n)
 old_may (Cut name len ∷ earlier) n =
     let file = files_after earlier n in
     let old = old_after earlier n in
@@ -60,24 +56,19 @@ long_by_name : (t : Bool) (one two other another : Option (List ℕ)) → length
 long_by_name true one two other another chosen unchanged = chosen
 long_by_name false one two other another chosen unchanged = unchanged
 
+-- two files of one length stay so where bytes are written in one, and as many others in the other
+wrote_long : (name n : List ℕ) (at : ℕ) (bytes : List ℕ) (left file : Option (List ℕ)) → length (bytes_of left) ≡ length (bytes_of file)
+    → length (bytes_of (if bytes_eq n name then Some (written at (ones (length bytes)) (bytes_of left)) else left)) ≡ length (bytes_of (if bytes_eq n name then Some (written at bytes (bytes_of file)) else file))
+wrote_long name n at bytes left file long =
+    let all = ones (length bytes) in
+    long_by_name (bytes_eq n name) (Some (written at all (bytes_of left))) (Some (written at bytes (bytes_of file))) left file
+    (omega (arith, (written_is at all left).long, (written_is at bytes file).long, long, length-replicate {A = ℕ} (length bytes) 255)) long
+
 ones_long : (deeds : List Deed) (n : List ℕ) → length (bytes_of (ones_after deeds n)) ≡ length (bytes_of (files_after deeds n))
 ones_long [] n = refl
 ones_long (Put name bytes ∷ earlier) n = long_by_name (bytes_eq n name) (Some bytes) (Some bytes) (ones_after earlier n) (files_after earlier n) refl (ones_long earlier n)
-ones_long (Wrote name at bytes ∷ earlier) n =
-    let file = files_after earlier n in
-    let left = ones_after earlier n in
-    let all = ones (length bytes) in
-    long_by_name (bytes_eq n name) (Some (written at all (bytes_of left))) (Some (written at bytes (bytes_of file))) left file
-    (omega (arith, (written_is at all left).long, (written_is at bytes file).long, ones_long earlier n, length-replicate {A = ℕ} (length bytes) 255))
-    (ones_long earlier n)
-ones_long (Tore name at bytes done ∷ earlier) n =
-    let file = files_after earlier n in
-    let left = ones_after earlier n in
-    let part = take done bytes in
-    let all = ones (length part) in
-    long_by_name (bytes_eq n name) (Some (written at all (bytes_of left))) (Some (written at part (bytes_of file))) left file
-    (omega (arith, (written_is at all left).long, (written_is at part file).long, ones_long earlier n, length-replicate {A = ℕ} (length part) 255))
-    (ones_long earlier n)
+ones_long (Wrote name at bytes ∷ earlier) n = wrote_long name n at bytes (ones_after earlier n) (files_after earlier n) (ones_long earlier n)
+ones_long (Tore name at bytes done ∷ earlier) n = wrote_long name n at (take done bytes) (ones_after earlier n) (files_after earlier n) (ones_long earlier n)
 ones_long (Cut name len ∷ earlier) n =
     let file = files_after earlier n in
     let left = ones_after earlier n in

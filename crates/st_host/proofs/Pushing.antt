@@ -1,13 +1,13 @@
 -- Runs of calls that add bytes follow each other.
-use Rattle.std.proofs.Common.{◌≡◌, ℕ, ◌≤◌, List, [], ◌++◌, length, take, IsTrue, refl, sym, subst, inl, arith, append_assoc, append-nil, length-append}
+use Rattle.std.proofs.Common.{◌≡◌, ℕ, ◌≤◌, List, [], ◌++◌, length, take, IsTrue, refl, sym, ap, subst, arith, append_assoc, append-nil, length-append}
 use Rattle.std.specs.Prelude.{Result, Ok, Err, OnOk, IsErr}
 use Rattle.st_host.specs.Files.{Files, bytes_of, KeepsBelow}
-use Rattle.st_host.specs.Stops.{comes, Here}
-use Rattle.st_host.specs.Runs.{Touched, Writes, Cuts, Syncs, WritesAbove}
+use Rattle.st_host.specs.Stops.{Here}
+use Rattle.st_host.specs.Runs.{Writes, Cuts, WritesAbove}
 use Rattle.st_host.specs.declared.host.Host.{Ghosts}
 use Rattle.st_host.proofs.Rising.{cause_after}
-use Rattle.st_host.proofs.Touching.{keeps_same, write_above, cut_above, sync_above, above_join}
-use Rattle.st_host.specs.Pieces.{Held, Holds, Adds, WritesFrom, Pushes}
+use Rattle.st_host.proofs.Touching.{keeps_same, touches_none, write_above, cut_above, above_join}
+use Rattle.st_host.specs.Pieces.{Held, end_of, Holds, Adds, WritesFrom, Pushes}
 
 module _ {D : Type 0} (host : Ghosts D) (name : List ℕ) where
   pub adds_join : (a b : List ℕ) (old mid new : D) (p q r : Held) → Adds host name a old mid p q → Adds host name b mid new q r → Adds host name (a ++ b) old new p r
@@ -27,23 +27,7 @@ module _ {D : Type 0} (host : Ghosts D) (name : List ℕ) where
   -- no call
   above_none : (floor : ℕ) (old : D) → (IsTrue host.is_told → (f : Files) (s : List ℕ) → host.left_since old (host.moment old) f s → Here (host.may_leave old) (host.said old) f s)
       → WritesAbove host floor name old old
-  above_none floor old only_now = record {
-    run = record {
-      disk = omega arith;
-      say = refl;
-      others = λ told. record { files = λ n other. refl; fewer = λ n c other can. can; more = λ n c other could. could };
-      quiet = λ told. refl;
-      own = λ told c can. comes c can (keeps_same floor c);
-      moments = λ told. record {
-        later = omega arith;
-        each = λ f s left. touched f s (only_now told f s left);
-        before = λ t f s le left. inl left;
-      };
-    };
-  }
-    where
-      touched : (f : Files) (s : List ℕ) → Here (host.may_leave old) (host.said old) f s → Touched host (KeepsBelow floor) name old f s
-      touched f s here = record { others = λ n other. here.0 n; own = comes (f name) (here.0 name) (keeps_same floor (f name)); quiet = here.1 }
+  above_none floor old only_now = record { run = touches_none host name (KeepsBelow floor) old (keeps_same floor) (λ f s told left. only_now told f s left) }
 
   pub from_none : (old : D) (p : Held) → (IsTrue host.is_told → (f : Files) (s : List ℕ) → host.left_since old (host.moment old) f s → Here (host.may_leave old) (host.said old) f s)
       → WritesFrom host p name old old
@@ -58,12 +42,6 @@ module _ {D : Type 0} (host : Ghosts D) (name : List ℕ) where
   pub cut_from : (p : Held) (len : ℕ) (old new : D) → p.at ≤ len → Cuts host name len old new → WritesFrom host p name old new
   cut_from p len old new low cuts = record {
     above = λ floor below long. cut_above host name floor len old new (omega arith) (λ told. omega (arith, long told)) cuts;
-  }
-
-  -- a sync behind it
-  pub sync_from : (p : Held) (old mid new : D) → WritesFrom host p name old mid → Syncs host name mid new → WritesFrom host p name old new
-  sync_from p old mid new first syncs = record {
-    above = λ floor low long. above_join host name floor old mid new (first.above floor low long) (sync_above host name floor mid new syncs);
   }
 
   -- what is held back begins within the file still
@@ -84,6 +62,14 @@ module _ {D : Type 0} (host : Ghosts D) (name : List ℕ) where
     above = λ floor low long. above_join host name floor old mid new (first.above floor low long)
         (second.above floor (omega arith) (λ told. still_there old mid p q told (text told) (long told)));
   }
+
+  -- what was held back was written, and the file cut behind it
+  pub cut_behind : (old mid new : D) (p q : Held) (len : ℕ) → WritesFrom host p name old mid → q ≡ record { at = end_of p; bytes = [] } → len ≡ end_of p
+      → (IsTrue host.is_told → (t : List ℕ) → Holds (host.files old name) p t → Holds (host.files mid name) q t)
+      → Cuts host name len mid new → WritesFrom host p name old new
+  cut_behind old mid new p q len first done same text cuts =
+      let at = ap (λ (h : Held). h.at) done in
+      from_join old mid new p q first (omega (arith, at)) text (cut_from q len mid new (omega (arith, at, same)) cuts)
 
   -- the same behind a run that added bytes
   pub from_adds : (bytes : List ℕ) (old mid new : D) (p q : Held) → WritesFrom host p name old mid → Adds host name bytes old mid p q → WritesFrom host q name mid new → WritesFrom host p name old new

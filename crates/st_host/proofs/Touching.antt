@@ -8,6 +8,7 @@ use Rattle.st_host.specs.Runs.{ReadsAlike, OnlyReads, Narrows, Touched, Touches,
 use Rattle.st_host.specs.declared.host.Host.{Ghosts}
 use Rattle.st_host.proofs.Rising.{rose_first, rose_second}
 use Rattle.st_host.proofs.Joining.{weaker, moments_join, moments_once}
+use Rattle.st_host.proofs.Telling.{OnlyNow}
 
 pub torn_same : (end at n len : ℕ) (file : Option (List ℕ)) → Torn end at n len file file
 torn_same end at n len file = record { absent = λ is. is; shortest = omega arith; longest = omega arith; same = λ i new was read out. refl }
@@ -45,13 +46,41 @@ wider : (R T : Option (List ℕ) → Option (List ℕ) → Type 0) (a : Option (
     → ((x y : Option (List ℕ)) → R x y → T x y) → Comes R a d → Comes T a d
 wider R T a d holds (comes x could step) = comes x could (holds x d step)
 
+-- what is as before behind two runs
+apart_join : (name : List ℕ) (a b c : Files) (could might can : List ℕ → Option (List ℕ) → Type 0) → Apart name a b could might → Apart name b c might can → Apart name a c could can
+apart_join name a b c could might can first second = record {
+  files = λ n other. second.files n other ∙ first.files n other;
+  fewer = λ n c other is. first.fewer n c other (second.fewer n c other is);
+  more = λ n c other was. second.more n c other (first.more n c other was);
+}
+
 stayed : (could : Option (List ℕ) → Type 0) (c : Option (List ℕ)) → Comes (λ x y. x ≡ y) could c → could c
 stayed could c (comes x was same) = subst could same was
 
 module _ {D : Type 0} (host : Ghosts D) (name : List ℕ) where
+  -- a file that stays has gone on by a step which leaves it as it was
+  touched_none : (R : Option (List ℕ) → Option (List ℕ) → Type 0) (old : D) (f : Files) (s : List ℕ) → ((file : Option (List ℕ)) → R file file)
+      → Here (host.may_leave old) (host.said old) f s → Touched host R name old f s
+  touched_none R old f s stays here = record { others = λ n other. here.0 n; own = comes (f name) (here.0 name) (stays (f name)); quiet = here.1 }
+
+  -- no call
+  pub touches_none : (R : Option (List ℕ) → Option (List ℕ) → Type 0) (old : D) → ((file : Option (List ℕ)) → R file file) → OnlyNow host old → Touches host R name old old
+  touches_none R old stays only_now = record {
+    disk = omega arith;
+    say = refl;
+    others = λ told. record { files = λ n other. refl; fewer = λ n c other can. can; more = λ n c other could. could };
+    quiet = λ told. refl;
+    own = λ told c can. comes c can (stays c);
+    moments = λ told. record {
+      later = omega arith;
+      each = λ f s left. touched_none R old f s stays (only_now f s told left);
+      before = λ t f s le left. inl left;
+    };
+  }
+
   -- one call
   pub touches_once : {T E : Type 0} (R : Option (List ℕ) → Option (List ℕ) → Type 0) (old new : D) (result : Result T E) → ((file : Option (List ℕ)) → R file file)
-      → (IsTrue host.is_told → (f : Files) (s : List ℕ) → host.left_since old (host.moment old) f s → Here (host.may_leave old) (host.said old) f s)
+      → OnlyNow host old
       → (IsTrue host.is_told → Apart name (host.files old) (host.files new) (host.may_leave old) (host.may_leave new))
       → (IsTrue host.is_told → host.said new ≡ host.said old)
       → (IsTrue host.is_told → Follows R (host.may_leave old name) (host.may_leave new name))
@@ -66,8 +95,8 @@ module _ {D : Type 0} (host : Ghosts D) (name : List ℕ) where
     quiet = quiet;
     own = own;
     moments = λ told. moments_once host old new (Here (host.may_leave old) (host.said old)) (Here (host.may_leave new) (host.said new)) (Touched host R name old)
-        (only_now told) (time told)
-        (λ f s here. record { others = λ n other. here.0 n; own = comes (f name) (here.0 name) (stays (f name)); quiet = here.1 })
+        (λ f s left. only_now f s told left) (time told)
+        (λ f s here. touched_none R old f s stays here)
         (λ f s here. record { others = λ n other. (others told).fewer n (f n) other (here.0 n); own = own told (f name) (here.0 name); quiet = here.1 ∙ quiet told });
   }
 
@@ -78,11 +107,7 @@ module _ {D : Type 0} (host : Ghosts D) (name : List ℕ) where
   touches_join R S T old mid new after holds first second = record {
     disk = omega (arith, first.disk, second.disk);
     say = second.say ∙ first.say;
-    others = λ told. record {
-      files = λ n other. (second.others told).files n other ∙ (first.others told).files n other;
-      fewer = λ n c other can. (first.others told).fewer n c other ((second.others told).fewer n c other can);
-      more = λ n c other could. (second.others told).more n c other ((first.others told).more n c other could);
-    };
+    others = λ told. apart_join name (host.files old) (host.files mid) (host.files new) (host.may_leave old) (host.may_leave mid) (host.may_leave new) (first.others told) (second.others told);
     quiet = λ told. second.quiet told ∙ first.quiet told;
     own = λ told c can. follows_join R S T (host.may_leave old name) (host.may_leave mid name) (host.may_leave new name) after (first.own told) c (second.own told c can);
     moments = λ told. moments_join host old mid new (Touched host T name old) (Touched host S name mid)
@@ -117,11 +142,6 @@ module _ {D : Type 0} (host : Ghosts D) (name : List ℕ) where
   pub cut_above : (floor len : ℕ) (old new : D) → floor ≤ len → (IsTrue host.is_told → floor ≤ length (bytes_of (host.files old name))) → Cuts host name len old new → WritesAbove host floor name old new
   cut_above floor len old new low long cuts = record {
     run = touches_wider (TornByCut (host.files old name) len) (KeepsBelow floor) old new (λ told x y torn. cut_keeps floor len (host.files old name) x y low (long told) torn) cuts.run;
-  }
-
-  pub sync_above : (floor : ℕ) (old new : D) → Syncs host name old new → WritesAbove host floor name old new
-  sync_above floor old new syncs = record {
-    run = touches_wider (λ x y. x ≡ y) (KeepsBelow floor) old new (λ told x y same. subst (KeepsBelow floor x) same (keeps_same floor x)) syncs.run;
   }
 
   -- many changes above a floor are one
@@ -159,11 +179,7 @@ module _ {D : Type 0} (host : Ghosts D) (name : List ℕ) where
   changes_join old mid new first second = record {
     disk = omega (arith, first.disk, second.disk);
     say = second.say ∙ first.say;
-    others = λ told. record {
-      files = λ n other. (second.others told).files n other ∙ (first.others told).files n other;
-      fewer = λ n c other can. (first.others told).fewer n c other ((second.others told).fewer n c other can);
-      more = λ n c other could. (second.others told).more n c other ((first.others told).more n c other could);
-    };
+    others = λ told. apart_join name (host.files old) (host.files mid) (host.files new) (host.may_leave old) (host.may_leave mid) (host.may_leave new) (first.others told) (second.others told);
     quiet = λ told. second.quiet told ∙ first.quiet told;
     moments = λ told. moments_join host old mid new (Elsewhere host name old) (Elsewhere host name mid) (first.moments told) (second.moments told)
         (λ f s so. (so.0 ∙ first.quiet told, λ n other. (first.others told).fewer n (f n) other (so.1 n other)));

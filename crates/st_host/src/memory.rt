@@ -1,6 +1,6 @@
 // A host in memory. It keeps each deed, so that a stop may leave all that the contract of a host allows.
 ghost use Rattle.std.specs.Prelude.{◌≡◌, ◌⊎◌, ◌↔◌, ◌++◌, ◌∷◌, [], ◌+◌, ◌-◌, ◌<◌, ◌≤◌, ℕ, min, List, length, take, reverse, IsTrue, true, IfOk, OnOk, OnErr, IsErr, IsSome, Option, Some, None, vec_len, vec_capacity};
-ghost use Rattle.st_host.specs.Counts.{one_more, Rose, HasCause};
+ghost use Rattle.st_host.specs.Counts.{one_more, Rises, HasCause};
 ghost use Rattle.st_host.specs.declared.memory.Next.TheVariants.{Does, Fails, Stops};
 ghost use Rattle.st_host.specs.HostState.{comes_first};
 ghost use Rattle.st_host.specs.Files.{length_of, bytes_of, IsRead};
@@ -267,8 +267,7 @@ impl MemHost {
     // Counts a disk fault.
     fn disk_fault(&mut self) -> HostFault
         ensures counted { self.new ≡ record self.old { disk_faults = one_more self.old.disk_faults } }
-        ensures later { self.old.disk_faults ≤ self.new.disk_faults }
-        ensures rose { Rose self.old.disk_faults self.new.disk_faults }
+        ensures rises { Rises self.old.disk_faults self.new.disk_faults }
     {
         self.disk_faults = self.disk_faults.saturating_add(1);
         HostFault
@@ -277,8 +276,7 @@ impl MemHost {
     // Counts a fault of `say`.
     fn say_fault(&mut self) -> SayFault
         ensures counted { self.new ≡ record self.old { say_faults = one_more self.old.say_faults } }
-        ensures later { self.old.say_faults ≤ self.new.say_faults }
-        ensures rose { Rose self.old.say_faults self.new.say_faults }
+        ensures rises { Rises self.old.say_faults self.new.say_faults }
     {
         self.say_faults = self.say_faults.saturating_add(1);
         SayFault

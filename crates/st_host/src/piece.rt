@@ -4,7 +4,7 @@ ghost use Rattle.st_host.specs.Counts.{HasCause};
 ghost use Rattle.st_host.specs.Runs.{IsSynced};
 ghost use Rattle.st_host.specs.Pieces.{end_of, Holds, WritesFrom, Pushes};
 
-use crate::{Host, HostFault, cut_file, sync_file, write_bytes};
+use crate::{Host, HostFault, cut_synced, write_bytes};
 use std::marker::Model;
 
 /// Bytes that are still to be written to a file, at most 512, and the place in it at which they begin.
@@ -112,8 +112,7 @@ impl Piece {
     {
         let mut piece = self;
         piece.flush(host, name)?;
-        cut_file(host, name, piece.at)?;
-        sync_file(host, name)?;
+        cut_synced(host, name, piece.at)?;
         Ok(piece.at)
     }
 }

@@ -18,8 +18,7 @@ pub fn write_bytes<H: Host>(
     ensures writes { Writes H.Host.own name.now at (length bytes.now) host.old host.new }
     ensures cause { HasCause (H.disk_faults host.old) (H.disk_faults host.new) result }
 {
-    host.write_at(name, at, bytes)?;
-    Ok(())
+    host.write_at(name, at, bytes)
 }
 
 /// Gives a file the length `len`. An absent file is made.
@@ -29,8 +28,7 @@ pub fn cut_file<H: Host>(host: &mut H, name: &str, len: u64) -> Result<(), HostF
     ensures cuts { Cuts H.Host.own name.now len host.old host.new }
     ensures cause { HasCause (H.disk_faults host.old) (H.disk_faults host.new) result }
 {
-    host.cut(name, len)?;
-    Ok(())
+    host.cut(name, len)
 }
 
 /// Makes a file stay as it reads.
@@ -42,8 +40,7 @@ pub fn sync_file<H: Host>(host: &mut H, name: &str) -> Result<(), HostFault>
     ensures syncs { Syncs H.Host.own name.now host.old host.new }
     ensures cause { HasCause (H.disk_faults host.old) (H.disk_faults host.new) result }
 {
-    host.sync(name)?;
-    Ok(())
+    host.sync(name)
 }
 
 /// Writes bytes, and makes the file stay so.
@@ -60,8 +57,7 @@ pub fn write_synced<H: Host>(
     ensures cause { HasCause (H.disk_faults host.old) (H.disk_faults host.new) result }
 {
     write_bytes(host, name, at, bytes)?;
-    sync_file(host, name)?;
-    Ok(())
+    sync_file(host, name)
 }
 
 /// Gives a file a length, and makes it stay so.
@@ -73,6 +69,5 @@ pub fn cut_synced<H: Host>(host: &mut H, name: &str, len: u64) -> Result<(), Hos
     ensures cause { HasCause (H.disk_faults host.old) (H.disk_faults host.new) result }
 {
     cut_file(host, name, len)?;
-    sync_file(host, name)?;
-    Ok(())
+    sync_file(host, name)
 }

@@ -1,5 +1,5 @@
 -- A well-formed image begins.
-use Rattle.std.proofs.Common.{◌≡◌, ℕ, List, refl, ◌≤◌, arith}
+use Rattle.std.proofs.Common.{◌≡◌, ℕ, List, refl, ◌≤◌}
 use Rattle.std.proofs.lemmas.Bool.{false_from_ne_true}
 use Rattle.st_model.specs.declared.fault.ImageFault.TheVariants.{Short, Lengths, Scheduler}
 use Rattle.st_model.specs.declared.head.ImageHead.{ImageHead}

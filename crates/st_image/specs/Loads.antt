@@ -7,7 +7,7 @@ use Rattle.st_model.specs.Table.{Table, entry, total_used}
 use Rattle.st_model.specs.Formed.{fresh}
 use Rattle.st_model.specs.View.{View, with_object}
 use Rattle.st_model.specs.Image.{entries_of, has_pointers, size, class, body, names, literal_count}
-use Rattle.st_model.specs.Start.{kind_in, fields_in, units_in, field_in, entry_in}
+use Rattle.st_model.specs.Start.{kind_in, fields_in, units_in, field_in, object_in, entry_in}
 use Rattle.st_image.specs.Sizes.{IsInside}
 use Rattle.st_image.specs.Shape.{size_as, literals_as}
 use Rattle.st_image.specs.declared.shape.Shape.{Shape}
@@ -24,8 +24,9 @@ pub record IsSound (h : ImageHead) (bytes : List ℕ) (k : ℕ) : Type 0 where
   pub header : is_method (kind_in h bytes k) ≡ true → body h bytes k 0 % 2 ≡ 1
   pub literals : is_method (kind_in h bytes k) ≡ true → literal_count (body h bytes k 0) + 3 ≤ size h bytes k
 
--- the shape of the object of entry k
+-- the shape of the object of entry k, which is sound
 pub record IsShape (h : ImageHead) (bytes : List ℕ) (k : ℕ) (shape : Shape) : Type 0 where
+  pub sound : IsSound h bytes k
   pub kind : shape.kind ≡ kind_in h bytes k
   pub fields : shape.fields ≡ fields_in h bytes k
   pub units : shape.units ≡ units_in h bytes k
@@ -65,6 +66,10 @@ pub record Puts (old new : View) (k : ℕ) (o : Object) : Type 0 where
   pub objects : new.objects ≡ with_object old.objects (Ref k) o
   pub held : new.held ≡ old.held
   pub head : new.head ≡ old.head
+
+-- place k was given the object of entry k
+abbrev pub PutsObject : View → View → ImageHead → List ℕ → ℕ → Type 0
+PutsObject old new h bytes k = Puts old new k (object_in h bytes k)
 
 -- no place has an object
 pub record IsEmpty (t : Table) : Type 0 where

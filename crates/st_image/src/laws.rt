@@ -44,5 +44,6 @@ pub fn image_back()
 pub fn can_start()
     ensures saved { (s t : State Births) (c : State Table) (v : View) → save births s ≡ Went tt t →
         Shows c t → v.objects ≡ c.memory → CanStart v }
-    ensures read { (h : ImageHead) (bytes : List ℕ) (v : View) (f : Frame) → IsStart h bytes v f → CanStart v }
+    ensures read { (h : ImageHead) (bytes : List ℕ) (v : View) (f : Frame) → IsStart h bytes v f
+        → CanStart v }
 {}

@@ -1,8 +1,8 @@
 ghost use Rattle.std.specs.Prelude.{◌≡◌, ◌*◌, ◌<◌, true, false, IfOk};
 ghost use Rattle.st_model.specs.{Values.{value, Ref}, Objects.is_words, Lists.made, Image.is_used};
-ghost use Rattle.st_model.specs.Start.{kind_in, object_in, entry_in, machine_head, start_view};
+ghost use Rattle.st_model.specs.Start.{kind_in, entry_in, machine_head, start_view};
 ghost use Rattle.st_image.specs.Rows.{IsCleanBelow};
-ghost use Rattle.st_image.specs.Loads.{IsSound, IsShape, HasRoom, fresh_in, filled_in, IsAt, IsEmpty, Puts};
+ghost use Rattle.st_image.specs.Loads.{IsSound, IsShape, HasRoom, fresh_in, filled_in, IsAt, IsEmpty, Puts, PutsObject};
 
 use crate::image::Image;
 use crate::shape::{Shape, shape_of};
@@ -23,7 +23,6 @@ fn pointer_of(k: usize) -> Oop
 /// Places the object of an entry in use, with nil in its fields and 0 in its units.
 fn place_object<L: Loader>(loader: &mut L, image: &Image<'_>, k: usize, shape: Shape)
     requires used { is_used image.now.head image.now.bytes.now k ≡ true }
-    requires sound { IsSound image.now.head image.now.bytes.now k }
     requires shape { IsShape image.now.head image.now.bytes.now k shape }
     requires room { HasRoom image.now.head image.now.bytes.now (L.loaded loader.old) k }
     ensures { Puts (L.loaded loader.old) (L.loaded loader.new) k
@@ -36,7 +35,6 @@ fn place_object<L: Loader>(loader: &mut L, image: &Image<'_>, k: usize, shape: S
 
 /// Stores the fields of an object that was placed.
 fn load_fields<L: Loader>(loader: &mut L, image: &Image<'_>, k: usize, shape: Shape)
-    requires sound { IsSound image.now.head image.now.bytes.now k }
     requires shape { IsShape image.now.head image.now.bytes.now k shape }
     requires at { IsAt (L.loaded loader.old) k (fresh_in image.now.head image.now.bytes.now k) }
     ensures { Puts (L.loaded loader.old) (L.loaded loader.new) k
@@ -49,12 +47,10 @@ fn load_fields<L: Loader>(loader: &mut L, image: &Image<'_>, k: usize, shape: Sh
 
 /// Stores the words of an object of words that was placed.
 fn load_words<L: Loader>(loader: &mut L, image: &Image<'_>, k: usize, shape: Shape)
-    requires sound { IsSound image.now.head image.now.bytes.now k }
     requires kind { is_words (kind_in image.now.head image.now.bytes.now k) ≡ true }
     requires shape { IsShape image.now.head image.now.bytes.now k shape }
     requires at { IsAt (L.loaded loader.old) k (filled_in image.now.head image.now.bytes.now k) }
-    ensures { Puts (L.loaded loader.old) (L.loaded loader.new) k
-        (object_in image.now.head image.now.bytes.now k) }
+    ensures { PutsObject (L.loaded loader.old) (L.loaded loader.new) image.now.head image.now.bytes.now k }
 {
     for i in 0..shape.units {
         loader.set_word(pointer_of(k), i as u32, image.body(k, i));
@@ -63,12 +59,10 @@ fn load_words<L: Loader>(loader: &mut L, image: &Image<'_>, k: usize, shape: Sha
 
 /// Stores the bytes of an object that has its fields.
 fn load_bytes<L: Loader>(loader: &mut L, image: &Image<'_>, k: usize, shape: Shape)
-    requires sound { IsSound image.now.head image.now.bytes.now k }
     requires kind { is_words (kind_in image.now.head image.now.bytes.now k) ≡ false }
     requires shape { IsShape image.now.head image.now.bytes.now k shape }
     requires at { IsAt (L.loaded loader.old) k (filled_in image.now.head image.now.bytes.now k) }
-    ensures { Puts (L.loaded loader.old) (L.loaded loader.new) k
-        (object_in image.now.head image.now.bytes.now k) }
+    ensures { PutsObject (L.loaded loader.old) (L.loaded loader.new) image.now.head image.now.bytes.now k }
 {
     let start = 512 + 2 * (image.place(k) + 2 + shape.fields);
     for i in 0..shape.units {
@@ -82,8 +76,7 @@ fn load_object<L: Loader>(loader: &mut L, image: &Image<'_>, k: usize)
     requires used { is_used image.now.head image.now.bytes.now k ≡ true }
     requires sound { IsSound image.now.head image.now.bytes.now k }
     requires room { HasRoom image.now.head image.now.bytes.now (L.loaded loader.old) k }
-    ensures { Puts (L.loaded loader.old) (L.loaded loader.new) k
-        (object_in image.now.head image.now.bytes.now k) }
+    ensures { PutsObject (L.loaded loader.old) (L.loaded loader.new) image.now.head image.now.bytes.now k }
 {
     let shape = shape_of(image, k);
     place_object(loader, image, k, shape);

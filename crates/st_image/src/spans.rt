@@ -2,7 +2,7 @@
 
 ghost use Rattle.std.specs.Prelude.{◌≡◌, ℕ, ◌+◌, ◌-◌, ◌<◌, ◌≤◌, List, length, slice_index, IfOk, IsTrue, ◌↔◌};
 ghost use Rattle.st_image.specs.declared.spans.Span.{Span};
-ghost use Rattle.st_image.specs.Spans.{SharesWord, IsFirstShared, AreWithin, owners_of, HasShared, IsNextSharing, IsCleared, count_below, begins_at, ends_at};
+ghost use Rattle.st_image.specs.Spans.{SharesWord, IsFirstShared, AreWithin, owners_of, HasShared, IsNextSharing, IsRoomFor, count_below, begins_at, ends_at};
 
 use std::alloc::{AllocError, Global};
 
@@ -37,11 +37,7 @@ fn has_shared(owners: &[u16], span: Span) -> bool
 
 /// Counts at each word the spans that begin there, and those that end there.
 fn tally(spans: &[Span], begins: &mut [u16], ends: &mut [u16])
-    requires few { length spans.now ≤ 32768 }
-    requires begins { IsCleared begins.old }
-    requires ends { IsCleared ends.old }
-    requires begins_within { AreWithin (length begins.old - 1) spans.now }
-    requires same { (0 < length begins.old) × (length ends.old ≡ length begins.old) }
+    requires { IsRoomFor spans.now begins.old ends.old }
     ensures begins { (w : ℕ) → w < length begins.old →
         slice_index begins.new w ≡ count_below (begins_at spans.now w) (length spans.now) }
     ensures ends { (w : ℕ) → w < length begins.old →
@@ -55,11 +51,7 @@ fn tally(spans: &[Span], begins: &mut [u16], ends: &mut [u16])
 
 /// Counts the spans that have each word. Of two lists of zeros the first takes the counts.
 fn count_into(spans: &[Span], owners: &mut [u16], ends: &mut [u16])
-    requires few { length spans.now ≤ 32768 }
-    requires owners { IsCleared owners.old }
-    requires ends { IsCleared ends.old }
-    requires within { AreWithin (length owners.old - 1) spans.now }
-    requires same { (0 < length owners.old) × (length ends.old ≡ length owners.old) }
+    requires { IsRoomFor spans.now owners.old ends.old }
     ensures { (w : ℕ) → w < length owners.old → slice_index owners.new w ≡ owners_of spans.now w }
 {
     tally(spans, owners, ends);

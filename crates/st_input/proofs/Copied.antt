@@ -1,5 +1,5 @@
 -- Where there is no BitBlt, nothing is copied.
-use Rattle.std.proofs.Common.{◌≡◌, true, false, Option, Some, None, is_some, refl}
+use Rattle.std.proofs.Common.{◌≡◌, false, Option, Some, None, is_some, refl}
 use Rattle.st_model.specs.declared.dead.Dead.{Dead}
 use Rattle.st_model.specs.declared.dead.Dead.TheVariants as dead
 use Rattle.st_model.specs.Values.{Value, Small, Ref}

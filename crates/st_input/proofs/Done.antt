@@ -2,19 +2,18 @@
 use Rattle.std.proofs.Common.{◌≡◌, ℕ, zero, suc, ◌+◌, ◌-◌, ◌<◌, ◌≤◌, List, [], ◌∷◌, length, Option, Some, None, Bool, true, false, refl, sym, ap, ◌∙◌, arith, is_some}
 use Rattle.std.specs.Prelude.{if◌then◌else◌, slice_set, unwrap_or, nat_le, nat_lt, ◌&&◌, ◌/◌, ◌%◌}
 use Rattle.std.proofs.lemmas.Bool.Decides.{nat_tests}
-use Rattle.st_model.specs.declared.kind.Kind.{Kind}
-use Rattle.st_model.specs.declared.kind.Kind.TheVariants as kind
 use Rattle.st_model.specs.Values.{Value, Small, Ref}
 use Rattle.st_model.specs.Objects.{Object, is_pointers, is_words, has_bytes, first_unit, size_of, with_field, object_with_unit}
 use Rattle.st_model.specs.Machine.{is_there}
 use Rattle.st_model.specs.Primitives.{bytes_within}
 use Rattle.st_model.specs.Table.{Table, table, entry, changed}
-use Rattle.st_model.specs.View.{is_live, object_of, with_unit, with_stored, nothing}
+use Rattle.st_model.specs.View.{View, is_live, object_of, with_unit, with_stored, nothing}
 use Rattle.st_model.specs.Deeds.{changed_object, changed_by, word_stored, byte_stored, bytes_stored}
 use Rattle.st_model.proofs.TableLemmas.{changed-some}
 use Rattle.st_model.proofs.KindTests.{bytes_pointers, bytes_words, words_pointers}
 use Rattle.st_model.proofs.Entries.{changed-again}
 use Rattle.st_model.proofs.Resting.{changed-itself}
+use Rattle.st_input.specs.Holding.{ChangesOne}
 use Rattle.st_memory.proofs.Wide.{small_not_live}
 
 -- an object that is there, or isn't
@@ -169,3 +168,7 @@ four_stored t v a b c d =
     ∙ by_both (λ o. byte_stored 2 c (byte_stored 1 b (byte_stored 0 a o))) (byte_stored 3 d) t v
 
 pub ruleset times = (four_stored)
+
+-- nothing is changed
+pub unchanged : (v : View) (f : Object → Object) (x : Value) → v.objects ≡ changed_by f v.objects x → ChangesOne v v f x
+unchanged v f x e = record { objects = e; held = refl; head = refl }

@@ -7,7 +7,7 @@ use Rattle.std.proofs.lemmas.Option.{get_or_from_slice_get}
 use Rattle.st_model.specs.declared.device.Device.{Device}
 use Rattle.st_model.specs.declared.device.Device.TheVariants as device
 use Rattle.st_model.specs.declared.place.RootPlace.TheVariants as place
-use Rattle.st_model.specs.Values.{Value, Ref, value_of}
+use Rattle.st_model.specs.Values.{Value, value_of}
 use Rattle.st_model.specs.Objects.{nil}
 use Rattle.st_model.specs.declared.page.PageObject.TheVariants.{NilObject}
 use Rattle.st_model.specs.Machine.{Devices, World}

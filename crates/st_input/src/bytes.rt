@@ -1,8 +1,7 @@
-ghost use Rattle.std.specs.Prelude.{◌≡◌, true, false, IfSome, IfNone};
-ghost use Rattle.st_model.specs.Values.{value, word};
+ghost use Rattle.st_model.specs.Values.{word};
 ghost use Rattle.st_model.specs.Objects.{is_bytes};
-ghost use Rattle.st_model.specs.View.{is_live, object_of};
-ghost use Rattle.st_model.specs.Deeds.{changed_by, bytes_replaced, bytes_from};
+ghost use Rattle.st_model.specs.Deeds.{bytes_replaced, bytes_from};
+ghost use Rattle.st_input.specs.{Named.NamesKind, Holding.ChangesOne};
 
 use crate::named::object_named;
 use st_memory::{Memory, copy_bytes};
@@ -11,11 +10,7 @@ use st_model::{Kind, Oop, Word};
 /// The object of kind Bytes that a word names, where one is there.
 #[tactic(auto, using(crate::proofs::Done::named_objects))]
 fn bytes_named<M: Memory>(m: &M, named: Word) -> Option<Oop>
-    ensures same { IfSome result (λ o. value o ≡ word named) }
-    ensures live { IfSome result (λ o. is_live (M.view m.now).objects (value o) ≡ true) }
-    ensures kind { IfSome result (λ o. is_bytes (object_of (M.view m.now).objects (value o)).kind ≡ true) }
-    ensures none { IfNone result (is_live (M.view m.now).objects (word named) ≡ true
-        → is_bytes (object_of (M.view m.now).objects (word named)).kind ≡ false) }
+    ensures { NamesKind is_bytes (M.view m.now).objects (word named) result }
 {
     let object = object_named(m, named)?;
     match m.kind(object) {
@@ -34,19 +29,14 @@ pub fn replace_bytes<M: Memory>(
     from: u32,
     count: u32,
 )
-    ensures objects { let old = (M.view m.old).objects in
-        (M.view m.new).objects
-        ≡ changed_by (bytes_replaced to (bytes_from old (word source) from count)) old (word target) }
-    ensures held { (M.view m.new).held ≡ (M.view m.old).held }
-    ensures head { (M.view m.new).head ≡ (M.view m.old).head }
+    ensures { ChangesOne (M.view m.old) (M.view m.new)
+        (bytes_replaced to (bytes_from (M.view m.old).objects (word source) from count)) (word target) }
 {
-    let into = match bytes_named(m, target) {
-        Some(into) => into,
-        None => return,
+    let Some(into) = bytes_named(m, target) else {
+        return;
     };
-    let source = match bytes_named(m, source) {
-        Some(source) => source,
-        None => return,
+    let Some(source) = bytes_named(m, source) else {
+        return;
     };
     let room = m.size(into).saturating_sub(to);
     let there = m.size(source).saturating_sub(from);

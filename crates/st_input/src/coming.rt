@@ -1,9 +1,8 @@
 ghost use Rattle.std.specs.Prelude.{◌≡◌, OnErr};
-ghost use Rattle.st_model.specs.Objects.{nil};
-ghost use Rattle.st_model.specs.Machine.{World as Surroundings};
+ghost use Rattle.st_model.specs.{Objects.nil, Machine.{World as Surroundings}};
 ghost use Rattle.st_model.specs.Events.{comes, is_due, word_comes, time_comes};
 ghost use Rattle.st_frames.specs.Naming.{IsNaming, naming};
-ghost use Rattle.st_input.specs.Coming.{HasPlace, came};
+ghost use Rattle.st_input.specs.{Coming.{HasPlace, came}, Holding.HoldsNamed};
 
 use crate::naming::{add_signal, signal_once};
 use st_frames::World;
@@ -33,9 +32,7 @@ fn add_word<M: Memory>(m: &mut M, w: &mut World, word: u16) -> Result<(), InputF
     requires named { IsNaming (M.view m.old).held w.old }
     ensures comes { word_comes nil word w.old ≡ came result w.new }
     ensures full { OnErr result (w.new ≡ w.old) }
-    ensures held { (M.view m.new).held ≡ naming (M.view m.old).held w.new }
-    ensures objects { (M.view m.new).objects ≡ (M.view m.old).objects }
-    ensures head { (M.view m.new).head ≡ (M.view m.old).head }
+    ensures memory { HoldsNamed (M.view m.old) (M.view m.new) w.new }
 {
     if w.waiting_count() >= 256 {
         return Err(InputFull);
@@ -65,9 +62,7 @@ fn set_time<M: Memory>(m: &mut M, w: &mut World, time: u32) -> Result<(), InputF
     requires named { IsNaming (M.view m.old).held w.old }
     ensures comes { time_comes nil time w.old ≡ came result w.new }
     ensures full { OnErr result (w.new ≡ w.old) }
-    ensures held { (M.view m.new).held ≡ naming (M.view m.old).held w.new }
-    ensures objects { (M.view m.new).objects ≡ (M.view m.old).objects }
-    ensures head { (M.view m.new).head ≡ (M.view m.old).head }
+    ensures memory { HoldsNamed (M.view m.old) (M.view m.new) w.new }
 {
     if !is_due(w, time) {
         w.set_millisecond_clock(time);

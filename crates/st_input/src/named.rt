@@ -12,9 +12,6 @@ pub fn object_named<M: Memory>(m: &M, named: Word) -> Option<Oop>
     ensures live { IfSome result (λ o. is_live (M.view m.now).objects (value o) ≡ true) }
     ensures gone { IfNone result (is_live (M.view m.now).objects (word named) ≡ false) }
 {
-    let found = match live_value(m, named) {
-        Some(found) => found,
-        None => return None,
-    };
+    let found = live_value(m, named)?;
     if found.is_small() { None } else { Some(found) }
 }

@@ -1,10 +1,7 @@
-ghost use Rattle.std.specs.Prelude.{◌≡◌, ◌<◌, length, IfSome};
-ghost use Rattle.std.specs.Option.{option_map};
-ghost use Rattle.st_model.specs.Values.{Value, value};
-ghost use Rattle.st_model.specs.Objects.{nil};
+ghost use Rattle.std.specs.{Prelude.{◌≡◌, ◌<◌, length, IfSome}, Option.option_map};
+ghost use Rattle.st_model.specs.{Values.{Value, value}, Objects.nil};
 ghost use Rattle.st_model.specs.Surroundings.{holding, newest_of, changed_world, Hold, AddSignal, TakeSignal};
-ghost use Rattle.st_model.specs.Events.{signalled_once};
-ghost use Rattle.st_model.specs.View.{Held, IsKnown, IsPlace, with_held};
+ghost use Rattle.st_model.specs.{Events.signalled_once, View.{Held, IsKnown, IsPlace, with_held}};
 ghost use Rattle.st_frames.specs.Naming.{IsNaming, naming};
 
 use st_frames::World;

@@ -1,10 +1,8 @@
 ghost use Rattle.std.specs.Prelude.{◌≡◌, true};
-ghost use Rattle.st_model.specs.Values.{value, word};
-ghost use Rattle.st_model.specs.Objects.{has_bytes};
-ghost use Rattle.st_model.specs.View.{is_live};
-ghost use Rattle.st_model.specs.Primitives.{bytes_of_number};
-ghost use Rattle.st_model.specs.Input.{four_bytes};
-ghost use Rattle.st_model.specs.Deeds.{changed_by, word_stored, byte_stored, bytes_stored};
+ghost use Rattle.st_model.specs.{Values.{value, word}, Objects.has_bytes, View.is_live};
+ghost use Rattle.st_model.specs.{Primitives.bytes_of_number, Input.four_bytes};
+ghost use Rattle.st_model.specs.Deeds.{word_stored, byte_stored, bytes_stored};
+ghost use Rattle.st_input.specs.Holding.{ChangesOne};
 
 use crate::named::object_named;
 use st_memory::{Memory, count_fields};
@@ -13,14 +11,10 @@ use st_model::{Kind, Oop, Word};
 /// Stores a word at a place of an object of kind Words.
 #[tactic(auto, using(st_memory::proofs::Bodies::bodies, crate::proofs::Done::words))]
 pub fn store_word<M: Memory>(m: &mut M, object: Word, place: u32, stored: u16)
-    ensures objects { (M.view m.new).objects
-        ≡ changed_by (word_stored place stored) (M.view m.old).objects (word object) }
-    ensures held { (M.view m.new).held ≡ (M.view m.old).held }
-    ensures head { (M.view m.new).head ≡ (M.view m.old).head }
+    ensures { ChangesOne (M.view m.old) (M.view m.new) (word_stored place stored) (word object) }
 {
-    let target = match object_named(m, object) {
-        Some(target) => target,
-        None => return,
+    let Some(target) = object_named(m, object) else {
+        return;
     };
     if !m.kind(target).is_words() {
         return;
@@ -44,10 +38,7 @@ fn has_bytes(kind: Kind) -> bool
 #[tactic(auto, using(st_memory::proofs::Bodies::bodies, crate::proofs::Done::bytes))]
 fn put_byte<M: Memory>(m: &mut M, target: Oop, place: u32, byte: u8)
     requires { is_live (M.view m.old).objects (value target) ≡ true }
-    ensures objects { (M.view m.new).objects
-        ≡ changed_by (byte_stored place byte) (M.view m.old).objects (value target) }
-    ensures held { (M.view m.new).held ≡ (M.view m.old).held }
-    ensures head { (M.view m.new).head ≡ (M.view m.old).head }
+    ensures { ChangesOne (M.view m.old) (M.view m.new) (byte_stored place byte) (value target) }
 {
     if !has_bytes(m.kind(target)) {
         return;
@@ -63,10 +54,7 @@ fn put_byte<M: Memory>(m: &mut M, target: Oop, place: u32, byte: u8)
 /// Stores a byte at a place of an object of kind Bytes or Method; of a Method from the first bytecode on.
 #[tactic(auto, using(crate::proofs::Done::gone_stays))]
 pub fn store_byte<M: Memory>(m: &mut M, object: Word, place: u32, byte: u8)
-    ensures objects { (M.view m.new).objects
-        ≡ changed_by (byte_stored place byte) (M.view m.old).objects (word object) }
-    ensures held { (M.view m.new).held ≡ (M.view m.old).held }
-    ensures head { (M.view m.new).head ≡ (M.view m.old).head }
+    ensures { ChangesOne (M.view m.old) (M.view m.new) (byte_stored place byte) (word object) }
 {
     if let Some(target) = object_named(m, object) {
         put_byte(m, target, place, byte);
@@ -75,10 +63,8 @@ pub fn store_byte<M: Memory>(m: &mut M, object: Word, place: u32, byte: u8)
 
 /// Stores the bytes of a number, the low one first, from the first place of an object on.
 pub fn store_number<M: Memory>(m: &mut M, object: Word, number: u128)
-    ensures objects { (M.view m.new).objects
-        ≡ changed_by (bytes_stored 0 (bytes_of_number number)) (M.view m.old).objects (word object) }
-    ensures held { (M.view m.new).held ≡ (M.view m.old).held }
-    ensures head { (M.view m.new).head ≡ (M.view m.old).head }
+    ensures { ChangesOne (M.view m.old) (M.view m.new)
+        (bytes_stored 0 (bytes_of_number number)) (word object) }
 {
     let mut left = number;
     for place in 0..16 {
@@ -94,10 +80,8 @@ pub fn store_number<M: Memory>(m: &mut M, object: Word, number: u128)
 /// Stores the four bytes of a time, the low one first, from the first place of an object on.
 #[tactic(auto, using(crate::proofs::Done::times))]
 pub fn store_time<M: Memory>(m: &mut M, object: Word, time: u32)
-    ensures objects { (M.view m.new).objects
-        ≡ changed_by (bytes_stored 0 (four_bytes time)) (M.view m.old).objects (word object) }
-    ensures held { (M.view m.new).held ≡ (M.view m.old).held }
-    ensures head { (M.view m.new).head ≡ (M.view m.old).head }
+    ensures { ChangesOne (M.view m.old) (M.view m.new)
+        (bytes_stored 0 (four_bytes time)) (word object) }
 {
     store_byte(m, object, 0, (time % 256) as u8);
     store_byte(m, object, 1, (time / 256 % 256) as u8);

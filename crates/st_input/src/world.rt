@@ -1,8 +1,8 @@
 ghost use Rattle.std.specs.Prelude.{◌≡◌, ◌&&◌, nat_le, if◌then◌else◌};
-ghost use Rattle.st_model.specs.declared.deed.Deed.TheVariants as deed;
-ghost use Rattle.st_model.specs.Surroundings.{changed_world, MoveMouse};
-ghost use Rattle.st_model.specs.Deeds.{world_done};
+ghost use Rattle.st_model.specs.{Surroundings.{changed_world, MoveMouse}, Deeds.world_done};
 ghost use Rattle.st_frames.specs.Naming.{IsNaming, naming};
+ghost use Rattle.st_input.specs.Holding.{HoldsNamed};
+ghost use Rattle.st_model.specs.declared.deed.Deed.TheVariants as deed;
 
 use crate::naming::{add_signal, hold};
 use st_frames::World;
@@ -13,9 +13,7 @@ use st_model::{Deed, Device, Oop, Word};
 fn hold_named<M: Memory>(m: &mut M, w: &mut World, device: Device, object: Word)
     requires named { IsNaming (M.view m.old).held w.old }
     ensures world { w.new ≡ world_done (deed.Hold device object) (M.view m.old).objects w.old }
-    ensures held { (M.view m.new).held ≡ naming (M.view m.old).held w.new }
-    ensures objects { (M.view m.new).objects ≡ (M.view m.old).objects }
-    ensures head { (M.view m.new).head ≡ (M.view m.old).head }
+    ensures memory { HoldsNamed (M.view m.old) (M.view m.new) w.new }
 {
     if let Some(held) = live_value(m, object) {
         hold(m, w, device, held);
@@ -26,9 +24,7 @@ fn hold_named<M: Memory>(m: &mut M, w: &mut World, device: Device, object: Word)
 fn set_timer<M: Memory>(m: &mut M, w: &mut World, semaphore: Word, due: u32)
     requires named { IsNaming (M.view m.old).held w.old }
     ensures world { w.new ≡ world_done (deed.SetTimer semaphore due) (M.view m.old).objects w.old }
-    ensures held { (M.view m.new).held ≡ naming (M.view m.old).held w.new }
-    ensures objects { (M.view m.new).objects ≡ (M.view m.old).objects }
-    ensures head { (M.view m.new).head ≡ (M.view m.old).head }
+    ensures memory { HoldsNamed (M.view m.old) (M.view m.new) w.new }
 {
     if let Some(timer) = live_value(m, semaphore) {
         hold(m, w, Device::Timer, timer);
@@ -41,9 +37,7 @@ fn set_timer<M: Memory>(m: &mut M, w: &mut World, semaphore: Word, due: u32)
 fn ring_timer<M: Memory>(m: &mut M, w: &mut World, semaphore: Word)
     requires named { IsNaming (M.view m.old).held w.old }
     ensures world { w.new ≡ world_done (deed.RingTimer semaphore) (M.view m.old).objects w.old }
-    ensures held { (M.view m.new).held ≡ naming (M.view m.old).held w.new }
-    ensures objects { (M.view m.new).objects ≡ (M.view m.old).objects }
-    ensures head { (M.view m.new).head ≡ (M.view m.old).head }
+    ensures memory { HoldsNamed (M.view m.old) (M.view m.new) w.new }
 {
     if !w.has_signal_room() {
         return;
@@ -59,9 +53,7 @@ fn set_low_space<M: Memory>(m: &mut M, w: &mut World, semaphore: Word, entries: 
     requires named { IsNaming (M.view m.old).held w.old }
     ensures world { w.new
         ≡ world_done (deed.SetLowSpace semaphore entries words) (M.view m.old).objects w.old }
-    ensures held { (M.view m.new).held ≡ naming (M.view m.old).held w.new }
-    ensures objects { (M.view m.new).objects ≡ (M.view m.old).objects }
-    ensures head { (M.view m.new).head ≡ (M.view m.old).head }
+    ensures memory { HoldsNamed (M.view m.old) (M.view m.new) w.new }
 {
     if let Some(warned) = live_value(m, semaphore) {
         hold(m, w, Device::LowSpace, warned);

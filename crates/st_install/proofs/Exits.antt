@@ -31,11 +31,11 @@ use Rattle.st_chunk.specs.Definitions.{Definition}
 use Rattle.st_protocol.specs.declared.refusal.Refusal.{Refusal}
 use Rattle.st_protocol.specs.declared.refusal.Refusal.TheVariants.{Syntax, Code}
 use Rattle.st_protocol.specs.Installing.{Refused}
-use Rattle.st_install.specs.Syntax.{IsSyntax, syntax}
+use Rattle.st_grammar.specs.Syntax.{IsSyntax, syntax}
 use Rattle.st_install.specs.Defining.{of_install, of_code, installed}
 use Rattle.st_install.specs.Unprepareds.{by_install, by_syntax, by_code}
 use Rattle.st_install.specs.Prepareds.{IsOver, PreparesAs}
-use Rattle.st_install.proofs.Syntaxes.{only}
+use Rattle.st_grammar.proofs.Syntaxes.{only}
 use Rattle.st_install.proofs.Joining.{refused_class, refused_syntax, refused_names, refused_code, refused_ready}
 
 -- the names that are listed give the same code as those that the code looks up

@@ -17,7 +17,7 @@ use Rattle.st_install.specs.Literals.{PlacedAll, place_owner}
 use Rattle.st_install.specs.Planning.{method_number, objects_with_method, grown_number, grown_if, sized, plan_objects, plan}
 use Rattle.st_install.specs.Dictionaries.{grows_for}
 use Rattle.st_install.specs.Shapes.{check_size}
-use Rattle.st_install.specs.Calls.{room_or, with_room, planned, ready}
+use Rattle.st_install.specs.Calls.{room_or, with_room, planned_for, planned, ready}
 use Rattle.st_install.proofs.GoesInstalling.{IsSoundPart, HasPlace}
 use Rattle.st_install.proofs.GoesReading.{Gives, gives_answer, gives_then, gives_next, gives_less, gives_both, Any, IfAny, gives_tried, gives_check, gives_or_die, gives_page, IsField, gives_field, gives_count, IsSoundTable}
 use Rattle.st_install.proofs.GoesPlans.{plan_with, get_in_front, get_seam, part_more}
@@ -204,7 +204,7 @@ module _ (s : State Table) (sound : IsSoundTable s.memory) (association value : 
         some_value q = cc
 
     planned_arranged : (head : Head) → head.symbols ≡ Some association → (name : List ℕ) (meta : Bool) → Gives s (planned table head class name meta parts) (λ x. IsArranged class x)
-    unfolding planned
+    unfolding planned planned_for
     planned_arranged head symbols name meta =
         gives_then s _ _ _ _ (gives_or_die s dead.Field head.globals)
         (λ globals e. gives_then s _ _ _ _ (association_gives s sound class has parts headed header globals name)

@@ -25,7 +25,7 @@ use Rattle.st_install.specs.Dictionaries.{Ending, Holds, Vacant, Nowhere, count_
 use Rattle.st_scope.specs.Shapes.{is_power_of_two, check_dictionary}
 use Rattle.st_install.specs.Shapes.{check_size}
 use Rattle.st_install.specs.Planning.{method_number, objects_with_method, grown_number, grown_if, sized, plan_objects, plan}
-use Rattle.st_install.specs.Calls.{both, is_crowded, room_or, with_room, planned, ready}
+use Rattle.st_install.specs.Calls.{both, is_crowded, room_or, with_room, planned_for, planned, ready}
 use Rattle.st_install.proofs.Goes.{object_at, Tells}
 use Rattle.st_install.proofs.GoesMaking.{IsClassFor, CanMake, HasRoom}
 use Rattle.st_install.proofs.GoesStoring.{HasFields, there_at}
@@ -317,7 +317,7 @@ module _ (s : State Table) (sound : IsSoundTable s.memory) (class : Value) (has 
       (λ a k. gives_answer s _ v (has_two s sound v c f)))))
 
   pub planned_gives : (head : Head) (name : List ℕ) (meta : Bool) → Gives s (planned table head class name meta parts) (λ x. IsSoundPlan s.memory x)
-  unfolding planned
+  unfolding planned planned_for
   planned_gives head name meta =
       gives_then s _ _ _ _ (gives_or_die s dead.Field head.globals)
       (λ globals e. gives_then s _ _ _ _ (association_gives globals name)

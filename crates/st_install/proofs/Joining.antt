@@ -22,7 +22,7 @@ use Rattle.st_install.proofs.SameHeaders.{code_header}
 use Rattle.st_chunk.specs.Definitions.{Definition}
 use Rattle.st_protocol.specs.declared.refusal.Refusal.{Refusal}
 use Rattle.st_protocol.specs.Installing.{Refused, Accepted}
-use Rattle.st_install.specs.Syntax.{syntax}
+use Rattle.st_grammar.specs.Syntax.{syntax}
 use Rattle.st_install.specs.Defining.{of_syntax, of_code, of_install, Prepared, with_plan, prepare_code, prepare_under, prepare_tree, prepare_in, prepare, carry_out, define, outcome_of, installed}
 
 module _ {H A B : Type 0} where

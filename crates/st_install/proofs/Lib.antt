@@ -71,6 +71,4 @@ pub mod Exits
 pub mod Headed
 mod Rows
 pub mod Selectors
-pub mod Scanned
-pub mod Syntaxes
 pub mod Arities

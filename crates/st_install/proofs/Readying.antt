@@ -9,10 +9,10 @@ use Rattle.st_model.specs.declared.oop.Oop.{Oop}
 use Rattle.st_model.specs.declared.page.PageObject.TheVariants.{MethodClass}
 use Rattle.st_model.specs.Values.{Value, Ref, value, value_of}
 use Rattle.st_model.specs.Objects.{place_of}
-use Rattle.st_model.specs.Machine.{Head, State, Died, Went, Step, answer}
+use Rattle.st_model.specs.Machine.{Head, State, Died, Went, Step, after, answer, or_left, tried, ◌>>=◌}
 use Rattle.st_model.specs.Table.{Table, table}
 use Rattle.st_model.specs.Calls.{Reads}
-use Rattle.st_model.specs.View.{table_of}
+use Rattle.st_model.specs.View.{View, table_of}
 use Rattle.st_model.proofs.Runs.{run-then, after-went, after-died, run-some, run-none, run-tried_went, run-tried_died}
 use Rattle.st_emit.specs.declared.literal.Literal.{Literal}
 use Rattle.st_emit.specs.Views.{literals_view}
@@ -25,21 +25,22 @@ use Rattle.st_install.specs.declared.plan.NewObject.{NewObject as CodeObject}
 use Rattle.st_install.specs.declared.plan.Part.{Part as CodePart}
 use Rattle.st_install.specs.declared.plan.Ready.{Ready}
 use Rattle.st_install.specs.declared.planning.PlanDraft.{PlanDraft}
-use Rattle.st_install.specs.declared.single.Owner.{Owner}
+use Rattle.st_scope.specs.declared.classes.Owner.{Owner}
 use Rattle.st_install.specs.declared.symbol_plan.SymbolPlan.{SymbolPlan}
 use Rattle.st_scope.specs.declared.unread.Unread.{Unread}
 use Rattle.st_scope.specs.declared.unread.Unread.TheVariants.{Dies, OutOfMemory}
 use Rattle.st_install.specs.Plans.{There, Plan, method_object}
 use Rattle.st_install.specs.Symbols.{symbol_part, symbols_in, symbols_for}
 use Rattle.st_scope.specs.Classes.{class_association}
+use Rattle.st_scope.specs.Owners.{IsOwner}
 use Rattle.st_install.specs.Literals.{PlacedAll}
-use Rattle.st_install.specs.Calls.{planned, ready, with_room}
+use Rattle.st_install.specs.Calls.{planned_for, planned, ready_for, ready, with_room}
 use Rattle.st_install.specs.Readies.{part_of, parts_of, object_of, objects_of, stores_of, plan_of}
 use Rattle.st_scope.specs.Findings.{Finds}
 use Rattle.st_install.specs.Told.{named_of, ArePlaced, PlacesAll, literals_step}
 use Rattle.st_install.specs.Naming.{Names, TellsNames}
 use Rattle.st_install.specs.Rooms.{TellsReady}
-use Rattle.st_install.specs.PlanDrafts.{IsDraft, method_of, TellsPlan, plan_step}
+use Rattle.st_install.specs.PlanDrafts.{IsDraft, method_of, TellsPlan, plan_step, planned_step, ready_step}
 use Rattle.st_install.proofs.Planned.{unnamed, unplaced, all_placed, no_selector, planned_as}
 
 -- THE PLAN
@@ -101,6 +102,16 @@ module _ (symbol_table : Value) (o : Owner) (t : Table) (p : MethodParts) where
             ∙ h (parts_view p) n.symbols (all_placed symbol_table o (parts_view p) t q n ls same_literals new ps e) is_method is_draft s f
         whole (Err OutOfMemory) h = tt
 
+-- what a step tells, one that does the same tells
+told : (m n : Step Table (Result Plan InstallFault)) (t : Table) → ((s : State Table) → s.memory ≡ t → n.run s ≡ m.run s)
+    → (r : Result Ready InstallFault) → TellsReady m t r → TellsReady n t r
+told m n t same (Ok r) h = λ s f. same s f ∙ h s f
+told m n t same (Err fault.NoClass) h = λ s f. same s f ∙ h s f
+told m n t same (Err fault.NoGlobals) h = λ s f. same s f ∙ h s f
+told m n t same (Err (fault.NoRoom d)) h = λ s f. same s f ∙ h s f
+told m n t same (Err fault.Shape) h = λ s f. same s f ∙ h s f
+told m n t same (Err fault.OutOfMemory) h = tt
+
 -- TABLES OF THE HEAD
 
 pub head_none : (w : ℕ) (o : Option Value) → table_of w ≡ o → w ≡ 0 → o ≡ None
@@ -117,46 +128,69 @@ head_some w o e z = by (w == 0) refl e
     by true q e = absurd (z (grind (arith, nat_tests)))
     by false q e = sym e
 
-module _ (head : Head) (class : Value) (name : List ℕ) (meta : Bool) (parts : PartsView) (t : Table) where
-  pub no_globals : head.globals ≡ None → (s : State Table) → s.memory ≡ t → (planned table head class name meta parts).run s ≡ Died dead.Field
-  unfolding planned
-  no_globals e s f = simp (run-then, run-none dead.Field head.globals s e, after-died) refl
+module _ (head : Head) (o : Owner) (parts : PartsView) (t : Table) where
+  pub no_symbols : head.symbols ≡ None → (s : State Table) → s.memory ≡ t → (planned_step head o parts).run s ≡ Died dead.Field
+  unfolding planned_for
+  no_symbols y s f = simp (run-then, run-none dead.Field head.symbols s y, after-died) refl
 
-  module _ (w : Value) (e : head.globals ≡ Some w) where
-    pub no_association : (k : Dead) → Reads (class_association table w name) value t (Err k) → (s : State Table) → s.memory ≡ t → (planned table head class name meta parts).run s ≡ Died k
-    unfolding planned
-    no_association k a s f = simp (run-then, run-some dead.Field head.globals w s e, after-went, a s f, after-died) refl
+  module _ (v : Value) (y : head.symbols ≡ Some v) where
+    opened : (s : State Table) → (planned_step head o parts).run s ≡ (plan_step v o parts).run s
+    unfolding planned_for
+    opened s = simp (run-then, run-some dead.Field head.symbols v s y, after-went) refl
 
-    module _ (association : Oop) (a : Reads (class_association table w name) value t (Ok association)) where
-      pub no_symbols : head.symbols ≡ None → (s : State Table) → s.memory ≡ t → (planned table head class name meta parts).run s ≡ Died dead.Field
-      unfolding planned
-      no_symbols y s f = simp (run-then, run-some dead.Field head.globals w s e, after-went, a s f, run-none dead.Field head.symbols s y, after-died) refl
-
-      module _ (v : Value) (y : head.symbols ≡ Some v) (o : Owner) (x : o.association ≡ association) (c : value o.class ≡ class) (z : o.meta ≡ meta) where
-        opened : (s : State Table) → s.memory ≡ t → (planned table head class name meta parts).run s ≡ (plan_step v o parts).run s
-        unfolding planned
-        opened s f = simp (run-then, run-some dead.Field head.globals w s e, after-went, a s f, run-some dead.Field head.symbols v s y) (rw (← x, ← c, ← z) refl)
-
-        pub planned_by : (r : Result Ready Unread) → Finds (plan_step v o parts) plan_of t r → Finds (planned table head class name meta parts) plan_of t r
-        planned_by (Ok r) h = λ s f. opened s f ∙ h s f
-        planned_by (Err (Dies k)) h = λ s f. opened s f ∙ h s f
-        planned_by (Err OutOfMemory) h = tt
+    pub planned_by : (r : Result Ready Unread) → Finds (plan_step v o parts) plan_of t r → Finds (planned_step head o parts) plan_of t r
+    planned_by (Ok r) h = λ s f. opened s ∙ h s f
+    planned_by (Err (Dies k)) h = λ s f. opened s ∙ h s f
+    planned_by (Err OutOfMemory) h = tt
 
   -- ROOM
 
-  module _ (p : Ready) (e : Finds (planned table head class name meta parts) plan_of t (Ok p)) where
-    roomed : (s : State Table) → s.memory ≡ t → (ready table head class name meta parts).run s ≡ (with_room table head (Some (plan_of p))).run s
-    unfolding ready
-    roomed s f = simp (run-then, run-tried_went (planned table head class name meta parts) s s (plan_of p) (e s f), after-went) refl
+  module _ (p : Ready) (e : Finds (planned_step head o parts) plan_of t (Ok p)) where
+    roomed : (s : State Table) → s.memory ≡ t → (ready_step head o parts).run s ≡ (with_room table head (Some (plan_of p))).run s
+    unfolding ready_for
+    roomed s f = simp (run-then, run-tried_went (planned_step head o parts) s s (plan_of p) (e s f), after-went) refl
 
-    pub ready_by : (r : Result Ready InstallFault) → TellsReady (with_room table head (Some (plan_of p))) t r → TellsReady (ready table head class name meta parts) t r
-    ready_by (Ok r) h = λ s f. roomed s f ∙ h s f
-    ready_by (Err fault.NoClass) h = λ s f. roomed s f ∙ h s f
-    ready_by (Err fault.NoGlobals) h = λ s f. roomed s f ∙ h s f
-    ready_by (Err (fault.NoRoom d)) h = λ s f. roomed s f ∙ h s f
-    ready_by (Err fault.Shape) h = λ s f. roomed s f ∙ h s f
-    ready_by (Err fault.OutOfMemory) h = tt
+    pub ready_by : (r : Result Ready InstallFault) → TellsReady (with_room table head (Some (plan_of p))) t r → TellsReady (ready_step head o parts) t r
+    ready_by r h = told (with_room table head (Some (plan_of p))) (ready_step head o parts) t roomed r h
 
-  pub no_shape : (k : Dead) → Finds (planned table head class name meta parts) plan_of t (Err (Dies k)) → (s : State Table) → s.memory ≡ t → (ready table head class name meta parts).run s ≡ Went (Err fault.Shape) s
-  unfolding ready with_room answer
-  no_shape k e s f = simp (run-then, run-tried_died (planned table head class name meta parts) s k (e s f), after-went) refl
+  pub no_shape : (k : Dead) → Finds (planned_step head o parts) plan_of t (Err (Dies k)) → (s : State Table) → s.memory ≡ t → (ready_step head o parts).run s ≡ Went (Err fault.Shape) s
+  unfolding ready_for with_room answer
+  no_shape k e s f = simp (run-then, run-tried_died (planned_step head o parts) s k (e s f), after-went) refl
+
+-- THE CLASS BY ITS NAME
+
+-- what dies is not ready, and what does the same is as ready
+module _ (head : Head) (p : Step Table Plan) (s : State Table) where
+  unplanned : (k : Dead) → p.run s ≡ Died k → (tried p >>= with_room table head).run s ≡ Went (Err fault.Shape) s
+  unfolding with_room answer
+  unplanned k e = simp (run-then, run-tried_died p s k e, after-went) refl
+
+  as_ready : (q : Step Table Plan) → p.run s ≡ q.run s → (tried p >>= with_room table head).run s ≡ (tried q >>= with_room table head).run s
+  unfolding tried ◌>>=◌
+  as_ready q e = ap (λ x. after (or_left s x) (λ a z. (with_room table head a).run z)) e
+
+module _ (head : Head) (class : Value) (name : List ℕ) (meta : Bool) (parts : PartsView) (t : Table) where
+  pub no_globals : head.globals ≡ None → (s : State Table) → s.memory ≡ t → (ready table head class name meta parts).run s ≡ Went (Err fault.Shape) s
+  unfolding ready planned
+  no_globals e s f = unplanned head (planned table head class name meta parts) s dead.Field (simp (run-then, run-none dead.Field head.globals s e, after-died) refl)
+
+  module _ (w : Value) (e : head.globals ≡ Some w) where
+    pub no_association : (k : Dead) → Reads (class_association table w name) value t (Err k) → (s : State Table) → s.memory ≡ t → (ready table head class name meta parts).run s ≡ Went (Err fault.Shape) s
+    unfolding ready planned
+    no_association k a s f = unplanned head (planned table head class name meta parts) s k (simp (run-then, run-some dead.Field head.globals w s e, after-went, a s f, after-died) refl)
+
+    module _ (association : Oop) (a : Reads (class_association table w name) value t (Ok association)) where
+      of_class : (s : State Table) → s.memory ≡ t → (ready table head class name meta parts).run s ≡ (ready_for table head (value association) class meta parts).run s
+      unfolding ready ready_for planned
+      of_class s f = as_ready head (planned table head class name meta parts) s (planned_for table head (value association) class meta parts)
+          (simp (run-then, run-some dead.Field head.globals w s e, after-went, a s f) refl)
+
+      pub ready_of : (r : Result Ready InstallFault) → TellsReady (ready_for table head (value association) class meta parts) t r → TellsReady (ready table head class name meta parts) t r
+      ready_of r h = told (ready_for table head (value association) class meta parts) (ready table head class name meta parts) t of_class r h
+
+-- what is ready for the owner that was found by a name is ready for the name
+pub ready_by_name : (v : View) (name : List ℕ) (meta : Bool) (o : Owner) → IsOwner v name meta o → (parts : PartsView) (r : Result Ready InstallFault)
+    → TellsReady (ready_step v.head o parts) v.objects r → TellsReady (ready table v.head (value o.class) name meta parts) v.objects r
+ready_by_name v name meta o is parts r h =
+    ready_of v.head (value o.class) name meta parts v.objects is.global.globals is.global.is o.association is.global.association r
+    (subst (λ b. TellsReady (ready_for table v.head (value o.association) (value o.class) b parts) v.objects r) is.side h)

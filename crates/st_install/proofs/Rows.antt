@@ -3,7 +3,7 @@ use Rattle.std.proofs.Common.{◌≡◌, ℕ, List, [], Ok, Err, refl, true, Non
 use Rattle.std.specs.Prelude.{codes}
 use Rattle.st_scan.specs.Views.{MethodView, variable, statement, no_statements}
 use Rattle.st_scan.specs.declared.fault.Cause.TheVariants.{Expected, Trailing, Unclosed}
-use Rattle.st_install.specs.Syntax.{syntax}
+use Rattle.st_grammar.specs.Syntax.{syntax}
 use Rattle.st_install.proofs.DefinitionOpened.{opened}
 
 -- a method that returns a variable

@@ -6,7 +6,7 @@ use Rattle.st_model.specs.Machine.{Head, State, Transition, Died, Went, Step, an
 use Rattle.st_model.specs.Births.{Births, births}
 use Rattle.st_model.specs.Table.{Table, table}
 use Rattle.st_model.proofs.Names.{all_append}
-use Rattle.st_simulation.proofs.Same.{IsLiveOption}
+use Rattle.st_simulation.proofs.Same.{IsLiveOption, no_values-named}
 use Rattle.st_simulation.proofs.HeapsSame.{same_used}
 use Rattle.st_simulation.proofs.Started.{naming, heaps_start}
 use Rattle.st_scan.specs.Views.{MethodView}
@@ -15,10 +15,10 @@ use Rattle.st_scope.specs.declared.fault.InstallFault.{InstallFault}
 use Rattle.st_scope.specs.declared.fault.InstallFault.TheVariants.{NoClass, NoRoom}
 use Rattle.st_install.specs.Plans.{NewObject, Plan, words_of_all, demand_of_all}
 use Rattle.st_scope.specs.Calls.{or_fault, class_among, class_of_name, as_table, names_seen, names}
-use Rattle.st_install.specs.Calls.{both, is_crowded, room_or, with_room, planned, ready}
+use Rattle.st_install.specs.Calls.{both, is_crowded, room_or, with_room, planned_for, planned, ready}
 use Rattle.st_install.specs.SamePlans.{renamed_objects, renamed_plan, renamed_class, IsLiveClass, renamed_ready, IsLiveReady, as_it_was, IsNameless}
 use Rattle.st_install.specs.Same.{AnswersAlike, HasHeader, ClassShows, NamesShow, ReadyShows}
-use Rattle.st_install.proofs.SameReads.{Shown, lives, name, TransitionAlike, Alike, ValueAlike, ValuesAlike, OptionalAlike, AlikeAnswer, IsLiveAny, any_renamed, then-alike, then_value-alike, then_option-alike, then_answer-alike, answer-alike, tried-alike, tried_value-alike, no_values-alike, joins_alike}
+use Rattle.st_install.proofs.SameReads.{Shown, lives, name, TransitionAlike, Alike, ValueAlike, ValuesAlike, OptionalAlike, AlikeAnswer, IsLiveAny, any_renamed, then-alike, then_value-alike, then_option-alike, then_answer-alike, answer-alike, tried-alike, tried_value-alike, joins_alike}
 use Rattle.st_install.proofs.SameSteps.{reads_alike, value_or_die-alike}
 use Rattle.st_install.proofs.SameTables.{class_association-alike, class_named-alike, lineage-alike, then_lineage-alike}
 use Rattle.st_install.proofs.SameNames.{append-alike, field_names-alike, pools-alike, shared_names-alike, check_dictionary-alike, check_symbols-alike}
@@ -107,7 +107,7 @@ module _ (z : Shown) where
   -- NAMES
 
   as_table-alike : (a b : Option Value) → OptionalAlike z a b → ValuesAlike z (as_table a) (as_table b)
-  as_table-alike None b h = rw h.is (no_values-alike z)
+  as_table-alike None b h = rw h.is (no_values-named _ _)
   as_table-alike (Some v) b h = rw h.is (record { live = (h.live, tt); is = refl })
 
   some-same : (a b : Option Value) → OptionalAlike z a b → is_some b ≡ is_some a
@@ -173,7 +173,7 @@ module _ (z : Shown) where
 
   planned-alike : (v w : Value) (text : List ℕ) (meta : Bool) (parts : PartsView) → ValueAlike z v w → HasHeader parts
       → AlikePlan z (planned births z.births.head v text meta parts) (planned table z.table.head w text meta parts)
-  unfolding planned
+  unfolding planned planned_for
   planned-alike v w text meta parts h e =
       let g = globals-alike in
       let s = symbols-alike in

@@ -6,7 +6,7 @@ use Rattle.st_model.specs.declared.kind.Kind.TheVariants as kind
 use Rattle.st_model.specs.Values.{Value, Small, Ref, renamed, renamed_all, IsLive, AllLive}
 use Rattle.st_model.specs.Machine.{ObjectMemory, Step, answer}
 use Rattle.st_model.specs.Steps.{store_fields}
-use Rattle.st_simulation.proofs.Same.{Simulation, ValueSame, ValuesSame, Same, SameValue, SameValues, SameAnswer, length-renamed, then-same, then_value-same, then_values-same, then_unit-same, answer-same, answer_values-same, values-same, steps_same}
+use Rattle.st_simulation.proofs.Same.{Simulation, ValueSame, ValuesSame, Same, SameValue, SameValues, SameAnswer, length-renamed, then-same, then_value-same, then_values-same, then_unit-same, answer-same, answer_values-same, values-named, steps_same}
 use Rattle.st_simulation.proofs.StepsSame.{make-same, parts_same}
 use Rattle.st_simulation.proofs.LookupSame.{half_word-same}
 use Rattle.st_install.specs.Plans.{Part, There, Made, NewObject, Store, Plan}
@@ -44,7 +44,7 @@ module _ {H K : Type 0} {M : ObjectMemory H} {N : ObjectMemory K} (sim : Simulat
   make_all-same [] m h = search steps_same
   make_all-same (o ∷ os) m h =
       then_value-same sim _ _ _ _ _ _ (make_new-same o m h.0)
-      (λ v w a. then_values-same sim _ _ _ _ _ _ (make_all-same os m h.1) (λ vs ws b. answer_values-same sim _ _ (values-same sim v w vs ws a b)))
+      (λ v w a. then_values-same sim _ _ _ _ _ _ (make_all-same os m h.1) (λ vs ws b. answer_values-same sim _ _ (values-named _ _ v w vs ws a b)))
 
   -- what parts are
 
@@ -69,7 +69,7 @@ module _ {H K : Type 0} {M : ObjectMemory H} {N : ObjectMemory K} (sim : Simulat
   part_values-same : (nil nil' : Value) (vs ws : List Value) (ps : List Part) → ValueSame sim nil nil' → ValuesSame sim vs ws → AllLiveParts sim.live ps
       → ValuesSame sim (part_values nil vs ps) (part_values nil' ws (renamed_parts sim.name ps))
   part_values-same nil nil' vs ws [] n h l = record { live = tt; is = refl }
-  part_values-same nil nil' vs ws (p ∷ ps) n h l = values-same sim _ _ _ _ (part_value-same nil nil' vs ws p n h l.0) (part_values-same nil nil' vs ws ps n h l.1)
+  part_values-same nil nil' vs ws (p ∷ ps) n h l = values-named _ _ _ _ _ _ (part_value-same nil nil' vs ws p n h l.0) (part_values-same nil nil' vs ws ps n h l.1)
 
   -- how objects are filled
 
@@ -130,28 +130,19 @@ module _ {H K : Type 0} {M : ObjectMemory H} {N : ObjectMemory K} (sim : Simulat
   ends_at-same k false true c d o p e f h = rw (e, f) (search steps_same)
   ends_at-same k false false c d o p e f h = rw (e, f) h
 
-  seek_at-same : (v w x y : Value) (k : ℕ) (o : Step H Ending) (p : Step K Ending) → ValueSame sim v w → ValueSame sim x y → SameAnswer sim o p
-      → SameAnswer sim (seek_at M v x k o) (seek_at N w y k p)
-  unfolding seek_at
-  seek_at-same v w x y k o p h l s = search (parts_same, ends_at-same) depth 16 fits 4000
-
   seek_among-same : (v w x y : Value) (k left : ℕ) (o : Step H Ending) (p : Step K Ending) → ValueSame sim v w → ValueSame sim x y → SameAnswer sim o p
       → SameAnswer sim (seek_among M v x k left o) (seek_among N w y k left p)
-  unfolding seek_among
+  unfolding seek_among seek_at
   seek_among-same v w x y k zero o p h l s = s
-  seek_among-same v w x y k (suc left) o p h l s = seek_at-same v w x y k _ _ h l (seek_among-same v w x y (suc k) left o p h l s)
-
-  seek_from-same : (v w x y : Value) (places start : ℕ) → ValueSame sim v w → ValueSame sim x y → SameAnswer sim (seek_from M v x places start) (seek_from N w y places start)
-  unfolding seek_from
-  seek_from-same v w x y places start h l = search (steps_same, seek_among-same)
+  seek_among-same v w x y k (suc left) o p h l s = search (parts_same, ends_at-same, seek_among-same v w x y (suc k) left o p h l s) depth 16 fits 4000
 
   count_places-same : (v w : Value) → ValueSame sim v w → SameAnswer sim (count_places M v) (count_places N w)
   unfolding count_places
   count_places-same v w h = search parts_same depth 16 fits 4000
 
   seek-same : (v w x y s t : Value) → ValueSame sim v w → ValueSame sim x y → ValueSame sim s t → SameAnswer sim (seek M v x s) (seek N w y t)
-  unfolding seek
-  seek-same v w x y s t h k l = search (parts_same, half_word-same, count_places-same, seek_from-same) depth 16 fits 4000
+  unfolding seek seek_from
+  seek-same v w x y s t h k l = search (parts_same, half_word-same, count_places-same, seek_among-same) depth 24 fits 4000
 
   place_of_selector-same : (v w s t : Value) → ValueSame sim v w → ValueSame sim s t → SameAnswer sim (place_of_selector M v s) (place_of_selector N w t)
   unfolding place_of_selector

@@ -5,12 +5,13 @@ use Rattle.st_model.specs.Machine.{Step}
 use Rattle.st_model.specs.Births.{Births, births}
 use Rattle.st_model.specs.Table.{Table, table}
 use Rattle.st_model.specs.Show.{renamed_option}
-use Rattle.st_simulation.proofs.Same.{IsLiveOption}
+use Rattle.st_simulation.proofs.Same.{IsLiveOption, none-named}
 use Rattle.st_scope.specs.Variables.{fields_unless, fields_or_none, name_unless, name_of, names_of, own_names, field_names, pool_unless, pool_or_none, own_pools, pools, joined, member_if_any, or_later, association_in, shared_by, shared_names}
+use Rattle.st_scope.specs.Tables.{check_fields}
 use Rattle.st_scope.specs.Shapes.{check_dictionary, check_symbol_table, check_symbols}
-use Rattle.st_install.proofs.SameReads.{Shown, lives, name, ValueAlike, ValuesAlike, OptionalAlike, AlikeValues, AlikeOption, AlikeAnswer, IsLiveAny, any_renamed, then-alike, then_option-alike, answer_option-alike, none-alike, tried-alike, joins_alike}
+use Rattle.st_install.proofs.SameReads.{Shown, lives, name, ValueAlike, ValuesAlike, OptionalAlike, AlikeValues, AlikeOption, AlikeAnswer, IsLiveAny, any_renamed, then-alike, then_option-alike, answer_option-alike, tried-alike, joins_alike}
 use Rattle.st_install.proofs.SameSteps.{reads_alike}
-use Rattle.st_install.proofs.SameTables.{check_fields-alike, bytes_of-alike, member_named-alike}
+use Rattle.st_install.proofs.SameTables.{bytes_of-alike, member_named-alike}
 
 module _ (z : Shown) where
   all_both : (xs ys : List Value) → AllLive (lives z) xs → AllLive (lives z) ys → AllLive (lives z) (xs ++ ys)
@@ -77,13 +78,9 @@ module _ (z : Shown) where
   pool_unless-alike v w true c h e = rw e (search joins_alike)
   pool_unless-alike v w false c h e = rw e (search reads_alike depth 16 fits 4000)
 
-  pool_or_none-alike : (v w : Value) → ValueAlike z v w → AlikeValues z (pool_or_none births v) (pool_or_none table w)
-  unfolding pool_or_none
-  pool_or_none-alike v w h = search (reads_alike, pool_unless-alike) depth 16 fits 4000
-
   own_pools-alike : (v w : Value) → ValueAlike z v w → AlikeValues z (own_pools births v) (own_pools table w)
-  unfolding own_pools
-  own_pools-alike v w h = search (reads_alike, pool_or_none-alike, fields_or_none-alike, append-alike) depth 24 fits 4000
+  unfolding own_pools pool_or_none
+  own_pools-alike v w h = search (reads_alike, pool_unless-alike, fields_or_none-alike, append-alike) depth 32 fits 4000
 
   all_pools-alike : (vs : List Value) → AllLive (lives z) vs → AlikeValues z (pools births vs) (pools table (renamed_all (name z) vs))
   unfolding pools
@@ -98,7 +95,7 @@ module _ (z : Shown) where
   -- shared variables
 
   joined-alike : (a : Option (Option Value)) → IsLiveAny (IsLiveOption (lives z)) a → OptionalAlike z (joined a) (joined (any_renamed (renamed_option (name z)) a))
-  joined-alike None h = none-alike z
+  joined-alike None h = none-named _ _
   joined-alike (Some x) h = record { live = h; is = refl }
 
   member_if_any-alike : (v w : Value) (text : List ℕ) → ValueAlike z v w → AlikeOption z (member_if_any births v text) (member_if_any table w text)
@@ -135,14 +132,10 @@ module _ (z : Shown) where
   -- forms
 
   pub check_dictionary-alike : (v w : Value) → ValueAlike z v w → AlikeAnswer z (check_dictionary births v) (check_dictionary table w)
-  unfolding check_dictionary
-  check_dictionary-alike v w h = search (reads_alike, check_fields-alike) depth 24 fits 4000
-
-  check_symbol_table-alike : (v w : Value) → ValueAlike z v w → AlikeAnswer z (check_symbol_table births v) (check_symbol_table table w)
-  unfolding check_symbol_table
-  check_symbol_table-alike v w h = search (reads_alike, check_fields-alike) depth 20 fits 4000
+  unfolding check_dictionary check_fields
+  check_dictionary-alike v w h = search reads_alike depth 32 fits 4000
 
   pub check_symbols-alike : (a b : Option Value) → OptionalAlike z a b → AlikeAnswer z (check_symbols births a) (check_symbols table b)
-  unfolding check_symbols
+  unfolding check_symbols check_symbol_table check_fields
   check_symbols-alike None b h = rw h.is (search joins_alike)
-  check_symbols-alike (Some v) b h = rw h.is (check_symbol_table-alike v (renamed (name z) v) (record { live = h.live; is = refl }))
+  check_symbols-alike (Some v) b h = let k : ValueAlike z v (renamed (name z) v) = record { live = h.live; is = refl } in rw h.is (search reads_alike depth 32 fits 4000)

@@ -35,21 +35,13 @@ module _ (z : Shown) where
   seek_among-alike v w x y k zero o p h l s = s
   seek_among-alike v w x y k (suc left) o p h l s = seek_at-alike v w x y k _ _ h l (seek_among-alike v w x y (suc k) left o p h l s)
 
-  seek_from-alike : (v w x y : Value) (places start : ℕ) → ValueAlike z v w → ValueAlike z x y → AlikeAnswer z (seek_from births v x places start) (seek_from table w y places start)
-  unfolding seek_from
-  seek_from-alike v w x y places start h l = search (joins_alike, seek_among-alike)
-
   count_places-alike : (v w : Value) → ValueAlike z v w → AlikeAnswer z (count_places births v) (count_places table w)
   unfolding count_places
   count_places-alike v w h = search reads_alike depth 16 fits 4000
 
-  seek-alike : (v w x y s t : Value) → ValueAlike z v w → ValueAlike z x y → ValueAlike z s t → AlikeAnswer z (seek births v x s) (seek table w y t)
-  unfolding seek
-  seek-alike v w x y s t h k l = search (reads_alike, count_places-alike, seek_from-alike) depth 16 fits 4000
-
   place_of_selector-alike : (v w s t : Value) → ValueAlike z v w → ValueAlike z s t → AlikeAnswer z (place_of_selector births v s) (place_of_selector table w t)
-  unfolding place_of_selector
-  place_of_selector-alike v w s t h k = seek-alike v w s t s t h k k
+  unfolding place_of_selector seek seek_from
+  place_of_selector-alike v w s t h k = search (reads_alike, count_places-alike, seek_among-alike) depth 24 fits 4000
 
   -- growth
 

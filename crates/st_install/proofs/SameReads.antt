@@ -1,6 +1,6 @@
 -- Steps that only read: over births and over the table that shows them they answer the same, and change nothing.
-use Rattle.std.proofs.Common.{◌≡◌, ℕ, List, [], ◌∷◌, zero, suc, Option, Some, None, refl, sym, ap, subst, ◌∙◌, arith}
-use Rattle.std.specs.Prelude.{slice_get, ◌==◌}
+use Rattle.std.proofs.Common.{◌≡◌, ℕ, List, Option, Some, None, refl, sym, ap, subst, ◌∙◌, arith}
+use Rattle.std.specs.Prelude.{◌==◌}
 use Rattle.std.proofs.lemmas.Bool.Decides.{nat_tests}
 use Rattle.st_model.specs.declared.dead.Dead.{Dead}
 use Rattle.st_model.specs.Values.{Value, Small, Ref, renamed, renamed_all, IsLive, AllLive}
@@ -12,7 +12,7 @@ use Rattle.st_model.specs.Calls.{itself}
 use Rattle.st_model.specs.Steps.{same_value}
 use Rattle.st_model.specs.Show.{pointer_of, IsKept, Shows, renamed_option}
 use Rattle.st_model.proofs.BirthLemmas.{pointer_of-borne}
-use Rattle.st_simulation.proofs.Same.{Anything, IsLiveOption, ValueNamed, ValuesNamed, OptionNamed, length-renamed}
+use Rattle.st_simulation.proofs.Same.{Anything, IsLiveOption, ValueNamed, ValuesNamed, OptionNamed, length-renamed, small-named, no_values-named, values-named, none-named, some-named, field-named}
 
 -- births, and a table that shows them
 pub record Shown : Type 0 where
@@ -145,36 +145,8 @@ module _ {A B : Type 0} (z : Shown) (Q : A → Type 0) (q : A → B) where
 module _ (z : Shown) where
   -- what stands for one another
 
-  pub small-alike : (n : ℕ) → ValueAlike z (Small n) (Small n)
-  small-alike n = record { live = tt; is = refl }
-
   pub class-alike : (o : Object) → IsLiveObject (lives z) o → ValueAlike z (Ref o.class) (Ref (name z o.class))
   class-alike o h = record { live = h.class; is = refl }
-
-  pub no_values-alike : ValuesAlike z [] []
-  no_values-alike = record { live = tt; is = refl }
-
-  pub values-alike : (v w : Value) (vs ws : List Value) → ValueAlike z v w → ValuesAlike z vs ws → ValuesAlike z (v ∷ vs) (w ∷ ws)
-  values-alike v w vs ws h k = record { live = (h.live, k.live); is = λ i. h.is i ∷ k.is i }
-
-  pub none-alike : OptionalAlike z None None
-  none-alike = record { live = tt; is = refl }
-
-  pub some-alike : (v w : Value) → ValueAlike z v w → OptionalAlike z (Some v) (Some w)
-  some-alike v w h = record { live = h.live; is = λ i. Some (h.is i) }
-
-  get_live : (vs : List Value) (i : ℕ) → AllLive (lives z) vs → IsLiveOption (lives z) (slice_get vs i)
-  get_live [] i h = tt
-  get_live (v ∷ vs) zero h = h.0
-  get_live (v ∷ vs) (suc i) h = get_live vs i h.1
-
-  get-renamed : (vs : List Value) (i : ℕ) → slice_get (renamed_all (name z) vs) i ≡ renamed_option (name z) (slice_get vs i)
-  get-renamed [] i = refl
-  get-renamed (v ∷ vs) zero = refl
-  get-renamed (v ∷ vs) (suc i) = get-renamed vs i
-
-  pub field-alike : (o : Object) (i : ℕ) → IsLiveObject (lives z) o → OptionalAlike z (slice_get o.fields i) (slice_get (renamed_all (name z) o.fields) i)
-  field-alike o i h = record { live = get_live o.fields i h.fields; is = get-renamed o.fields i }
 
   -- answers
 
@@ -238,4 +210,4 @@ module _ (z : Shown) where
   same_value-alike v v' w w' h k = rw (h.is, k.is) (values_alike v w h.live k.live)
 
 -- what a search of steps that do the same goes by
-pub ruleset joins_alike = (then_value-alike, then_values-alike, then_object-alike, then_answer-alike, then_option-alike, then_unit-alike, tried_value-alike, tried_itself-alike, die-alike, answer_value-alike, answer_values-alike, answer_option-alike, answer_object-alike, answer_itself-alike, same_value-alike, small-alike, class-alike, no_values-alike, values-alike, none-alike, some-alike, field-alike, length-renamed)
+pub ruleset joins_alike = (then_value-alike, then_values-alike, then_object-alike, then_answer-alike, then_option-alike, then_unit-alike, tried_value-alike, tried_itself-alike, die-alike, answer_value-alike, answer_values-alike, answer_option-alike, answer_object-alike, answer_itself-alike, same_value-alike, small-named, class-alike, no_values-named, values-named, none-named, some-named, field-named, length-renamed)

@@ -1,5 +1,5 @@
 -- A bounded table makes what a table makes, where there is room for all of it; and what makes nothing is the same in both.
-use Rattle.std.proofs.Common.{◌≡◌, ℕ, ◌+◌, ◌<◌, ◌≤◌, List, [], ◌∷◌, Bool, true, false, refl, sym, ap, subst, arith, length, inl, inr}
+use Rattle.std.proofs.Common.{◌≡◌, ℕ, ◌+◌, ◌<◌, ◌≤◌, List, [], ◌∷◌, Bool, true, false, refl, sym, ap, subst, arith, length}
 use Rattle.std.specs.Prelude.{◌-◌, ◌*◌, nat_le}
 use Rattle.std.proofs.lemmas.Bool.Decides.{nat_tests}
 use Rattle.std.proofs.lemmas.List.{length-replicate}
@@ -15,7 +15,8 @@ use Rattle.st_model.specs.Table.{Table, table, bounded_table, placed, total_used
 use Rattle.st_model.specs.Calls.{itself}
 use Rattle.st_model.proofs.Names.{AnyName, any_value, any_values}
 use Rattle.st_simulation.proofs.Same.{TransitionSame, Anything, strict, strict_states}
-use Rattle.st_simulation.proofs.Bounded.{same_name, value-itself, values-itself, total-placed, bounded_simulation, bounded_start, state_is}
+use Rattle.st_simulation.proofs.Bounded.{same_name, value-itself, values-itself, total-placed, bounded_simulation, bounded_start}
+use Rattle.st_simulation.proofs.Between.{both_same}
 use Rattle.st_install.specs.Plans.{Part, There, Made, NewObject, Store, Plan, words_of_new, words_of_all}
 use Rattle.st_install.specs.Installing.{size_by, literals_by, make_new, make_all, fill_and_store, install}
 use Rattle.st_install.specs.SamePlans.{renamed_part, renamed_parts, renamed_objects, renamed_stores, renamed_plan, IsLivePart, AllLiveParts, AllLiveObjects, AllLiveStores, IsLivePlan}
@@ -179,16 +180,6 @@ any_plan p = record {
   class = any_value p.class;
   dictionary = any_value p.dictionary;
 }
-
-both_same : (a : Head) (o p : Transition (State Table) (Unit {0})) → TransitionSame (strict (bounded_simulation a)) Anything itself o p → p ≡ o
-both_same a (Died k) (Died l) (inl h) = ap (λ x. Died x) h
-both_same a (Died k) (Died l) (inr h) = absurd h
-both_same a (Died k) (Went y d) h = absurd h
-both_same a (Went x c) (Died k) h = absurd h.1
-both_same a (Went x c) (Went y d) (inl h) = absurd h.1
-both_same a (Went x c) (Went y d) (inr h) =
-    let s = h.2 in
-    ap (λ z. Went tt z) (state_is a c d (record { memory = s.memory; limits = s.limits; there = s.there; roots = s.roots; registers = s.registers; world = s.world; head = s.head }))
 
 fill_bounded : (nil : Value) (vs : List Value) (p : Plan) (c : State Table) → (fill_and_store bounded_table nil vs p).run c ≡ (fill_and_store table nil vs p).run c
 fill_bounded nil vs p c =

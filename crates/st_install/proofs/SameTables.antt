@@ -12,25 +12,13 @@ use Rattle.st_install.proofs.SameSteps.{reads_alike, fetch_field-alike}
 module _ (z : Shown) where
   -- members
 
-  pub check_fields-alike : (v w : Value) (least : ℕ) → ValueAlike z v w → AlikeAnswer z (check_fields births v least) (check_fields table w least)
-  unfolding check_fields
-  check_fields-alike v w least h = search reads_alike depth 16 fits 4000
-
   pub bytes_of-alike : (v w : Value) → ValueAlike z v w → AlikeAnswer z (bytes_of births v) (bytes_of table w)
   unfolding bytes_of
   bytes_of-alike v w h = search reads_alike depth 16 fits 4000
 
-  member_key-alike : (v w : Value) → ValueAlike z v w → AlikeValue z (member_key births v) (member_key table w)
-  unfolding member_key
-  member_key-alike v w h = search (reads_alike, check_fields-alike) depth 16 fits 4000
-
-  member_name-alike : (v w : Value) → ValueAlike z v w → AlikeAnswer z (member_name births v) (member_name table w)
-  unfolding member_name
-  member_name-alike v w h = search (reads_alike, member_key-alike, bytes_of-alike) depth 16 fits 4000
-
   has_name-alike : (v w : Value) (text : List ℕ) → ValueAlike z v w → AlikeAnswer z (has_name births v text) (has_name table w text)
-  unfolding has_name
-  has_name-alike v w text h = search (reads_alike, member_name-alike) depth 16 fits 4000
+  unfolding has_name member_name member_key check_fields
+  has_name-alike v w text h = search (reads_alike, bytes_of-alike) depth 40 fits 4000
 
   -- the first field
 
@@ -59,8 +47,8 @@ module _ (z : Shown) where
   -- classes
 
   pub class_association-alike : (v w : Value) (text : List ℕ) → ValueAlike z v w → AlikeValue z (class_association births v text) (class_association table w text)
-  unfolding class_association
-  class_association-alike v w text h = search (reads_alike, check_fields-alike, member_named-alike) depth 20 fits 4000
+  unfolding class_association check_fields
+  class_association-alike v w text h = search (reads_alike, member_named-alike) depth 32 fits 4000
 
   class_on_side-alike : (v w : Value) (meta : Bool) → ValueAlike z v w → AlikeValue z (class_on_side births v meta) (class_on_side table w meta)
   unfolding class_on_side
@@ -78,23 +66,15 @@ module _ (z : Shown) where
   none_if-alike true c o p e h = rw e (search joins_alike)
   none_if-alike false c o p e h = rw e h
 
-  until_nil-alike : (v w : Value) (o : Step Births (List Value)) (p : Step Table (List Value)) → ValueAlike z v w → AlikeValues z o p → AlikeValues z (until_nil births v o) (until_nil table w p)
-  unfolding until_nil
-  until_nil-alike v w o p h k = search (reads_alike, none_if-alike) depth 16 fits 4000
-
-  superclass-alike : (least : ℕ) (v w : Value) → ValueAlike z v w → AlikeValue z (superclass births least v) (superclass table least w)
-  unfolding superclass
-  superclass-alike least v w h = search (reads_alike, check_fields-alike) depth 16 fits 4000
-
   class_and-alike : (least : ℕ) (v w : Value) (f : Value → Step Births (List Value)) (g : Value → Step Table (List Value)) → ValueAlike z v w
       → ((a b : Value) → ValueAlike z a b → AlikeValues z (f a) (g b)) → AlikeValues z (class_and births least v f) (class_and table least w g)
-  unfolding class_and
-  class_and-alike least v w f g h k = search (reads_alike, superclass-alike) depth 20 fits 4000
+  unfolding class_and superclass check_fields
+  class_and-alike least v w f g h k = search reads_alike depth 32 fits 4000
 
   chain_within-alike : (least left : ℕ) (v w : Value) → ValueAlike z v w → AlikeValues z (chain_within births least left v) (chain_within table least left w)
-  unfolding chain_within
-  chain_within-alike least zero v w h = until_nil-alike v w _ _ h (search joins_alike)
-  chain_within-alike least (suc left) v w h = until_nil-alike v w _ _ h (class_and-alike least v w _ _ h (λ a b k. chain_within-alike least left a b k))
+  unfolding chain_within until_nil
+  chain_within-alike least zero v w h = search (reads_alike, none_if-alike) depth 24 fits 4000
+  chain_within-alike least (suc left) v w h = search (reads_alike, none_if-alike, class_and-alike least v w _ _ h (λ a b k. chain_within-alike least left a b k)) depth 24 fits 4000
 
   chain-alike : (least : ℕ) (v w : Value) → ValueAlike z v w → AlikeValues z (chain births least v) (chain table least w)
   unfolding chain

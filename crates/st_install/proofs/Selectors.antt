@@ -28,9 +28,9 @@ use Rattle.st_install.specs.Plans.{Plan}
 use Rattle.st_chunk.specs.Definitions.{Definition}
 use Rattle.st_protocol.specs.declared.refusal.Refusal.{Refusal}
 use Rattle.st_protocol.specs.Installing.{Accepted}
-use Rattle.st_install.specs.Syntax.{IsSyntax, syntax}
+use Rattle.st_grammar.specs.Syntax.{IsSyntax, syntax}
 use Rattle.st_install.specs.Defining.{Prepared, with_plan, prepare_code, prepare_under, prepare_tree, prepare_in, prepare, carry_out, define, outcome_of, installed}
-use Rattle.st_install.proofs.Syntaxes.{is}
+use Rattle.st_grammar.proofs.Syntaxes.{is}
 
 -- no line ends in it
 abbrev pub IsInLine : List ℕ → Type 0

@@ -29,13 +29,23 @@ with_room m head (Some p) = do
   crowded ← is_crowded m head (demand_of_all p.objects)
   answer (room_or p crowded)
 
--- the plan for parts that were compiled for a class, which was found by its name
+-- the plan for parts that were compiled for a class, of which this is the global association
+unfoldable pub planned_for : {H : Type 0} → ObjectMemory H → Head → (association class : Value) → (meta : Bool) → PartsView → Step H Plan
+planned_for m head association class meta parts = do
+  symbol_table ← or_die dead.Field head.symbols
+  plan m symbol_table association class meta parts
+
+-- the same for a class that was found by its name
 unfoldable pub planned : {H : Type 0} → ObjectMemory H → Head → Value → List ℕ → (meta : Bool) → PartsView → Step H Plan
 planned m head class name meta parts = do
   globals ← or_die dead.Field head.globals
   association ← class_association m globals name
-  symbol_table ← or_die dead.Field head.symbols
-  plan m symbol_table association class meta parts
+  planned_for m head association class meta parts
+
+unfoldable pub ready_for : {H : Type 0} → ObjectMemory H → Head → (association class : Value) → (meta : Bool) → PartsView → Step H (Result Plan InstallFault)
+ready_for m head association class meta parts = do
+  p ← tried (planned_for m head association class meta parts)
+  with_room m head p
 
 unfoldable pub ready : {H : Type 0} → ObjectMemory H → Head → Value → List ℕ → (meta : Bool) → PartsView → Step H (Result Plan InstallFault)
 ready m head class name meta parts = do

@@ -22,7 +22,7 @@ use Rattle.st_chunk.specs.Definitions.{Definition}
 use Rattle.st_protocol.specs.declared.refusal.Refusal.{Refusal}
 use Rattle.st_protocol.specs.declared.refusal.Refusal.TheVariants.{Syntax, Code, NoClass, NoGlobals, NoRoom, Shape}
 use Rattle.st_protocol.specs.Installing.{Installed, Refused, Accepted}
-use Rattle.st_install.specs.Syntax.{syntax}
+use Rattle.st_grammar.specs.Syntax.{syntax}
 
 -- REFUSALS
 

@@ -19,7 +19,6 @@ pub mod Gains
 pub mod Shapes
 pub mod Calls
 pub mod PlanDrafts
-pub mod Syntax
 pub mod Defining
 pub mod Unprepareds
 pub mod Prepareds

@@ -3,14 +3,15 @@ use Rattle.std.specs.Prelude.{◌≡◌, ℕ, ◌++◌, ◌∷◌, List, Bool, l
 use Rattle.st_model.specs.declared.page.PageObject.TheVariants.{MethodClass}
 use Rattle.st_model.specs.Values.{Value, Ref, value, value_of}
 use Rattle.st_model.specs.Objects.{place_of}
-use Rattle.st_model.specs.Machine.{State, Died, Went, Step, ◌>>=◌}
+use Rattle.st_model.specs.Machine.{Head, State, Died, Went, Step, ◌>>=◌}
 use Rattle.st_model.specs.Steps.{fetch_field}
 use Rattle.st_model.specs.Table.{Table, table}
 use Rattle.st_code.specs.Methods.{PartsView}
 use Rattle.st_install.specs.declared.plan.Ready.{Ready}
 use Rattle.st_install.specs.declared.planning.PlanDraft.{PlanDraft}
 use Rattle.st_install.specs.declared.planning.Growth.{Growth}
-use Rattle.st_install.specs.declared.single.Owner.{Owner}
+use Rattle.st_scope.specs.declared.classes.Owner.{Owner}
+use Rattle.st_scope.specs.declared.fault.InstallFault.{InstallFault}
 use Rattle.st_scope.specs.declared.unread.Unread.{Unread}
 use Rattle.st_scope.specs.declared.unread.Unread.TheVariants.{Dies, OutOfMemory}
 use Rattle.st_install.specs.Plans.{Part, There, Made, NewObject, Plan, method_object}
@@ -20,6 +21,7 @@ use Rattle.st_install.specs.Dictionaries.{grows_for}
 use Rattle.st_install.specs.Planning.{grown_if, plan_objects, plan}
 use Rattle.st_install.specs.Readies.{part_of, objects_of, stores_of, plan_of}
 use Rattle.st_install.specs.Growing.{IsGrown}
+use Rattle.st_install.specs.Calls.{planned_for, ready_for}
 
 -- the dictionary of a class, and how it grows
 pub record IsGrowth (class : Value) (selector : Part) (next : ℕ) (t : Table) (g : Growth) : Type 0 where
@@ -70,3 +72,9 @@ TellsPlan class d method t (Err OutOfMemory) = ⊤
 
 abbrev pub plan_step : Value → Owner → PartsView → Step Table Plan
 plan_step symbol_table o parts = plan table symbol_table (value o.association) (value o.class) o.meta parts
+
+abbrev pub planned_step : Head → Owner → PartsView → Step Table Plan
+planned_step head o parts = planned_for table head (value o.association) (value o.class) o.meta parts
+
+abbrev pub ready_step : Head → Owner → PartsView → Step Table (Result Plan InstallFault)
+ready_step head o parts = ready_for table head (value o.association) (value o.class) o.meta parts

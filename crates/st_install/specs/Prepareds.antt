@@ -15,7 +15,7 @@ use Rattle.st_install.specs.Readies.{plan_of, HasRoom}
 use Rattle.st_install.specs.Carried.{HasSmallBodies}
 use Rattle.st_chunk.specs.Definitions.{Definition}
 use Rattle.st_protocol.specs.Installing.{Refused}
-use Rattle.st_install.specs.Syntax.{syntax}
+use Rattle.st_grammar.specs.Syntax.{syntax}
 use Rattle.st_install.specs.Defining.{installed}
 use Rattle.st_install.specs.declared.preparing.Prepared.{Prepared}
 use Rattle.st_install.specs.declared.unprepared.Unprepared.{Unprepared}

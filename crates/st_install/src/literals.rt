@@ -7,13 +7,13 @@ ghost use Rattle.st_install.specs.Told.{single_placed, literal_step, literals_st
 
 use crate::plan::{NewObject, Part};
 use crate::single::{
-    ARRAY_CLASS, NamedSymbols, Owner, Single, place_character, place_number, place_owner,
-    place_pointer, place_string, place_symbol, pointers_object,
+    ARRAY_CLASS, NamedSymbols, Single, place_character, place_number, place_owner, place_pointer,
+    place_string, place_symbol, pointers_object,
 };
 use st_emit::Literal;
 use st_memory::Memory;
 use st_scan::Signed;
-use st_scope::Unread;
+use st_scope::{Owner, Unread};
 use std::alloc::{AllocError, Global};
 
 /// Puts an object behind the others, which are fewer than 2^32.

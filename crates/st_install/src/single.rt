@@ -11,7 +11,7 @@ use crate::plan::{NewObject, Part};
 use st_memory::Memory;
 use st_model::{Dead, Kind, Oop};
 use st_scan::{Signed, Text};
-use st_scope::{Unread, class_of, fetch_field};
+use st_scope::{Owner, Unread, class_of, fetch_field};
 use std::alloc::{AllocError, Global};
 use std::collections::BTreeMap;
 
@@ -31,14 +31,6 @@ pub(crate) type NamedSymbols = BTreeMap<Text, Part>;
 pub(crate) enum Single {
     Value(Part),
     Object(NewObject),
-}
-
-/// What a method belongs to: the global association of its class, the class, and whether that is the class side.
-#[derive(Clone, Copy)]
-pub(crate) struct Owner {
-    pub association: Oop,
-    pub class: Oop,
-    pub meta: bool,
 }
 
 /// An object of kind Bytes.

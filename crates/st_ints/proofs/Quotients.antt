@@ -1,11 +1,12 @@
 -- Divisions of SmallIntegers, which the code does on words of 32 bits.
-use Rattle.std.proofs.Common.{◌≡◌, ℕ, zero, suc, ◌<◌, ◌≤◌, ◌/◌, true, false, None, refl, sym, ap, ◌∙◌, arith}
-use Rattle.std.specs.Prelude.{ℤ, pos, negsuc, neg_ℤ, ◌-ℤ◌, ◌*ℤ◌, int_div, int_rem, unsigned_abs, FitsSigned}
+use Rattle.std.proofs.Common.{◌≡◌, ℕ, zero, suc, ◌<◌, ◌≤◌, ◌/◌, true, false, Option, None, refl, sym, ap, ◌∙◌, arith}
+use Rattle.std.specs.Prelude.{ℤ, pos, negsuc, neg_ℤ, ◌-ℤ◌, ◌*ℤ◌, int_div, int_rem, unsigned_abs, FitsSigned, if◌then◌else◌}
 use Rattle.std.specs.Int.{cast_signed, cast_unsigned, Width, w16, w32}
 use Rattle.std.specs.Int.Signed.{mag_rem}
 use Rattle.std.proofs.Math.Nat.{div-le_self}
 use Rattle.std.proofs.lemmas.Bool.Decides.{nat_tests}
 use Rattle.std.proofs.lemmas.Int.{to_z-of_z, fits_signed_from_abs}
+use Rattle.st_model.specs.declared.integers.IntAnswer.{IntAnswer}
 use Rattle.st_model.specs.Integers.{is_zero, within_range, floor_quotient, exact_quotient, modulo, quotient_down, quotient}
 
 wide : (a : ℤ) → FitsSigned w16 a → FitsSigned w32 a
@@ -81,9 +82,12 @@ divided : (a b x y : ℤ) → Widened a x → Widened b y
     → cast_signed w32 (cast_unsigned w32 (int_div (cast_signed w32 (cast_unsigned w32 x)) (cast_signed w32 (cast_unsigned w32 y)))) ≡ int_div a b
 divided a b x y v w = rw (passed a x v, passed b y w) (to_z-of_z w32 (int_div a b) (quotient_fits a b v.fits))
 
-pub by_zero : (a b : ℤ) → is_zero b ≡ true → None ≡ exact_quotient a b
-unfolding exact_quotient
-by_zero a b e = rw e refl
+-- a division by 0 has no answer, and another the one that is given
+pub by_zero : (b : ℤ) (x : Option IntAnswer) → is_zero b ≡ true → None ≡ (if is_zero b then None else x)
+by_zero b x e = rw e refl
+
+by_other : (b : ℤ) (x : Option IntAnswer) → is_zero b ≡ false → x ≡ (if is_zero b then None else x)
+by_other b x e = rw e refl
 
 exact : (a b : ℤ) → is_zero b ≡ false → is_zero (int_rem a b) ≡ true → within_range (int_div a b) ≡ exact_quotient a b
 unfolding exact_quotient
@@ -107,25 +111,10 @@ with_something_left a b x y v w ne e =
     let f : cast_unsigned w32 (int_rem a b) ≡ 0 → ⊥ = rw (passed a x v, passed b y w) at e in
     inexact a b ne (other_bits w32 (int_rem a b) f)
 
-pub quotient_by_zero : (a b : ℤ) → is_zero b ≡ true → None ≡ quotient a b
-unfolding quotient
-quotient_by_zero a b e = rw e refl
-
-quotient_else : (a b : ℤ) → is_zero b ≡ false → within_range (int_div a b) ≡ quotient a b
-unfolding quotient
-quotient_else a b e = rw e refl
-
 pub quotient_done : (a b x y : ℤ) → Widened a x → Widened b y → is_zero b ≡ false
     → within_range (cast_signed w32 (cast_unsigned w32 (int_div (cast_signed w32 (cast_unsigned w32 x)) (cast_signed w32 (cast_unsigned w32 y))))) ≡ quotient a b
-quotient_done a b x y v w ne = ap within_range (divided a b x y v w) ∙ quotient_else a b ne
-
-pub down_by_zero : (a b : ℤ) → is_zero b ≡ true → None ≡ quotient_down a b
-unfolding quotient_down
-down_by_zero a b e = rw e refl
-
-down_else : (a b : ℤ) → is_zero b ≡ false → within_range (floor_quotient a b) ≡ quotient_down a b
-unfolding quotient_down
-down_else a b e = rw e refl
+unfolding quotient
+quotient_done a b x y v w ne = ap within_range (divided a b x y v w) ∙ by_other b _ ne
 
 -- the quotient toward minus infinity of what was passed
 floored : (a b x y q : ℤ) → Widened a x → Widened b y
@@ -135,20 +124,14 @@ floored a b x y q v w e = e ∙ (ap (λ z. floor_quotient z (cast_signed w32 (ca
 pub down_done : (a b x y q : ℤ) → Widened a x → Widened b y → is_zero b ≡ false → FitsSigned w32 q
     → q ≡ floor_quotient (cast_signed w32 (cast_unsigned w32 x)) (cast_signed w32 (cast_unsigned w32 y))
     → within_range (cast_signed w32 (cast_unsigned w32 q)) ≡ quotient_down a b
-down_done a b x y q v w ne f e = ap within_range (to_z-of_z w32 q f ∙ floored a b x y q v w e) ∙ down_else a b ne
-
-pub modulo_by_zero : (a b : ℤ) → is_zero b ≡ true → None ≡ modulo a b
-unfolding modulo
-modulo_by_zero a b e = rw e refl
-
-modulo_else : (a b : ℤ) → is_zero b ≡ false → within_range (a -ℤ (b *ℤ floor_quotient a b)) ≡ modulo a b
-unfolding modulo
-modulo_else a b e = rw e refl
+unfolding quotient_down
+down_done a b x y q v w ne f e = ap within_range (to_z-of_z w32 q f ∙ floored a b x y q v w e) ∙ by_other b _ ne
 
 pub modulo_done : (a b x y q r : ℤ) → Widened a x → Widened b y → is_zero b ≡ false → FitsSigned w32 q → FitsSigned w32 r
     → q ≡ floor_quotient (cast_signed w32 (cast_unsigned w32 x)) (cast_signed w32 (cast_unsigned w32 y))
     → r ≡ cast_signed w32 (cast_unsigned w32 x) -ℤ (cast_signed w32 (cast_unsigned w32 y) *ℤ cast_signed w32 (cast_unsigned w32 q))
     → within_range (cast_signed w32 (cast_unsigned w32 r)) ≡ modulo a b
+unfolding modulo
 modulo_done a b x y q r v w ne f g e h =
     let k : r ≡ a -ℤ (b *ℤ q) = rw (passed a x v, passed b y w, to_z-of_z w32 q f) at h in
-    ap within_range (to_z-of_z w32 r g ∙ (k ∙ ap (λ z. a -ℤ (b *ℤ z)) (floored a b x y q v w e))) ∙ modulo_else a b ne
+    ap within_range (to_z-of_z w32 r g ∙ (k ∙ ap (λ z. a -ℤ (b *ℤ z)) (floored a b x y q v w e))) ∙ by_other b _ ne

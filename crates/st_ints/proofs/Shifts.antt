@@ -60,21 +60,22 @@ near_down a (pos n) h = absurd (omega (arith, ints, h))
 near_down (pos m) (negsuc n) h = refl
 near_down (negsuc m) (negsuc n) h = refl
 
-pub far_down_above : (a b : ℤ) → pos 0 ≤ℤ a → unsigned_abs a ≤ 16384 → b <ℤ negsuc 14 → within_range (shifted a b) ≡ Some (Number (pos 0))
-unfolding within_range
-far_down_above (pos m) (negsuc n) g f h =
+-- a SmallInteger by a power of two beyond it
+far_quotient : (m n : ℕ) → m ≤ 16384 → negsuc n <ℤ negsuc 14 → m / 2 ^ suc n ≡ 0
+far_quotient m n f h =
     let k : 14 < suc n = omega (arith, ints, h) in
     let p = far_power (suc n) k in
-    let e : m / 2 ^ suc n ≡ 0 = div-eq_of_lt (omega arith) in rw e refl
+    div-eq_of_lt (omega arith)
+
+pub far_down_above : (a b : ℤ) → pos 0 ≤ℤ a → unsigned_abs a ≤ 16384 → b <ℤ negsuc 14 → within_range (shifted a b) ≡ Some (Number (pos 0))
+unfolding within_range
+far_down_above (pos m) (negsuc n) g f h = let e = far_quotient m n (omega arith) h in rw e refl
 far_down_above (pos m) (pos n) g f h = absurd (omega (arith, ints, h))
 far_down_above (negsuc m) b g f h = absurd (omega (arith, ints, g))
 
 pub far_down_below : (a b : ℤ) → a ≤ℤ negsuc 0 → unsigned_abs a ≤ 16384 → b <ℤ negsuc 14 → within_range (shifted a b) ≡ Some (Number (negsuc 0))
 unfolding within_range
-far_down_below (negsuc m) (negsuc n) g f h =
-    let k : 14 < suc n = omega (arith, ints, h) in
-    let p = far_power (suc n) k in
-    let e : m / 2 ^ suc n ≡ 0 = div-eq_of_lt (omega arith) in rw e refl
+far_down_below (negsuc m) (negsuc n) g f h = let e = far_quotient m n (omega arith) h in rw e refl
 far_down_below (negsuc m) (pos n) g f h = absurd (omega (arith, ints, h))
 far_down_below (pos m) b g f h = absurd (omega (arith, ints, g))
 

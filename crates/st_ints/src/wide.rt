@@ -1,30 +1,13 @@
 ghost use Rattle.std.specs.Prelude.{◌≡◌, ◌≤◌};
-ghost use Rattle.st_model.specs.Integers.{large, large_sum, large_difference, large_product, large_exact_quotient, large_remainder, large_quotient};
+ghost use Rattle.st_model.specs.Integers.{large, answered, large_exact_quotient, large_remainder, large_quotient};
 
 use st_model::LargeAnswer;
 
-/// The sum, where it is below 2^128 (primitive 21).
-#[tactic(auto, unfolding(st_model::specs::Integers::large_sum, st_model::specs::Integers::within_bits))]
-fn sum(a: u128, b: u128) -> Option<LargeAnswer>
-    ensures { result ≡ large_sum a b }
+/// The number, where there is one.
+fn answered(n: Option<u128>) -> Option<LargeAnswer>
+    ensures { result ≡ answered n }
 {
-    Some(LargeAnswer::Number(a.checked_add(b)?))
-}
-
-/// The difference, where it isn't below 0 (primitive 22).
-#[tactic(auto, unfolding(st_model::specs::Integers::large_difference))]
-fn difference(a: u128, b: u128) -> Option<LargeAnswer>
-    ensures { result ≡ large_difference a b }
-{
-    Some(LargeAnswer::Number(a.checked_sub(b)?))
-}
-
-/// The product, where it is below 2^128 (primitive 29).
-#[tactic(auto, unfolding(st_model::specs::Integers::large_product, st_model::specs::Integers::within_bits))]
-fn product(a: u128, b: u128) -> Option<LargeAnswer>
-    ensures { result ≡ large_product a b }
-{
-    Some(LargeAnswer::Number(a.checked_mul(b)?))
+    Some(LargeAnswer::Number(n?))
 }
 
 /// The quotient, where nothing remains (primitive 30).
@@ -66,22 +49,22 @@ fn quotient(a: u128, b: u128) -> Option<LargeAnswer>
 
 /// Primitive n of a and b, or none where it fails: where the answer is below 0 or isn't below 2^128, and where a quotient
 /// isn't exact or its divisor is 0.
-#[tactic(auto, unfolding(st_model::specs::Integers::large))]
+#[tactic(auto, unfolding(st_model::specs::Integers::large, st_model::specs::Integers::large_sum, st_model::specs::Integers::large_difference, st_model::specs::Integers::large_product, st_model::specs::Integers::within_bits))]
 pub fn large(n: u8, a: u128, b: u128) -> Option<LargeAnswer>
     requires first { 21 ≤ n }
     requires last { n ≤ 36 }
     ensures { result ≡ large n a b }
 {
     match n {
-        21 => sum(a, b),
-        22 => difference(a, b),
+        21 => answered(a.checked_add(b)),
+        22 => answered(a.checked_sub(b)),
         23 => Some(LargeAnswer::Truth(a < b)),
         24 => Some(LargeAnswer::Truth(b < a)),
         25 => Some(LargeAnswer::Truth(a <= b)),
         26 => Some(LargeAnswer::Truth(b <= a)),
         27 => Some(LargeAnswer::Truth(a == b)),
         28 => Some(LargeAnswer::Truth(a != b)),
-        29 => product(a, b),
+        29 => answered(a.checked_mul(b)),
         30 => exact_quotient(a, b),
         31 => remainder(a, b),
         32 | 33 => quotient(a, b),

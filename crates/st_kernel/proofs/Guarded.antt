@@ -24,7 +24,7 @@ use Rattle.st_chunk.specs.Definitions.{Definition}
 use Rattle.st_protocol.specs.declared.refusal.Refusal.{Refusal}
 use Rattle.st_protocol.specs.Installing.{Accepted}
 use Rattle.st_install.specs.Plans.{Plan}
-use Rattle.st_install.specs.Syntax.{syntax}
+use Rattle.st_grammar.specs.Syntax.{syntax}
 use Rattle.st_install.specs.Installing.{install}
 use Rattle.st_install.specs.SamePlans.{IsLiveClass}
 use Rattle.st_install.specs.Same.{RunsOn, IsReady}

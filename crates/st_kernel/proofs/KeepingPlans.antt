@@ -26,7 +26,7 @@ use Rattle.st_install.specs.Literals.{Placed, PlacedAll, place_size, place_signe
 use Rattle.st_install.specs.Dictionaries.{Ending, Holds, Vacant, Nowhere, ends_at, seek_at, seek_among, seek_from, count_places, seek, place_of_selector, count_vacant, is_nearly_full, grows_at, grows_for, dictionary_objects, grown_objects}
 use Rattle.st_install.specs.Planning.{method_number, objects_with_method, grown_number, grown_if, sized, plan_objects, plan}
 use Rattle.st_install.specs.Shapes.{check_size}
-use Rattle.st_install.specs.Calls.{is_crowded, room_or, with_room, planned, ready}
+use Rattle.st_install.specs.Calls.{is_crowded, room_or, with_room, planned_for, planned, ready}
 use Rattle.st_install.specs.SamePlans.{IsLiveClass}
 use Rattle.st_kernel.proofs.Keeping.{IsIn, IsOther, Leads, Keeps, then_keeps, next_keeps, answer_keeps, die_keeps, keeps_as, tried_keeps, check_keeps, or_die_keeps, half_keeps, object_keeps, page_keeps, class_keeps, field_keeps, count_keeps, fields_keep, check_class_keeps}
 
@@ -578,7 +578,7 @@ module _ (K : ℕ → Type 0) (I : State Births → Type 0) (leads : (s : State 
         (λ p q. objects_keep class there parts s l w p q)))
 
     planned_keeps : Keeps I (IsPlanIn K) (planned births head class name meta parts)
-    unfolding planned
+    unfolding planned planned_for
     planned_keeps =
         then_keeps I (IsLive K) _ _ _ (or_die_keeps I K _ head.globals globals)
         (λ g h. then_keeps I (IsLive K) _ _ _ (association_keeps K I leads g name h)

@@ -70,7 +70,8 @@ impl Reader {
 
     /// The end of the text, before which these bytes of a chunk and this rest are none that ends, or one that is too long.
     fn end_long(&self, chunk: &[u8], rest: &[u8]) -> Result<(), Stop>
-        ensures { Tells (end_of (state_of self.now) (chunk.now ++ rest.now)) complete (state_of self.now) result }
+        ensures { Tells (end_of (state_of self.now) (chunk.now ++ rest.now)) complete
+            (state_of self.now) result }
     {
         if is_empty(chunk) {
             self.end(rest)

@@ -19,7 +19,8 @@ fn word_length(text: &[u8]) -> usize
 
 /// The first word of a text, and what stands behind it.
 pub(crate) fn first_word(text: &[u8]) -> Option<(&[u8], &[u8])>
-    ensures found { MatchOption result (words text.now ≡ []) (λ x. words text.now ≡ x.0.now ∷ words x.1.now) }
+    ensures found { MatchOption result (words text.now ≡ [])
+        (λ x. words text.now ≡ x.0.now ∷ words x.1.now) }
     ensures shorter { IfSome result (λ x. length x.1.now < length text.now) }
 {
     let rest = after_blanks(text);

@@ -1,5 +1,5 @@
 -- A search that finds a method in one table finds it in each table that has the objects which it meets.
-use Rattle.std.proofs.Common.{◌≡◌, ℕ, ◌+◌, zero, suc, Option, Some, None, Bool, true, false, refl, sym, ap, ◌∙◌, subst, is_some, length}
+use Rattle.std.proofs.Common.{◌≡◌, ℕ, ◌+◌, zero, suc, Option, Some, None, Bool, true, false, refl, sym, subst, is_some, length}
 use Rattle.std.specs.Prelude.{◌-◌, slice_get, bit_and, nat_lt, ⊤}
 use Rattle.st_model.specs.declared.dead.Dead.{Dead}
 use Rattle.st_model.specs.declared.dead.Dead.TheVariants as dead

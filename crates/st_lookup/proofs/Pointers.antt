@@ -1,12 +1,11 @@
 -- What a search over words comes to is what the search over pointers comes to.
 use Rattle.std.proofs.Common.{◌≡◌, Option, Some, None, Result, Ok, Err, true, false, refl, sym, ◌∙◌, ap, subst}
-use Rattle.std.specs.Prelude.{pos, IfSome, IfNone}
+use Rattle.std.specs.Prelude.{IfSome, IfNone}
 use Rattle.st_model.specs.declared.dead.Dead.{Dead}
 use Rattle.st_model.specs.declared.oop.Oop.{Oop}
 use Rattle.st_model.specs.declared.word.Word.{Word}
 use Rattle.st_model.specs.Values.{value, word}
-use Rattle.st_model.specs.Objects.{nil}
-use Rattle.st_model.specs.Machine.{State, Went, is_there, empty_world}
+use Rattle.st_model.specs.Machine.{Went, is_there}
 use Rattle.st_model.specs.Lookup.{find}
 use Rattle.st_model.specs.Table.{Table, table, bounded_table}
 use Rattle.st_model.specs.Calls.{Reads}
@@ -15,15 +14,7 @@ use Rattle.st_lookup.specs.Places.{found_word, found}
 use Rattle.st_memory.proofs.Unbounded.{search_bounded}
 use Rattle.st_lookup.proofs.Live.{found_live}
 use Rattle.st_memory.proofs.Wide.{there_live}
-
--- a state over a table
-abbrev some_state : Table → State Table
-some_state t = record {
-  memory = t;
-  registers = record { active = nil; home = nil; method = nil; receiver = nil; ip = pos 0; sp = 5 };
-  world = empty_world nil;
-  head = record { entries = 0; words = 0; globals = None; symbols = None };
-}
+use Rattle.st_memory.proofs.Looking.{some_state}
 
 module _ (t : Table) (class selector : Oop) (c s : Word) (e : word c ≡ value class) (f : word s ≡ value selector) where
   over_table : (r : Result (Option Word) Dead) → Reads (find bounded_table (word c) (word s)) found_word t r → Reads (find table (value class) (value selector)) found_word t r

@@ -1,5 +1,5 @@
 -- What is read of an object is the same in two tables that have the same object there.
-use Rattle.std.proofs.Common.{◌≡◌, ℕ, ◌<◌, ◌≤◌, Option, Some, None, Bool, true, false, Result, Ok, Err, refl, sym, ap, ◌∙◌, subst, is_some, length, List, arith}
+use Rattle.std.proofs.Common.{◌≡◌, ℕ, ◌<◌, ◌≤◌, Option, Some, None, Bool, true, false, Result, Ok, Err, refl, sym, ap, ◌∙◌, subst, length, List, arith}
 use Rattle.std.proofs.lemmas.Grind.{common_steps}
 use Rattle.std.specs.Prelude.{slice_get, ◌/◌, ◌%◌, ◌==◌, if◌then◌else◌}
 use Rattle.st_model.specs.declared.dead.Dead.{Dead}
@@ -13,7 +13,6 @@ use Rattle.st_model.specs.Methods.{method_header}
 use Rattle.st_model.specs.Lookup.{pointer_if, half_word}
 use Rattle.st_model.specs.Table.{Table, entry, table, bounded_table}
 use Rattle.st_model.specs.Calls.{Reads, itself, transition_of}
-use Rattle.st_model.specs.View.{View, IsWhole}
 use Rattle.st_model.proofs.Tabular.{fetch_field-as, count_fields-as, method_header-as}
 use Rattle.st_model.proofs.Runs.{run-then, after-died}
 use Rattle.st_model.proofs.TableLemmas.{entry_past}

@@ -1,6 +1,6 @@
 -- What is remembered stays so while no watched object is changed, and while a memory settles.
 use Rattle.std.proofs.Common.{◌≡◌, ◌≢◌, ℕ, zero, suc, Option, Some, None, Bool, true, false, List, [], ◌∷◌, refl, sym, ap, ◌∙◌, subst, is_some, inl, inr, ◌⊎◌, arith}
-use Rattle.std.specs.Prelude.{slice_get, IsTrue, ⊤, ◌==◌, ◌<◌, length, replicate}
+use Rattle.std.specs.Prelude.{slice_get, IsTrue, ◌==◌, ◌<◌, length, replicate}
 use Rattle.std.proofs.lemmas.Bool.Decides.{nat_tests}
 use Rattle.std.proofs.lemmas.Option.{slice_get_within, get_or_from_slice_get}
 use Rattle.std.proofs.lemmas.List.{get_or-replicate, length-replicate}
@@ -110,8 +110,9 @@ remembered_same bits t u e s r =
           (r.finds (live_same bits t u (value e.class) s r.class live) (known_same bits t u x s r.selector known));
     }
 
-pub as_it_was : (bits : List ℕ) (t : Table) (v : Value) → StaysIfOff bits v t t
-as_it_was bits t v off k h = refl
+-- the table that is known to stay so
+pub stays_as : (bits : List ℕ) (v : Value) (t u w : Table) → w ≡ u → StaysIfOff bits v t u → StaysIfOff bits v t w
+stays_as bits v t u w e s off k h = ap (λ x. entry x k) e ∙ s off k h
 
 pub all_same : (bits : List ℕ) (t u : Table) (es : List Entry) → SameWatched bits t u → AllRemembered bits t es → AllRemembered bits u es
 all_same bits t u es s r = λ i e f. remembered_same bits t u e s (r i e f)

@@ -1,10 +1,8 @@
 -- What is watched of the value of a pointer.
-use Rattle.std.proofs.Common.{◌≡◌, ◌≢◌, ℕ, ◌<◌, List, Bool, true, false, length, set, get_or, refl, ap, ◌∙◌, arith, ◌⊎◌, inl, inr}
+use Rattle.std.proofs.Common.{◌≡◌, ℕ, List, Bool, true, false, refl}
 use Rattle.std.specs.Prelude.{◌/◌, ◌%◌, ◌==◌, if◌then◌else◌}
-use Rattle.std.proofs.lemmas.Bool.{cases_eq}
-use Rattle.std.proofs.lemmas.List.{get_or-set_same, get_or-set_other}
-use Rattle.st_model.specs.Values.{Value, Small, Ref, value_of}
-use Rattle.st_lookup.specs.Remembered.{on, IsOn, IsOff, Grows}
+use Rattle.st_model.specs.Values.{Small, Ref, value_of}
+use Rattle.st_lookup.specs.Remembered.{on, IsOn, IsOff}
 
 off_if : (bits : List ℕ) (b : Bool) (n : ℕ) → on bits n ≡ false → IsOff bits (if b then Small n else Ref n)
 off_if bits true n e = tt

@@ -35,6 +35,10 @@ abbrev pub object_at : Table → Value → Option Object
 object_at t (Small n) = None
 object_at t (Ref n) = entry t n
 
+-- the object is seen among the watched ones as it is
+abbrev pub IsSeen : List ℕ → Table → Value → Type 0
+IsSeen bits t v = object_at (watched bits t) v ≡ object_at t v
+
 -- Where class and selector are there, the search finds the method, and meets no object that isn't watched.
 pub record IsRemembered (bits : List ℕ) (t : Table) (e : Entry) : Type 0 where
   pub class : IsOn bits (value e.class)

@@ -1,9 +1,5 @@
 ghost use Rattle.std.specs.Prelude.{◌≡◌, true, IfOk, IfSome};
-ghost use Rattle.st_model.specs.Values.{value, word};
-ghost use Rattle.st_model.specs.Table.{table};
-ghost use Rattle.st_model.specs.Lookup.{find};
-ghost use Rattle.st_model.specs.Calls.{Reads};
-ghost use Rattle.st_model.specs.View.{is_live};
+ghost use Rattle.st_model.specs.{Values.{value, word}, Table.table, Lookup.find, Calls.Reads, View.is_live};
 ghost use Rattle.st_lookup.specs.Places.{found, found_word};
 
 use crate::class::look_up;

@@ -1,12 +1,8 @@
 ghost use Rattle.std.specs.Prelude.{◌≡◌, ◌≤◌, true, false, Ok, IfOk};
-ghost use Rattle.st_model.specs.Values.{word, is_small};
-ghost use Rattle.st_model.specs.Machine.{ObjectMemory};
-ghost use Rattle.st_model.specs.Table.{Table, IsTabular, bounded_table};
-ghost use Rattle.st_model.specs.Steps.{fetch_field, count_fields};
-ghost use Rattle.st_model.specs.Methods.{method_header};
-ghost use Rattle.st_model.specs.Lookup.{half_word};
-ghost use Rattle.st_model.specs.Calls.{Reads, itself};
-ghost use Rattle.st_lookup.specs.Remembered.{watched, object_at, IsOff};
+ghost use Rattle.st_model.specs.{Values.{word, is_small}, Machine.ObjectMemory};
+ghost use Rattle.st_model.specs.{Table.{Table, IsTabular, bounded_table}, Steps.{fetch_field, count_fields}};
+ghost use Rattle.st_model.specs.{Methods.method_header, Lookup.half_word, Calls.{Reads, itself}};
+ghost use Rattle.st_lookup.specs.Remembered.{watched, IsSeen, IsOff};
 
 use crate::watch::Watch;
 use st_memory::{Memory, Objects};
@@ -76,8 +72,8 @@ impl<'a, M: Memory> Watched<'a, M> {
     /// Whether a word is no pointer that isn't watched.
     #[tactic(auto, using(crate::proofs::Seeing::sights))]
     fn sees(&self, o: Word) -> bool
-        ensures seen { let t = (M.view self.now.memory.now).objects in
-            result ≡ true → object_at (watched self.now.watch.now.words.items t) (word o) ≡ object_at t (word o) }
+        ensures seen { result ≡ true
+            → IsSeen self.now.watch.now.words.items (M.view self.now.memory.now).objects (word o) }
         ensures small { result ≡ false → is_small (word o) ≡ false }
         ensures off { result ≡ false → IsOff self.now.watch.now.words.items (word o) }
     {

@@ -22,12 +22,11 @@ use Rattle.st_model.specs.Calls.{itself, transition_of}
 use Rattle.st_model.specs.Deeds.{deed_done, world_done, with_deed}
 use Rattle.st_model.specs.Processes.{signal, enter_process, leave_process, switch_to_process}
 use Rattle.st_model.specs.Cycles.{signal_if_any, signal_next, signal_newest, switch_unless_nil, switch_if_waiting, check_process_switch}
-use Rattle.st_model.specs.View.{View, Held, IsWhole}
-use Rattle.st_frames.specs.Naming.{naming}
+use Rattle.st_model.specs.View.{View, IsWhole}
 use Rattle.st_frames.specs.declared.frame.Frame.{Frame}
 use Rattle.st_frames.specs.declared.registers.Registers.{Registers as Words}
 use Rattle.st_frames.specs.Rows.{row_state, registers_in}
-use Rattle.st_frames.specs.Shown.{shown, registers_of, IsFrame, IsReady}
+use Rattle.st_frames.specs.Shown.{shown, registers_of, IsReady}
 use Rattle.st_frames.proofs.Stored.{loaded}
 use Rattle.st_frames.proofs.There.{word_there, all_four}
 
@@ -150,22 +149,6 @@ waits s e = by_waiting s.world.devices.new_process s (same_value s.world.devices
 pub waits_not : (s : State Table) → not (same_value s.world.devices.new_process nil) ≡ false → (switch_if_waiting bounded_table).run s ≡ Went tt s
 unfolding switch_if_waiting get_device of_page ◌>>=◌ after
 waits_not s e = none_waiting s.world.devices.new_process s (same_value s.world.devices.new_process nil) e
-
--- what is held, once a deed was carried out
-pub ready_after : (h z : View) (f : Frame) (x : World) → IsFrame h f → z.held ≡ naming h.held x → IsReady z f x
-ready_after h z f x frame e = record {
-  frame = record {
-    active = frame.active ∙ sym (ap (λ (y : Held). y.active) e);
-    home = frame.home ∙ sym (ap (λ (y : Held). y.home) e);
-    method = frame.method ∙ sym (ap (λ (y : Held). y.method) e);
-    receiver = frame.receiver ∙ sym (ap (λ (y : Held). y.receiver) e);
-    ip_low = frame.ip_low;
-    ip_high = frame.ip_high;
-    sp_low = frame.sp_low;
-    sp_high = frame.sp_high;
-  };
-  devices = ap (λ (y : Held). y.devices) e;
-}
 
 pub there_after : (p : Value) (v : View) (f : Frame) (w : World) (t : Table) (a : Head) (r : Words) → IsWhole v → IsReady v f w
     → (switch_to_process bounded_table p).run (shown v f w) ≡ Went tt (row_state t a r) → are_there table t (registers_in r) ≡ true

@@ -13,13 +13,13 @@ use Rattle.st_model.specs.Settled.{reclaim}
 use Rattle.st_model.specs.Objects.{nil}
 use Rattle.st_model.specs.Cycles.{made_between, free_space, less, capacity_of, check_process_switch, warned, warned_if_low}
 use Rattle.st_model.specs.Foreseen.{foreseen, foreseen_from, foreseen_cycle, done, done_if_room}
-use Rattle.st_model.specs.View.{View, Held, fits}
+use Rattle.st_model.specs.View.{View, fits}
 use Rattle.st_control.specs.Foreseen.{IsForeseen}
 use Rattle.st_at_once.specs.AtOnce.{IsDoneAtOnce}
 use Rattle.st_machine.specs.Cycling.{GoesAtOnce, GoesBy, Finishes, foreseen_step}
 use Rattle.st_step.specs.Planned.{Plans, plus}
 use Rattle.st_frames.specs.declared.frame.Frame.{Frame}
-use Rattle.st_frames.specs.Shown.{shown, registers_of, IsFrame}
+use Rattle.st_frames.specs.Shown.{shown, registers_of}
 
 -- what fits is not over the capacities
 fits_if : (a b c d : ℕ) → (nat_le a b && nat_le c d) ≡ true → (if nat_lt b a then true else nat_lt d c) ≡ false
@@ -110,16 +110,3 @@ module _ (v : View) (d : Demand) where
 
   pub over : fits v d ≡ false → is_over (plus (used table v.objects) d) v.head ≡ true
   over e = fits_not ((used table v.objects).entries + d.entries) v.head.entries ((used table v.objects).words + d.words) v.head.words e
-
--- the registers are held as before
-pub frame_stays : (u v : View) (f : Frame) → IsFrame u f → v.held ≡ u.held → IsFrame v f
-frame_stays u v f h e = record {
-  active = h.active ∙ sym (ap (λ (x : Held). x.active) e);
-  home = h.home ∙ sym (ap (λ (x : Held). x.home) e);
-  method = h.method ∙ sym (ap (λ (x : Held). x.method) e);
-  receiver = h.receiver ∙ sym (ap (λ (x : Held). x.receiver) e);
-  ip_low = h.ip_low;
-  ip_high = h.ip_high;
-  sp_low = h.sp_low;
-  sp_high = h.sp_high;
-}

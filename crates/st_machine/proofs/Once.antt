@@ -1,6 +1,6 @@
 -- After what comes before a bytecode no signal is pending and no process waits, and so done again it does nothing.
 use Rattle.std.proofs.Common.{◌≡◌, ℕ, zero, suc, List, [], ◌∷◌, length, Option, Some, None, Bool, true, false, refl, sym, ◌∙◌, ap, subst, arith}
-use Rattle.std.specs.Prelude.{◌-◌, slice_get, take, if◌then◌else◌}
+use Rattle.std.specs.Prelude.{◌-◌, slice_get, take}
 use Rattle.std.proofs.lemmas.List.{length-take}
 use Rattle.st_model.specs.declared.device.Device.{Device}
 use Rattle.st_model.specs.declared.device.Device.TheVariants as device

@@ -1,8 +1,8 @@
 -- What comes before a bytecode over a memory is shown beside the births.
-use Rattle.std.proofs.Common.{◌≡◌, ◌≤◌, Option, Some, None, Ok, Err, sym, subst}
+use Rattle.std.proofs.Common.{◌≡◌, ◌≤◌, Some, None, Ok, Err, sym, subst}
 use Rattle.st_model.specs.declared.dead.Dead.{Dead}
 use Rattle.st_model.specs.Machine.{World, State, Transition, Died, Went}
-use Rattle.st_model.specs.Births.{Births, births}
+use Rattle.st_model.specs.Births.{Births}
 use Rattle.st_model.specs.Table.{Table, bounded_table}
 use Rattle.st_model.specs.Show.{Shows}
 use Rattle.st_model.specs.Foreseen.{IsSound, ShownAgain}

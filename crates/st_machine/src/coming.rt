@@ -13,7 +13,8 @@ use st_model::{Event, InputFull};
 pub fn come<M: Memory>(m: &mut M, f: &Frame, w: &mut World, e: Event) -> Result<(), InputFull>
     requires ready { IsReady (M.view m.old) f.now w.old }
     requires place { HasPlace e }
-    ensures comes { ComesFrom e (shown (M.view m.old) f.now w.old) result (shown (M.view m.new) f.now w.new) }
+    ensures comes { ComesFrom e (shown (M.view m.old) f.now w.old) result
+        (shown (M.view m.new) f.now w.new) }
     ensures full { OnErr result (shown (M.view m.new) f.now w.new ≡ shown (M.view m.old) f.now w.old) }
     ensures ready { IsReady (M.view m.new) f.now w.new }
 {

@@ -44,7 +44,8 @@ fn is_low(free: Demand, w: &World) -> bool
 /// Whether it is to be told that space is low: it is, and there are a semaphore and room for its signal.
 #[inline(always)]
 pub fn needs_warning<M: Memory>(m: &M, w: &World) -> bool
-    ensures { result ≡ warns (less (capacity_of (M.view m.now).head) (used table (M.view m.now).objects)) w.now }
+    ensures { result
+        ≡ warns (less (capacity_of (M.view m.now).head) (used table (M.view m.now).objects)) w.now }
 {
     w.holds(Device::LowSpace) && is_low(free_space(m), w) && w.has_signal_room()
 }

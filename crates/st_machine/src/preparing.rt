@@ -11,7 +11,8 @@ use st_model::Dead;
 /// Makes the signals that are pending, and carries out a process switch that waits. It answers the cause where that dies.
 pub fn prepare<M: Memory>(m: &mut M, f: &mut Frame, w: &mut World) -> Option<Dead>
     requires ready { IsReady (M.view m.old) f.old w.old }
-    ensures prepares { PreparesFrom (shown (M.view m.old) f.old w.old) result (shown (M.view m.new) f.new w.new) }
+    ensures prepares { PreparesFrom (shown (M.view m.old) f.old w.old) result
+        (shown (M.view m.new) f.new w.new) }
     ensures ready { result ≡ None → IsReady (M.view m.new) f.new w.new }
 {
     check_process_switch(m, f, w).err()

@@ -54,62 +54,29 @@ const IS_REMEMBERED: Call = Call::Remembered(12, 66, Some(72));
 
 const IS_FORGOTTEN: Call = Call::Remembered(12, 66, None);
 
-/// What the places and methods of the classes were is forgotten.
-const ROWS: [&[Call]; 12] = [
-    &[IS_FORGOTTEN, FOUND, IS_REMEMBERED, FOUND],
+/// Changes by which what was found is forgotten, and what the search finds then.
+const FORGOTTEN: [(Call, Result<Option<Oop>, Dead>); 8] = [
     // its place in the dictionary is emptied, or its method is another, or the class has another dictionary
-    &[
-        FOUND,
-        Call::Store(68, 2, 2),
-        IS_FORGOTTEN,
-        Call::Find(12, 66, Ok(None)),
-        IS_FORGOTTEN,
-    ],
-    &[
-        FOUND,
-        Call::Store(70, 0, 64),
-        IS_FORGOTTEN,
-        Call::Find(12, 66, Ok(Some(Oop(64)))),
-        Call::Remembered(12, 66, Some(64)),
-    ],
-    &[
-        FOUND,
-        Call::Store(12, 1, 50),
-        IS_FORGOTTEN,
-        Call::Find(12, 66, Err(Dead::Places)),
-    ],
+    (Call::Store(68, 2, 2), Ok(None)),
+    (Call::Store(70, 0, 64), Ok(Some(Oop(64)))),
+    (Call::Store(12, 1, 50), Err(Dead::Places)),
     // the dictionary, the Array, the class or the method is exchanged, on either side
-    &[
-        FOUND,
-        Call::Exchange(68, 50),
-        IS_FORGOTTEN,
-        Call::Find(12, 66, Err(Dead::Places)),
-    ],
-    &[
-        FOUND,
-        Call::Exchange(50, 68),
-        IS_FORGOTTEN,
-        Call::Find(12, 66, Err(Dead::Places)),
-    ],
-    &[
-        FOUND,
-        Call::Exchange(50, 70),
-        IS_FORGOTTEN,
-        Call::Find(12, 66, Err(Dead::Field)),
-    ],
+    (Call::Exchange(68, 50), Err(Dead::Places)),
+    (Call::Exchange(50, 68), Err(Dead::Places)),
+    (Call::Exchange(50, 70), Err(Dead::Field)),
+    (Call::Exchange(12, 50), Err(Dead::Field)),
+    (Call::Exchange(72, 50), Err(Dead::Kind)),
+];
+
+/// What is remembered, and what is forgotten with something else.
+const ROWS: [&[Call]; 5] = [
+    &[IS_FORGOTTEN, FOUND, IS_REMEMBERED, FOUND],
+    // what a class had is found in the one that it was exchanged with
     &[
         FOUND,
         Call::Exchange(12, 50),
-        IS_FORGOTTEN,
-        Call::Find(12, 66, Err(Dead::Field)),
         Call::Find(50, 66, Ok(Some(Oop(72)))),
         Call::Remembered(50, 66, Some(72)),
-    ],
-    &[
-        FOUND,
-        Call::Exchange(72, 50),
-        IS_FORGOTTEN,
-        Call::Find(12, 66, Err(Dead::Kind)),
     ],
     // a class below it has its method, which is forgotten with it
     &[
@@ -173,6 +140,25 @@ fn carry_out_all<M: Memory>(rt: &impl Abort, m: &mut M, calls: &[Call]) {
     for next in calls {
         carry_out(rt, m, *next);
     }
+}
+
+/// What is remembered of what a search found.
+fn kept(found: Result<Option<Oop>, Dead>) -> Option<u32> {
+    match found {
+        Ok(Some(method)) => Some(u32::from(method.0)),
+        _ => None,
+    }
+}
+
+#[test]
+fn what_was_found_is_forgotten_where_it_may_change(rt: HostRuntime) -> Result<(), Fail> {
+    for (change, found) in FORGOTTEN {
+        let mut m = image::<CachedLoader<CountedLoader>>(rt.alloc(), &C, 32767, 20000)?;
+        carry_out_all(&rt, &mut m, &[FOUND, change, IS_FORGOTTEN]);
+        carry_out(&rt, &mut m, Call::Find(12, 66, found));
+        carry_out(&rt, &mut m, Call::Remembered(12, 66, kept(found)));
+    }
+    Ok(())
 }
 
 #[test]

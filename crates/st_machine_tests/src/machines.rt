@@ -121,7 +121,19 @@ enum Call {
     Used(u32, u32),
     /// The first fields of an object, whose further ones are nil.
     First(u16, &'static [u16]),
+    /// The same of some objects.
+    AllFirst(&'static [(u16, &'static [u16])]),
 }
+
+/// The scheduler, a list, both processes, the first one's context and the semaphore, once the second process is active.
+const WOKEN_OBJECTS: &[(u16, &[u16])] = &[
+    (58, &[10, 20]),
+    (18, &[60, 60]),
+    (60, &[2, 62, 9, 18]),
+    (62, &[2, 7, 3, 64]),
+    (20, &[2, 36, 13, 30]),
+    (30, &[2, 2, 1]),
+];
 
 /// A word wakes the process that waits for it, which comes before the active one. The one bytecode is its own, and its
 /// registers are stored where the machine is saved. The first process is last in list 4 then.
@@ -132,21 +144,11 @@ const WOKEN: &[Call] = &[
     Call::Counts(1, 0),
     Call::Oldest(Some(4660)),
     Call::Frame(36, 3, 7),
-    Call::First(58, &[10, 20]),
-    Call::First(18, &[60, 60]),
-    Call::First(60, &[2, 62, 9, 18]),
-    Call::First(62, &[2, 7, 3, 64]),
-    Call::First(20, &[2, 36, 13, 30]),
-    Call::First(30, &[2, 2, 1]),
+    Call::AllFirst(WOKEN_OBJECTS),
     Call::First(36, &[2, 7, 3, 64, 2, 2, 2, 3]),
     Call::Used(29, 123),
     Call::Save(Ok(())),
-    Call::First(58, &[10, 20]),
-    Call::First(18, &[60, 60]),
-    Call::First(60, &[2, 62, 9, 18]),
-    Call::First(62, &[2, 7, 3, 64]),
-    Call::First(20, &[2, 36, 13, 30]),
-    Call::First(30, &[2, 2, 1]),
+    Call::AllFirst(WOKEN_OBJECTS),
     Call::First(36, &[2, 9, 5, 64, 2, 2, 2, 3]),
     Call::Used(29, 123),
     Call::Frame(36, 3, 7),
@@ -203,6 +205,13 @@ const DEAD_OF_SAVING: &[Call] = &[
     Call::Death(Some(Dead::Small)),
 ];
 
+/// Objects have these first fields.
+fn all_first_are<M: Memory>(rt: &impl Abort, m: &M, objects: &[(u16, &[u16])]) {
+    for (object, fields) in objects {
+        first_are(rt, m, *object, fields);
+    }
+}
+
 /// An input word comes to a machine that is alive.
 fn word_comes<M: Memory>(rt: &impl Abort, machine: &mut Machine<M>, word: u16)
     requires { machine.old.death ≡ None
@@ -232,6 +241,7 @@ fn carry_out<M: Memory>(rt: &impl Abort, machine: &mut Machine<M>, call: Call)
         Call::Free(device) => assert!(rt; !machine.world().holds(device)),
         Call::Used(entries, words) => used(rt, machine.memory(), entries, words),
         Call::First(object, fields) => first_are(rt, machine.memory(), object, fields),
+        Call::AllFirst(objects) => all_first_are(rt, machine.memory(), objects),
     }
 }
 

@@ -3,9 +3,10 @@ ghost use Rattle.std.specs.Prelude.{◌<◌};
 use crate::image::{B, image, make, write};
 use st_bitblt::copy_bits;
 use st_counted::CountedLoader;
-use st_memory::Memory;
+use st_memory::{Loader, Memory};
 use st_model::{Kind, Oop};
 use st_plain::PlainLoader;
+use std::alloc::AllocGlobal;
 use std::process::Abort;
 use std::test::Fail;
 
@@ -355,24 +356,27 @@ fn copies<M: Memory>(
     words_are(rt, m, objects.bits[2], &words[2], copy);
 }
 
-#[test]
-fn copies_are_those_of_a_plain_loop(rt: HostRuntime) -> Result<(), Fail> {
-    let mut m = image::<CountedLoader>(rt.alloc(), &B, 32767, 20000)?;
-    let objects = made_objects(&rt, &mut m);
-    let mut choices = Choices { state: 1 };
-    for copy in 0..2000 {
-        copies(&rt, &mut m, objects, &mut choices, copy);
+/// So many copies in a memory that this loader makes, told by numbers from a seed on.
+fn copies_over<L: Loader>(
+    rt: &(impl Abort + AllocGlobal),
+    seed: u32,
+    count: u32,
+) -> Result<(), Fail> {
+    let mut m = image::<L>(rt.alloc(), &B, 32767, 20000)?;
+    let objects = made_objects(rt, &mut m);
+    let mut choices = Choices { state: seed };
+    for copy in 0..count {
+        copies(rt, &mut m, objects, &mut choices, copy);
     }
     Ok(())
 }
 
 #[test]
+fn copies_are_those_of_a_plain_loop(rt: HostRuntime) -> Result<(), Fail> {
+    copies_over::<CountedLoader>(&rt, 1, 2000)
+}
+
+#[test]
 fn copies_in_the_plain_memory(rt: HostRuntime) -> Result<(), Fail> {
-    let mut m = image::<PlainLoader>(rt.alloc(), &B, 32767, 20000)?;
-    let objects = made_objects(&rt, &mut m);
-    let mut choices = Choices { state: 2 };
-    for copy in 0..200 {
-        copies(&rt, &mut m, objects, &mut choices, copy);
-    }
-    Ok(())
+    copies_over::<PlainLoader>(&rt, 2, 200)
 }

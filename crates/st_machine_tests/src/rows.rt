@@ -21,6 +21,8 @@ enum Call {
     /// At a place an object is held.
     Hold(RootPlace, u16),
     Settle,
+    /// At a place an object is held, the memory settles, and so many entries and words are used then.
+    Leaves(RootPlace, u16, u32, u32),
     Exchange(u16, u16),
     /// Into a field of an object a pointer is stored.
     Store(u16, u32, u16),
@@ -57,9 +59,7 @@ const FILLED_WORDS: &[Call] = &[
     Call::Room(0, 0, true),
     Call::Room(1, 2, false),
     Call::Hold(RootPlace::Display, 18),
-    Call::Hold(RootPlace::Cursor, 30),
-    Call::Settle,
-    Call::Used(26, 90),
+    Call::Leaves(RootPlace::Cursor, 30, 26, 90),
     Call::Room(1, 18, true),
     Call::Room(1, 19, false),
     Call::Make(1, 12, Kind::Words, 16, 10),
@@ -88,9 +88,7 @@ const FILLED_TABLE: &[Call] = &[
     Call::Used(32767, 78 + 2 * 32743),
     Call::Room(0, 0, true),
     Call::Room(1, 0, false),
-    Call::Hold(RootPlace::Timer, 65534),
-    Call::Settle,
-    Call::Used(25, 80),
+    Call::Leaves(RootPlace::Timer, 65534, 25, 80),
     Call::Room(32742, 0, true),
     Call::Room(32743, 0, false),
     Call::Make(1, 12, Kind::Pointers, 0, 10),
@@ -102,11 +100,8 @@ const CYCLE: &[Call] = &[
     Call::Make(1, 16, Kind::Pointers, 1, 18),
     Call::Store(10, 0, 18),
     Call::Store(18, 0, 10),
-    Call::Hold(RootPlace::Display, 10),
-    Call::Settle,
-    Call::Hold(RootPlace::Display, 2),
-    Call::Settle,
-    Call::Used(26, 84),
+    Call::Leaves(RootPlace::Display, 10, 26, 84),
+    Call::Leaves(RootPlace::Display, 2, 26, 84),
     Call::Next(16, 0, Some(Oop(10))),
     Call::Next(16, 10, Some(Oop(18))),
     Call::Next(16, 18, None),
@@ -117,9 +112,7 @@ const CHAIN: &[Call] = &[
     Call::MakeChain(1000),
     Call::Settle,
     Call::Used(1024, 4078),
-    Call::Hold(RootPlace::Timer, 2),
-    Call::Settle,
-    Call::Used(24, 78),
+    Call::Leaves(RootPlace::Timer, 2, 24, 78),
 ];
 
 /// An object that nothing names stays until the memory settles.
@@ -132,15 +125,9 @@ const UNNAMED_GOES: &[Call] = &[
 
 /// What is held twice is let go once.
 const HELD_TWICE: &[Call] = &[
-    Call::Hold(RootPlace::Display, 58),
-    Call::Settle,
-    Call::Used(24, 78),
-    Call::Hold(RootPlace::Display, 58),
-    Call::Settle,
-    Call::Used(24, 78),
-    Call::Hold(RootPlace::Display, 2),
-    Call::Settle,
-    Call::Used(24, 78),
+    Call::Leaves(RootPlace::Display, 58, 24, 78),
+    Call::Leaves(RootPlace::Display, 58, 24, 78),
+    Call::Leaves(RootPlace::Display, 2, 24, 78),
     Call::Object(58, 12, "pointers"),
 ];
 
@@ -161,12 +148,8 @@ const STORED_WORD: &[Call] = &[
     Call::Word(66, 0, 0),
     Call::Word(66, 1, 4660),
     Call::Word(66, 2, 65535),
-    Call::Hold(RootPlace::InputSemaphore, 66),
-    Call::Settle,
-    Call::Used(25, 83),
-    Call::Hold(RootPlace::InputSemaphore, 2),
-    Call::Settle,
-    Call::Used(24, 78),
+    Call::Leaves(RootPlace::InputSemaphore, 66, 25, 83),
+    Call::Leaves(RootPlace::InputSemaphore, 2, 24, 78),
 ];
 
 /// A new object's fields are nil, also where others had their fields, and what was there is as it was.
@@ -246,6 +229,13 @@ fn hold<M: Memory>(rt: &impl Abort, m: &mut M, place: RootPlace, o: u16) {
     m.hold(place, Oop(o));
 }
 
+/// Holds an object, and settles; so many entries and words are used then.
+fn leaves<M: Memory>(rt: &impl Abort, m: &mut M, place: RootPlace, o: u16, left: (u32, u32)) {
+    hold(rt, m, place, o);
+    m.settle();
+    used(rt, m, left.0, left.1);
+}
+
 fn exchange<M: Memory>(rt: &impl Abort, m: &mut M, a: u16, b: u16) {
     assert!(rt; m.live(Oop(a)) && m.live(Oop(b)));
     m.swap(Oop(a), Oop(b));
@@ -307,6 +297,7 @@ fn carry_out<M: Memory>(rt: &impl Abort, m: &mut M, call: Call) {
         Call::MakeInTurns(count) => make_in_turns(rt, m, count),
         Call::Hold(place, o) => hold(rt, m, place, o),
         Call::Settle => m.settle(),
+        Call::Leaves(place, o, entries, words) => leaves(rt, m, place, o, (entries, words)),
         Call::Exchange(a, b) => exchange(rt, m, a, b),
         Call::Store(o, at, field) => write(rt, m, o, at, field),
         Call::StoreWord(o, at, word) => store_word(rt, m, o, at, word),

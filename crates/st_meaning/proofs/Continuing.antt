@@ -28,25 +28,12 @@ by_true : (on : Bool) (v : Value) → boolean v ≡ Some true → (jump go : Run
 by_true true (values.Constant (suc zero)) e jump go g = refl
 by_true false (values.Constant (suc zero)) e jump go g = refl
 by_true on (values.Constant (suc (suc zero))) e jump go g = absurd cc
-by_true on (values.Constant zero) e jump go g = absurd cc
-by_true on (values.Constant (suc (suc (suc i)))) e jump go g = absurd cc
-by_true on (values.Number z) e jump go g = absurd cc
-by_true on (values.First q) e jump go g = absurd cc
-by_true on (values.Literal i) e jump go g = absurd cc
-by_true on (values.Block i) e jump go g = absurd cc
-by_true on (values.Answer i) e jump go g = absurd cc
+by_true on v e jump go g = absurd cc
 
 by_false : (on : Bool) (v : Value) → boolean v ≡ Some false → (jump go : Run Value) (g : Going) → on_boolean most on v jump go g ≡ (if not on then jump else go) g
 by_false true (values.Constant (suc (suc zero))) e jump go g = refl
 by_false false (values.Constant (suc (suc zero))) e jump go g = refl
-by_false on (values.Constant (suc zero)) e jump go g = absurd cc
-by_false on (values.Constant zero) e jump go g = absurd cc
-by_false on (values.Constant (suc (suc (suc i)))) e jump go g = absurd cc
-by_false on (values.Number z) e jump go g = absurd cc
-by_false on (values.First q) e jump go g = absurd cc
-by_false on (values.Literal i) e jump go g = absurd cc
-by_false on (values.Block i) e jump go g = absurd cc
-by_false on (values.Answer i) e jump go g = absurd cc
+by_false on v e jump go g = absurd cc
 
 decide_none : (v : Value) → boolean v ≡ None → (a b : Run Value) (g : Going) → decide most v a b g ≡ be_unsure most v g
 decide_none (values.Constant (suc zero)) e a b g = absurd cc

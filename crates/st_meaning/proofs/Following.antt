@@ -20,8 +20,8 @@ use Rattle.st_meaning.specs.Values.{DeedView, returned}
 use Rattle.st_meaning.specs.Traces.{nil, goes_on, turns}
 use Rattle.st_meaning.specs.Meanings.{most}
 use Rattle.st_meaning.specs.Courses.{going_view, with_deed, with_back, stack_view, Goes, IsLong, Tests, IsLongTest}
-use Rattle.st_meaning.specs.Arenas.{Meaning, meant, runs_of, left, method_end}
-use Rattle.st_meaning.specs.Traced.{Cut, IsCut, IsPassed, IsFirstOn, IsLeftOn, message_in, arguments_in, nodes_in, method_in, EndsTurn, IsTurnCut, Repeats, IsRepeatCut, again_in, body_in, chosen_in, sided_in, node_in, start_in, acts_in}
+use Rattle.st_meaning.specs.Arenas.{Meaning, meant, runs_of, left}
+use Rattle.st_meaning.specs.Traced.{Cut, IsCut, IsPassed, IsFirstOn, IsLeftOn, message_in, arguments_in, nodes_in, EndsTurn, IsTurnCut, Repeats, IsRepeatCut, again_in, body_in, chosen_in, sided_in, node_in, start_in, acts_in}
 use Rattle.st_meaning.proofs.Arenas.{cut_then, run_at, many_runs}
 use Rattle.st_meaning.proofs.Continuing.{so_long}
 use Rattle.st_meaning.proofs.Coursing.{few_deeds, full_deeds, return_on, return_long, back_on, back_long}
@@ -146,30 +146,19 @@ chosen_cut xs n side on v a b old is t = long_cut (chosen_in xs n side v a b (go
 
 -- BLOCKS
 
--- statements that gave a value, which is left, or returned
-pub body_is : (xs : List Node) (n : ℕ) (s : Statements) (places : List ℕ) (b : Bool) (v : Value) (old mid : Going) → places ≡ s.nodes.items → s.returns ≡ b → nodes_in xs n places old ≡ went v mid
-    → body_in xs n s old ≡ left most (runs_of most xs) n b v mid
-body_is xs n s places b v old mid e r h =
-    ap (λ (o : Outcome Value). then_go o (left most (runs_of most xs) n s.returns)) (sym (ap (λ (l : List ℕ). nodes_in xs n l old) e) ∙ h)
-    ∙ ap (λ (c : Bool). left most (runs_of most xs) n c v mid) r
+-- statements that gave a value, which is left, returned, or the end of a method
+module _ {A : Type 0} (xs : List Node) (n : ℕ) (end : Bool → Value → Run A) (s : Statements) (places : List ℕ) (old : Going) (same : places ≡ s.nodes.items) where
+  abbrev pub closed : Outcome A
+  closed = then_go (nodes_in xs n s.nodes.items old) (end s.returns)
 
-pub body_over : (xs : List Node) (n : ℕ) (s : Statements) (places : List ℕ) (d : List DeedView) (old : Going) → places ≡ s.nodes.items → nodes_in xs n places old ≡ over d → body_in xs n s old ≡ over d
-body_over xs n s places d old e h = ap (λ (o : Outcome Value). then_go o (left most (runs_of most xs) n s.returns)) (sym (ap (λ (l : List ℕ). nodes_in xs n l old) e) ∙ h)
+  pub ended_is : (b : Bool) (v : Value) (mid : Going) → s.returns ≡ b → nodes_in xs n places old ≡ went v mid → closed ≡ end b v mid
+  ended_is b v mid r h = ap (λ (o : Outcome Value). then_go o (end s.returns)) (sym (ap (λ (l : List ℕ). nodes_in xs n l old) same) ∙ h) ∙ ap (λ (c : Bool). end c v mid) r
 
-pub body_cut : (xs : List Node) (n : ℕ) (s : Statements) (places : List ℕ) (old : Going) → places ≡ s.nodes.items → Cut (nodes_in xs n places old) → Cut (body_in xs n s old)
-body_cut xs n s places old e h = cut_then (nodes_in xs n s.nodes.items old) (left most (runs_of most xs) n s.returns) (subst (λ (l : List ℕ). Cut (nodes_in xs n l old)) e h)
+  pub ended_over : (d : List DeedView) → nodes_in xs n places old ≡ over d → closed ≡ over d
+  ended_over d h = ap (λ (o : Outcome Value). then_go o (end s.returns)) (sym (ap (λ (l : List ℕ). nodes_in xs n l old) same) ∙ h)
 
-pub method_is : (xs : List Node) (n : ℕ) (s : Statements) (places : List ℕ) (b : Bool) (v : Value) (old mid : Going) → places ≡ s.nodes.items → s.returns ≡ b → nodes_in xs n places old ≡ went v mid
-    → method_in xs n s old ≡ method_end most (runs_of most xs) n b v mid
-method_is xs n s places b v old mid e r h =
-    ap (λ (o : Outcome Value). then_go o (method_end most (runs_of most xs) n s.returns)) (sym (ap (λ (l : List ℕ). nodes_in xs n l old) e) ∙ h)
-    ∙ ap (λ (c : Bool). method_end most (runs_of most xs) n c v mid) r
-
-pub method_over : (xs : List Node) (n : ℕ) (s : Statements) (places : List ℕ) (d : List DeedView) (old : Going) → places ≡ s.nodes.items → nodes_in xs n places old ≡ over d → method_in xs n s old ≡ over d
-method_over xs n s places d old e h = ap (λ (o : Outcome Value). then_go o (method_end most (runs_of most xs) n s.returns)) (sym (ap (λ (l : List ℕ). nodes_in xs n l old) e) ∙ h)
-
-pub method_cut : (xs : List Node) (n : ℕ) (s : Statements) (places : List ℕ) (old : Going) → places ≡ s.nodes.items → Cut (nodes_in xs n places old) → Cut (method_in xs n s old)
-method_cut xs n s places old e h = cut_then (nodes_in xs n s.nodes.items old) (method_end most (runs_of most xs) n s.returns) (subst (λ (l : List ℕ). Cut (nodes_in xs n l old)) e h)
+  pub ended_cut : Cut (nodes_in xs n places old) → Cut closed
+  ended_cut h = cut_then (nodes_in xs n s.nodes.items old) (end s.returns) (subst (λ (l : List ℕ). Cut (nodes_in xs n l old)) same h)
 
 -- LOOPS
 

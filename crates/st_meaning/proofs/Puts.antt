@@ -31,37 +31,46 @@ put_known old new n v few put m start = by_test (n == m) refl
         let other : m ≢ n = λ i. (let same : (n == m) ≡ true = grind (arith, nat_tests, i) in absurd cc) in
         ap (λ (o : Option (Option Value)). known o start) (put.others m other) ∙ sym (other_same (nat_lt n 64) v (known (slice_get old m) start))
 
+-- a list that is the same holds what it held
+module _ (old new : Held) (n : ℕ) (v : Value) where
+  abbrev Keeps : Variable → Type 0
+  Keeps q = held_of new q ≡ (if nat_lt n 64 && false then v else held_of old q)
+
+  field_kept : new.fields ≡ old.fields → (m : ℕ) → Keeps (Field m)
+  field_kept f m = ap (λ l. known (slice_get l.items m) (First (Field m))) f ∙ sym (other_same (nat_lt n 64) v (held_of old (Field m)))
+
+  temporary_kept : new.arguments ≡ old.arguments → new.temporaries ≡ old.temporaries → (m : ℕ) → Keeps (Temporary m)
+  temporary_kept a t m =
+      ap (λ (k : ℕ). known (slice_get new.temporaries.items m) (start_of k (Temporary m))) a ∙ ap (λ l. known (slice_get l.items m) (start_of old.arguments (Temporary m))) t
+      ∙ sym (other_same (nat_lt n 64) v (held_of old (Temporary m)))
+
+  shared_kept : new.shared ≡ old.shared → (m : ℕ) → Keeps (Shared m)
+  shared_kept s m = ap (λ l. known (slice_get l.items m) (First (Shared m))) s ∙ sym (other_same (nat_lt n 64) v (held_of old (Shared m)))
+
+by_kind : (f g : Variable → Value) → ((m : ℕ) → f (Field m) ≡ g (Field m)) → ((m : ℕ) → f (Temporary m) ≡ g (Temporary m)) → ((m : ℕ) → f (Shared m) ≡ g (Shared m)) → f ≡ g
+by_kind f g a b c = λ i. λ q. at q i
+  where
+    at : (q : Variable) → f q ≡ g q
+    at (Field m) = a m
+    at (Temporary m) = b m
+    at (Shared m) = c m
+
 pub field_put : (old new : Held) (n : ℕ) (v : Value) → n < 64 → IsPut old.fields.items new.fields.items n v → new.arguments ≡ old.arguments → new.temporaries ≡ old.temporaries → new.shared ≡ old.shared
     → held_of new ≡ changed (Field n) v (held_of old)
-field_put old new n v few put a t s = λ i. λ q. at q i
-  where
-    at : (q : Variable) → held_of new q ≡ changed (Field n) v (held_of old) q
-    at (Field m) = put_known old.fields.items new.fields.items n v few put m (First (Field m))
-    at (Temporary m) =
-        ap (λ (k : ℕ). known (slice_get new.temporaries.items m) (start_of k (Temporary m))) a ∙ ap (λ l. known (slice_get l.items m) (start_of old.arguments (Temporary m))) t
-        ∙ sym (other_same (nat_lt n 64) v (held_of old (Temporary m)))
-    at (Shared m) = ap (λ l. known (slice_get l.items m) (First (Shared m))) s ∙ sym (other_same (nat_lt n 64) v (held_of old (Shared m)))
+field_put old new n v few put a t s =
+    by_kind (held_of new) (changed (Field n) v (held_of old)) (λ m. put_known old.fields.items new.fields.items n v few put m (First (Field m))) (temporary_kept old new n v a t) (shared_kept old new n v s)
 
 pub temporary_put : (old new : Held) (n : ℕ) (v : Value) → n < 64 → IsPut old.temporaries.items new.temporaries.items n v → new.arguments ≡ old.arguments → new.fields ≡ old.fields → new.shared ≡ old.shared
     → held_of new ≡ changed (Temporary n) v (held_of old)
-temporary_put old new n v few put a f s = λ i. λ q. at q i
-  where
-    at : (q : Variable) → held_of new q ≡ changed (Temporary n) v (held_of old) q
-    at (Field m) = ap (λ l. known (slice_get l.items m) (First (Field m))) f ∙ sym (other_same (nat_lt n 64) v (held_of old (Field m)))
-    at (Temporary m) =
-        ap (λ (k : ℕ). known (slice_get new.temporaries.items m) (start_of k (Temporary m))) a ∙ put_known old.temporaries.items new.temporaries.items n v few put m (start_of old.arguments (Temporary m))
-    at (Shared m) = ap (λ l. known (slice_get l.items m) (First (Shared m))) s ∙ sym (other_same (nat_lt n 64) v (held_of old (Shared m)))
+temporary_put old new n v few put a f s =
+    by_kind (held_of new) (changed (Temporary n) v (held_of old)) (field_kept old new n v f)
+    (λ m. ap (λ (k : ℕ). known (slice_get new.temporaries.items m) (start_of k (Temporary m))) a ∙ put_known old.temporaries.items new.temporaries.items n v few put m (start_of old.arguments (Temporary m)))
+    (shared_kept old new n v s)
 
 pub shared_put : (old new : Held) (n : ℕ) (v : Value) → n < 64 → IsPut old.shared.items new.shared.items n v → new.arguments ≡ old.arguments → new.fields ≡ old.fields → new.temporaries ≡ old.temporaries
     → held_of new ≡ changed (Shared n) v (held_of old)
-shared_put old new n v few put a f t = λ i. λ q. at q i
-  where
-    at : (q : Variable) → held_of new q ≡ changed (Shared n) v (held_of old) q
-    at (Field m) = ap (λ l. known (slice_get l.items m) (First (Field m))) f ∙ sym (other_same (nat_lt n 64) v (held_of old (Field m)))
-    at (Temporary m) =
-        ap (λ (k : ℕ). known (slice_get new.temporaries.items m) (start_of k (Temporary m))) a ∙ ap (λ l. known (slice_get l.items m) (start_of old.arguments (Temporary m))) t
-        ∙ sym (other_same (nat_lt n 64) v (held_of old (Temporary m)))
-    at (Shared m) = put_known old.shared.items new.shared.items n v few put m (First (Shared m))
+shared_put old new n v few put a f t =
+    by_kind (held_of new) (changed (Shared n) v (held_of old)) (field_kept old new n v f) (temporary_kept old new n v a t) (λ m. put_known old.shared.items new.shared.items n v few put m (First (Shared m)))
 
 -- a variable that no code names
 pub far : (p : Variable) (v : Value) (held : Variable → Value) → 64 ≤ number_of p → held ≡ changed p v held

@@ -282,22 +282,10 @@ count_few ns l h s on =
 -- a value that is returned
 returned_few : (n : Node) (l m : Level) → (Small m → Few n) → Small (return_level n l m) → Few n
 returned_few (constant k) l m f s = tt
-returned_few (small k) l m f s = f (record { greatest = s.greatest; blocks = s.blocks })
-returned_few (literal x place) l m f s = f (record { greatest = s.greatest; blocks = s.blocks })
-returned_few (variable q) l m f s = f (record { greatest = s.greatest; blocks = s.blocks })
-returned_few (assign q x) l m f s = f (record { greatest = s.greatest; blocks = s.blocks })
-returned_few (block g i x b) l m f s = f (record { greatest = s.greatest; blocks = s.blocks })
-returned_few (send above r ms) l m f s = f (record { greatest = s.greatest; blocks = s.blocks })
-returned_few (one_sided side x a) l m f s = f (record { greatest = s.greatest; blocks = s.blocks })
-returned_few (two_sided side x a b) l m f s = f (record { greatest = s.greatest; blocks = s.blocks })
-returned_few (loop kind x a) l m f s = f (record { greatest = s.greatest; blocks = s.blocks })
+returned_few n l m f s = f (record { greatest = s.greatest; blocks = s.blocks })
 
 mutual
   few : (n : Node) (l : Level) → Sound l → Small (level_of for_value n l) → Few n
-  few (constant k) l h s = tt
-  few (small k) l h s = tt
-  few (literal x place) l h s = tt
-  few (variable q) l h s = tt
   few (assign q x) l h s = few x l h s
   few (block f i x b) l h s =
       let o = popped 1 (level_of for_value x (pushed l)) in
@@ -339,6 +327,7 @@ mutual
       let t = pushed (beside (popped 1 m) f) in
       let inner : Small f = let k = small_before (beside (popped 1 m) f) t (up_pushed (beside (popped 1 m) f)) s in record { greatest = k.greatest; blocks = k.blocks } in
       (body_few x l h (of_popped m (small_before (popped 1 m) f (body_up a (popped 1 m)) inner)), λ on. body_few a (popped 1 m) (sound_popped 1 m (sound_after l m (body_up x l) h on)) inner)
+  few n l h s = tt
 
   body_few : (b : Body) (l : Level) → Sound l → Small (body_level b l) → BodyFew b
   body_few nothing l h s = tt
@@ -393,22 +382,10 @@ method_few b g k = few_in b empty (record { live = refl; held = omega arith }) (
 
 each_returned : (n : Node) (l m : Level) (at : ℕ) → (Small m → Each FewBlock at n) → Small (return_level n l m) → Each FewBlock at n
 each_returned (constant k) l m at f s = tt
-each_returned (small k) l m at f s = f (record { greatest = s.greatest; blocks = s.blocks })
-each_returned (literal x place) l m at f s = f (record { greatest = s.greatest; blocks = s.blocks })
-each_returned (variable q) l m at f s = f (record { greatest = s.greatest; blocks = s.blocks })
-each_returned (assign q x) l m at f s = f (record { greatest = s.greatest; blocks = s.blocks })
-each_returned (block g i x b) l m at f s = f (record { greatest = s.greatest; blocks = s.blocks })
-each_returned (send above r ms) l m at f s = f (record { greatest = s.greatest; blocks = s.blocks })
-each_returned (one_sided side x a) l m at f s = f (record { greatest = s.greatest; blocks = s.blocks })
-each_returned (two_sided side x a b) l m at f s = f (record { greatest = s.greatest; blocks = s.blocks })
-each_returned (loop kind x a) l m at f s = f (record { greatest = s.greatest; blocks = s.blocks })
+each_returned n l m at f s = f (record { greatest = s.greatest; blocks = s.blocks })
 
 mutual
   each_few : (n : Node) (l : Level) (at : ℕ) → Small (level_of for_value n l) → Each FewBlock at n
-  each_few (constant k) l at s = tt
-  each_few (small k) l at s = tt
-  each_few (literal x place) l at s = tt
-  each_few (variable q) l at s = tt
   each_few (assign q x) l at s = each_few x l at s
   each_few (block f i x b) l at s =
       let o = popped 1 (level_of for_value x (pushed l)) in
@@ -442,6 +419,7 @@ mutual
       let t = pushed (beside (popped 1 m) f) in
       let inner : Small f = let k = small_before (beside (popped 1 m) f) t (up_pushed (beside (popped 1 m) f)) s in record { greatest = k.greatest; blocks = k.blocks } in
       (each_body x l at (of_popped m (small_before (popped 1 m) f (body_up a (popped 1 m)) inner)), each_body a (popped 1 m) _ inner)
+  each_few n l at s = tt
 
   each_body : (b : Body) (l : Level) (at : ℕ) → Small (body_level b l) → EachOfBody FewBlock at b
   each_body nothing l at s = tt

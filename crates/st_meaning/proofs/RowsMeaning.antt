@@ -1,11 +1,11 @@
 -- Worked rows of traces and walks, by the definitions alone: each method's list is the same from its tree and from its code.
-use Rattle.std.proofs.Common.{ℕ, Bool, true, false, List, [], ◌∷◌, refl, None}
+use Rattle.std.proofs.Common.{ℕ, true, false, List, [], ◌∷◌, refl, None}
 use Rattle.std.specs.Prelude.{codes, pos, ◌≡◌}
-use Rattle.st_scan.specs.declared.token.Signed.{Signed}
-use Rattle.st_scan.specs.Views.{NameView, ContentView, ExpressionView, MethodView}
+use Rattle.st_scan.specs.Views.{MethodView}
 use Rattle.st_scan.specs.Views as v
 use Rattle.st_emit.specs.declared.step.Constant.TheVariants.{Receiver, True, False}
-use Rattle.st_emit.specs.Names.{NamesView}
+use Rattle.st_scan.proofs.Worked.{signed, name_at as nm, literal_at as lit}
+use Rattle.st_emit.proofs.Worked.{point}
 use Rattle.st_code.specs.Methods.{body, parts}
 use Rattle.st_meaning.specs.declared.deed.Variable.TheVariants.{Field, Temporary}
 use Rattle.st_meaning.specs.declared.deed.Value.{Value}
@@ -16,18 +16,6 @@ use Rattle.st_meaning.specs.Walks.{walk}
 use Rattle.st_meaning.specs.Blocks.{block_trace, block_walk}
 use Rattle.st_emit.specs.Nodes.{Body, returned as answered, body_of}
 use Rattle.st_meaning.specs.Meanings.{most, Trace, Walk, trace_of, walk_of}
-
-abbrev signed : Bool → ℕ → Signed
-signed minus size = record { minus = minus; size = size }
-
-abbrev nm : List ℕ → ℕ → NameView
-nm text place = record { text = text; place = place }
-
-abbrev lit : ℕ → ContentView → ExpressionView
-lit place what = v.literal (record { place = place; what = what })
-
-abbrev point : NamesView
-point = (record { fields = ((codes "x") ∷ (codes "y") ∷ []); shared = ((record { text = codes "Point"; association = 100 }) ∷ (record { text = codes "Gone"; association = 102 }) ∷ []); symbols = true })
 
 abbrev trace_by : MethodView → List AnswerView → Outcome Value
 trace_by m answers = Trace m point answers

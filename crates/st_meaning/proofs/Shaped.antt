@@ -4,7 +4,7 @@ use Rattle.std.specs.Prelude.{if◌then◌else◌}
 use Rattle.st_scan.specs.declared.chain.Link.{Link}
 use Rattle.st_scan.specs.Views.{ExpressionView, StatementsView, MessagesView, ExpressionsView, no_messages, message, no_expressions, expression, block}
 use Rattle.st_scan.specs.Views as views
-use Rattle.st_scan.specs.Chains.{LinkView, assigned, sent, with_link, linked, link_view, links_view}
+use Rattle.st_scan.specs.Chains.{LinkView, sent, with_link, linked, link_view, links_view}
 use Rattle.st_emit.specs.declared.form.Form.{Form}
 use Rattle.st_emit.specs.declared.form.Form.TheVariants.{Message as Plain, One, Two, Repeated}
 use Rattle.st_emit.specs.declared.form.TwoSided.{TwoSided}
@@ -120,13 +120,10 @@ loop_same e a selector r c ls is =
     sym (ap (λ (x : ExpressionView). expression_node x c ls) blocks ∙ loop_node selector r c ls is.form)
 
 repetition_same : (e : ExpressionView) (l : LinkView) (r : RepetitionView) (c : Context) (ls : List LiteralView) → repetition_of e l ≡ Some r → loop_node_of r c ls ≡ expression_node (with_link l e) c ls
-repetition_same e (assigned target) r c ls h = absurd cc
-repetition_same e (sent views.no_messages) r c ls h = absurd cc
-repetition_same e (sent (views.message selector views.no_expressions views.no_messages)) r c ls h = absurd cc
+repetition_same e (sent (views.message selector es (views.message other fs ms))) r c ls h = absurd cc
 repetition_same e (sent (views.message selector (views.expression a views.no_expressions) views.no_messages)) r c ls h =
     loop_same e a selector r c ls (loop_parts (is_plain e) (is_plain a) e a selector r refl refl h)
-repetition_same e (sent (views.message selector (views.expression a (views.expression b es)) views.no_messages)) r c ls h = absurd cc
-repetition_same e (sent (views.message selector es (views.message other fs ms))) r c ls h = absurd cc
+repetition_same e l r c ls h = absurd cc
 
 -- an expression that begins with a loop
 pub begins_loop : (e : ExpressionView) (links : List Link) (r : RepetitionView) (c : Context) (ls : List LiteralView) → first_repetition e (links_view links) ≡ Some r → loop_node_of r c ls ≡ expression_node (linked e (links_view (take 1 links))) c ls

@@ -24,9 +24,9 @@ use Rattle.st_model.specs.Blocks.{primitive_block_copy, primitive_value}
 use Rattle.st_model.specs.Arithmetic.{equivalence, receiver_class}
 use Rattle.st_model.specs.Bytecodes.{bytecode, step, push_receiver, push_constant, return_receiver, return_top_to_sender, return_top_to_caller, pop_stack, duplicate_top, push_active_context, arithmetic_send, push_operand, store_and_pop, extended_push, extended_store, extended_store_and_pop, short_unconditional_jump, long_offset, long_unconditional_jump, send_literal, send_literal_to_super, extended_send, double_extended_send, extended_super_send, double_extended_super_send, short_jump_on_false, long_jump_on_true, long_jump_on_false, primitive_send, or_send, return_constant}
 use Rattle.st_emit.specs.declared.step.Constant.TheVariants.{Receiver, True, False, Nil, Context}
-use Rattle.st_emit.specs.declared.step.Place.TheVariants.{Field, Temporary, Literal, Shared}
+use Rattle.st_emit.specs.declared.step.Place.TheVariants.{Field, Shared}
 use Rattle.st_emit.specs.declared.step.Step.{Step as Code}
-use Rattle.st_emit.specs.declared.step.Step.TheVariants.{Push, PushConstant, PushNumber, Store, PopStore, Pop, Duplicate, Send, SendSuper, SendSpecial, ReturnConstant, ReturnTop, ReturnBlock, Jump, JumpBack, JumpIf, JumpPast}
+use Rattle.st_emit.specs.declared.step.Step.TheVariants.{Push, PushConstant, Store, PopStore, Pop, Duplicate, Send, SendSuper, SendSpecial, ReturnConstant, ReturnTop, ReturnBlock, Jump, JumpBack, JumpIf, JumpPast}
 use Rattle.st_emit.specs.Steps.{is_short}
 use Rattle.st_emit.specs.Resolving.{first_special}
 use Rattle.st_resolved.specs.declared.reading.Found.{Found}
@@ -197,29 +197,9 @@ module _ {H : Type 0} (m : ObjectMemory H) where
 
 module _ {H : Type 0} (m : ObjectMemory H) (laws : KeepsOthers m) (k b : ℕ) where
   apart_behind : (s : State H) (n : ℕ) (c : Code) → StoresApart m s c → StoresApart m (behind m s n) c
-  apart_behind s n (Store (Field i)) a = tt
-  apart_behind s n (Store (Temporary i)) a = tt
-  apart_behind s n (Store (Literal i)) a = tt
   apart_behind s n (Store (Shared i)) a = a
-  apart_behind s n (PopStore (Field i)) a = tt
-  apart_behind s n (PopStore (Temporary i)) a = tt
-  apart_behind s n (PopStore (Literal i)) a = tt
   apart_behind s n (PopStore (Shared i)) a = a
-  apart_behind s n (Push p) a = tt
-  apart_behind s n (PushConstant c) a = tt
-  apart_behind s n (PushNumber i) a = tt
-  apart_behind s n Pop a = tt
-  apart_behind s n Duplicate a = tt
-  apart_behind s n (Send i j) a = tt
-  apart_behind s n (SendSuper i j) a = tt
-  apart_behind s n (SendSpecial c) a = tt
-  apart_behind s n (ReturnConstant c) a = tt
-  apart_behind s n ReturnTop a = tt
-  apart_behind s n ReturnBlock a = tt
-  apart_behind s n (Jump d) a = tt
-  apart_behind s n (JumpBack d) a = tt
-  apart_behind s n (JumpIf on d) a = tt
-  apart_behind s n (JumpPast d) a = tt
+  apart_behind s n c a = tt
 
   names_behind : (s : State H) (n : ℕ) → NamesSelectors m s → NamesSelectors m (behind m s n)
   names_behind s n names i text e =
@@ -227,75 +207,21 @@ module _ {H : Type 0} (m : ObjectMemory H) (laws : KeepsOthers m) (k b : ℕ) wh
       record { selector = a.selector; count = a.count; stands = a.stands; spelled = a.spelled; counted = a.counted; arguments = a.arguments }
 
   named_behind : (s : State H) (n : ℕ) (c : Code) → SendsNamed m s c → SendsNamed m (behind m s n) c
-  named_behind s n (Push p) a = tt
-  named_behind s n (PushConstant c) a = tt
-  named_behind s n (PushNumber i) a = tt
-  named_behind s n (Store p) a = tt
-  named_behind s n (PopStore p) a = tt
-  named_behind s n Pop a = tt
-  named_behind s n Duplicate a = tt
-  named_behind s n (Send i j) a = tt
-  named_behind s n (SendSuper i j) a = tt
   named_behind s n (SendSpecial c) a = names_behind s n a
-  named_behind s n (ReturnConstant c) a = tt
-  named_behind s n ReturnTop a = tt
-  named_behind s n ReturnBlock a = tt
-  named_behind s n (Jump d) a = tt
-  named_behind s n (JumpBack d) a = tt
-  named_behind s n (JumpIf on d) a = tt
-  named_behind s n (JumpPast d) a = tt
+  named_behind s n c a = tt
 
   two_behind : (s : State H) (n : ℕ) (c : Code) → TestsTwo m s c → TestsTwo m (behind m s n) c
-  two_behind s n (Push p) a = tt
-  two_behind s n (PushConstant c) a = tt
-  two_behind s n (PushNumber i) a = tt
-  two_behind s n (Store p) a = tt
-  two_behind s n (PopStore p) a = tt
-  two_behind s n Pop a = tt
-  two_behind s n Duplicate a = tt
-  two_behind s n (Send i j) a = tt
-  two_behind s n (SendSuper i j) a = tt
-  two_behind s n (SendSpecial c) a = tt
-  two_behind s n (ReturnConstant c) a = tt
-  two_behind s n ReturnTop a = tt
-  two_behind s n ReturnBlock a = tt
-  two_behind s n (Jump d) a = tt
-  two_behind s n (JumpBack d) a = tt
   two_behind s n (JumpIf on d) a = a
-  two_behind s n (JumpPast d) a = tt
+  two_behind s n c a = tt
 
   walked_behind : (s : State H) (n : ℕ) (c : Code) → IsWalked m s k b c → IsWalked m (behind m s n) k b c
   walked_behind s n c w = record { no_home = w.no_home; no_active = w.no_active; apart = apart_behind s n c w.apart; names = w.names; few = w.few; selectors = named_behind s n c w.selectors; booleans = two_behind s n c w.booleans; home = w.home; block = w.block; stack = w.stack }
 
   values_behind : (s : State H) (n : ℕ) (c : Code) (st : List (Option Value)) → walk_code (values_in m (behind m s n)) c st ≡ walk_code (values_in m s) c st
   values_behind s n (Push (Field i)) st = refl
-  values_behind s n (Push (Temporary i)) st = refl
-  values_behind s n (Push (Literal i)) st = refl
-  values_behind s n (Push (Shared i)) st = refl
   values_behind s n (PushConstant Receiver) st = refl
-  values_behind s n (PushConstant True) st = refl
-  values_behind s n (PushConstant False) st = refl
-  values_behind s n (PushConstant Nil) st = refl
-  values_behind s n (PushConstant Context) st = refl
-  values_behind s n (PushNumber i) st = refl
-  values_behind s n (Store p) st = refl
-  values_behind s n (PopStore p) st = refl
-  values_behind s n Pop st = refl
-  values_behind s n Duplicate st = refl
-  values_behind s n (Send i j) st = refl
-  values_behind s n (SendSuper i j) st = refl
-  values_behind s n (SendSpecial c) st = refl
   values_behind s n (ReturnConstant Receiver) st = refl
-  values_behind s n (ReturnConstant True) st = refl
-  values_behind s n (ReturnConstant False) st = refl
-  values_behind s n (ReturnConstant Nil) st = refl
-  values_behind s n (ReturnConstant Context) st = refl
-  values_behind s n ReturnTop st = refl
-  values_behind s n ReturnBlock st = refl
-  values_behind s n (Jump d) st = refl
-  values_behind s n (JumpBack d) st = refl
-  values_behind s n (JumpIf on d) st = refl
-  values_behind s n (JumpPast d) st = refl
+  values_behind s n c st = refl
 
   abbrev sent_by : Bool → ℕ → ℕ → Step H Call
   sent_by true i a = send_literal_to_super m i a

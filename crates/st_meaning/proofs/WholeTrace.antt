@@ -15,13 +15,14 @@ use Rattle.st_code.specs.Methods as methods
 use Rattle.st_resolved.specs.Seen.{AllBelow, numbers}
 use Rattle.st_resolved.proofs.Seen.{below_more}
 use Rattle.st_resolved.proofs.Wholes.{few_literals, few_variables, all_below}
+use Rattle.st_meaning.specs.declared.deed.Answer.{Answer}
 use Rattle.st_meaning.specs.declared.deed.Value.{Value}
 use Rattle.st_meaning.specs.declared.arena.Statements.{Statements}
 use Rattle.st_meaning.specs.declared.sketch.Sketch.{Sketch}
 use Rattle.st_meaning.specs.Values.{AnswerView, DeedView}
 use Rattle.st_meaning.specs.Runs.{Going, Outcome, went, over, long, stuck, unfinished, Run}
 use Rattle.st_meaning.specs.Traces.{method_value}
-use Rattle.st_meaning.specs.Deeds.{Lists}
+use Rattle.st_meaning.specs.Deeds.{Lists, answers_view}
 use Rattle.st_meaning.specs.Meanings.{most, start_of, before_all, enough_turns, IsEnded, Trace}
 use Rattle.st_meaning.specs.Traced.{Cut, method_in}
 use Rattle.st_meaning.specs.Meant.{IsBody}
@@ -68,6 +69,10 @@ pub trace_is : (t : MethodView) (names : NamesView) (answers : List AnswerView) 
     → method_in sketch.nodes.items bound s g ≡ Trace t names answers
 trace_is t names answers sketch s bound g is enough start =
     ap (λ (m : Run Value). m g) (is.method bound) ∙ ap (λ (n : ℕ). method_value most (body t names).part n g) enough ∙ ap (λ (h : Going). method_value most (body t names).part (enough_turns most) h) start
+
+-- what a trace begins with
+pub begun_with : (n m : ℕ) (given held : List Answer) (g : Going) → g ≡ before_all (start_of n) (answers_view held) → n ≡ m → held ≡ given → g ≡ before_all (start_of m) (answers_view given)
+begun_with n m given held g begins many same = begins ∙ ap (λ (k : ℕ). before_all (start_of k) (answers_view held)) many ∙ ap (λ (xs : List Answer). before_all (start_of m) (answers_view xs)) same
 
 pub lists_over : (o : Outcome Value) (d : List DeedView) → o ≡ over d → Lists o d
 lists_over o d e = subst (λ (x : Outcome Value). Lists x d) (sym e) refl

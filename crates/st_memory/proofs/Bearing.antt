@@ -21,11 +21,14 @@ use Rattle.st_model.proofs.TableLemmas.{entry_past}
 use Rattle.st_memory.specs.declared.made.Made.{Made}
 use Rattle.st_memory.specs.declared.change.Change.{Change}
 use Rattle.st_memory.specs.declared.change.Exchange.{Exchange}
+use Rattle.st_memory.specs.declared.notes.Notes.{Notes}
+use Rattle.st_memory.specs.declared.exchanges.Exchanges.{Exchanges}
+use Rattle.st_memory.specs.Noted.{noted, drafted}
 use Rattle.st_memory.specs.Drafts.{with_made, draft_table, exchanged_by, AreOf}
 use Rattle.st_memory.specs.Tabular.{apart_tabular}
 use Rattle.st_memory.specs.Bearing.{free_before, IsNumberOf, instance_at}
 use Rattle.st_memory.proofs.Bodies.{even_pointer}
-use Rattle.st_memory.proofs.Behind.{base_entry, draft_length}
+use Rattle.st_memory.proofs.Behind.{base_entry, draft_length, made_fit}
 use Rattle.st_memory.proofs.Drafted.{taken}
 use Rattle.st_memory.proofs.Exchanged.{live_is, live_all, length_all}
 use Rattle.st_memory.proofs.Freeing.{live_place, free_rest, entry_taken}
@@ -390,6 +393,10 @@ over_draft t ms n cs k pairs j places few there =
           ∙ (replayed_like (with_made t ms n) cs k).live (Ref i) ∙ live_is (with_made t ms n) (Ref i)
           ∙ ap is_some (base_entry t ms n few i (omega (arith, l, places)));
     }
+
+-- a draft is
+pub over_notes : (t : Table) (notes : Notes) (e : Exchanges) → length t ≡ 32768 → AreOf (noted t notes) e.pairs e.count → IsOver t (drafted t notes e) notes.made_count
+over_notes t notes e places there = over_draft t notes.made notes.made_count notes.changes notes.count e.pairs e.count places (made_fit notes) there
 
 pub reads_bearer : (now : Table) (k : ℕ) (r : Option Word) → option_map word r ≡ named_or_not (borne_apart now k) → Reads (object_at apart k) (option_map word) now (Ok r)
 unfolding object_at

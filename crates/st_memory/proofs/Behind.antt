@@ -7,14 +7,15 @@ use Rattle.st_model.specs.Objects.{Object, is_pointers, with_field, one, words_o
 use Rattle.st_model.specs.Table.{Table, entry, changed, joined, total_used}
 use Rattle.st_model.specs.View.{nothing, object_of, with_stored}
 use Rattle.st_model.proofs.Pointers.{value_of-even, value_of-pointer}
-use Rattle.st_model.proofs.WholeLemmas.{length-changed, total_used-changed}
+use Rattle.st_model.proofs.WholeLemmas.{total_used-changed}
 use Rattle.st_model.proofs.FormedLemmas.{words_of-with_field}
 use Rattle.st_memory.specs.declared.made.Made.{Made}
 use Rattle.st_memory.specs.declared.change.Change.{Change}
+use Rattle.st_memory.specs.declared.notes.Notes.{Notes}
 use Rattle.st_memory.specs.declared.change.Change.TheVariants.{Field, Fields}
 use Rattle.st_memory.specs.Drafts.{made_table, with_made, draft_table, written, all_written, pointer_fields, after_change, no_change, replayed, named_object, highest}
 use Rattle.st_memory.specs.Making.{made_object}
-use Rattle.st_model.proofs.TableLemmas.{entry_past}
+use Rattle.st_model.proofs.TableLemmas.{entry_past, length-changed}
 
 -- tables end to end
 
@@ -242,6 +243,10 @@ none_small t (Ref k) h = cc
 
 pub same_small : (t u : Table) (v : Value) → is_small v ≡ true → named_object t v ≡ named_object u v
 same_small t u v h = none_small t v h ∙ sym (none_small u v h)
+
+-- the list of what is made has a place for each
+pub made_fit : (notes : Notes) → notes.made_count ≤ length notes.made
+made_fit notes = let few = notes.few in let long = notes.sizes.0 in omega (arith, few, long)
 
 module _ (t : Table) (ms : List Made) (n w : ℕ) (few : n ≤ length ms) (places : length t ≡ 32768) (even : is_small (value_of w) ≡ false) where
   pub same_low : w < 65536 → named_object (with_made t ms n) (value_of w) ≡ named_object t (value_of w)

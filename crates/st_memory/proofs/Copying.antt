@@ -1,14 +1,15 @@
 -- What stands in the fields while they are copied one after the other.
 use Rattle.std.proofs.Common.{◌≡◌, ◌≢◌, ℕ, suc, ◌+◌, ◌-◌, ◌<◌, ◌≤◌, List, length, true, Some, refl, sym, ◌∙◌, ap, arith, ◌⊎◌, inl, inr}
+use Rattle.std.proofs.lemmas.Bool.{false≢true}
 use Rattle.std.proofs.lemmas.Option.{get_or_from_slice_get}
 use Rattle.std.specs.Prelude.{slice_get}
-use Rattle.st_model.specs.declared.kind.Kind.{Kind}
-use Rattle.st_model.specs.declared.kind.Kind.TheVariants as kind
 use Rattle.st_model.specs.Values.{Value}
-use Rattle.st_model.specs.Objects.{nil}
+use Rattle.st_model.specs.Objects.{nil, is_pointers}
+use Rattle.st_model.specs.Formed.{IsHeader}
 use Rattle.st_model.specs.Table.{Table}
 use Rattle.st_model.specs.View.{Has, is_live, object_of, with_stored, with_fields, field_of, fields_from}
-use Rattle.st_model.proofs.Transfers.{same_or_not, live_with_fields, count_with_fields, kind_with_fields, field_with_fields-other, field_with_fields-below, field_with_fields-above, fields_from-length, fields_from-more, with_fields-more, stored-below}
+use Rattle.st_model.proofs.KindTests.{no_method}
+use Rattle.st_model.proofs.Transfers.{same_or_not, live_with_fields, count_with_fields, kind_with_fields, field_with_fields-other, field_with_fields-beside, fields_from-length, fields_from-more, with_fields-more, stored-below}
 
 module _ (t u : Table) (v : Value) (to n : ℕ) (xs : List Value) (i : ℕ) (has : Has t v to n) (is : u ≡ with_fields t v i xs) where
   pub live_after : (s : Value) → is_live t s ≡ true → is_live u s ≡ true
@@ -19,6 +20,10 @@ module _ (t u : Table) (v : Value) (to n : ℕ) (xs : List Value) (i : ℕ) (has
 
   pub kind_after : (s : Value) → (object_of u s).kind ≡ (object_of t s).kind
   kind_after s = rw is (kind_with_fields t v i xs s has.live)
+
+  -- what has fields is no Method
+  pub header_after : (j : ℕ) (x : Value) → IsHeader (object_of u v) j x
+  header_after j x = λ e. absurd (false≢true (sym (no_method (object_of u v).kind (ap is_pointers (kind_after v) ∙ has.kind)) ∙ e))
 
   read_after : (s : Value) (j : ℕ) (x : Value) → slice_get (object_of u s).fields j ≡ Some x → field_of u s j ≡ x
   unfolding field_of
@@ -37,8 +42,8 @@ first_more t u w s v from to k n x has down l is read stored =
     ∙ ap (λ j. with_stored (with_fields t v to (fields_from t s from k)) v j (field_of t s (from + k))) m)))
   where
     unread : (s ≡ v) ⊎ (s ≢ v) → field_of (with_fields t v to (fields_from t s from k)) s (from + k) ≡ field_of t s (from + k)
-    unread (inl e) = field_with_fields-above t v to (fields_from t s from k) s (from + k) has.live
-        (rw (fields_from-length t s from k) (let d = down e in omega (arith, d)))
+    unread (inl e) = field_with_fields-beside t v to (fields_from t s from k) s (from + k) has.live
+        (inr (rw (fields_from-length t s from k) (let d = down e in omega (arith, d))))
     unread (inr d) = field_with_fields-other t v to (fields_from t s from k) s (from + k) has.live d
 
 next_is : (t : Table) (s v : Value) (from to k j : ℕ)
@@ -61,7 +66,7 @@ last_more t u w s v from to k n x has up l is read stored =
     ∙ next_is t s v from to k (n - suc k) ∙ ap (λ j. with_fields t v (to + k) (fields_from t s (from + k) j)) (sym m))
   where
     unread : (s ≡ v) ⊎ (s ≢ v) → field_of (with_fields t v (to + suc k) (fields_from t s (from + suc k) (n - suc k))) s (from + k) ≡ field_of t s (from + k)
-    unread (inl e) = field_with_fields-below t v (to + suc k) (fields_from t s (from + suc k) (n - suc k)) s (from + k) has.live (let d = up e in omega (arith, d))
+    unread (inl e) = field_with_fields-beside t v (to + suc k) (fields_from t s (from + suc k) (n - suc k)) s (from + k) has.live (inl (let d = up e in omega (arith, d)))
     unread (inr d) = field_with_fields-other t v (to + suc k) (fields_from t s (from + suc k) (n - suc k)) s (from + k) has.live d
 
 pub none_yet : (t : Table) (s v : Value) (from to n : ℕ) → t ≡ with_fields t v to (fields_from t s from (n - n))

@@ -10,8 +10,8 @@ use Rattle.st_model.specs.Objects.{Object, is_pointers, with_field}
 use Rattle.st_model.specs.Machine.{is_there}
 use Rattle.st_model.specs.Table.{Table, table, entry, changed, exchanged, joined, total_used}
 use Rattle.st_model.specs.View.{nothing, is_live, object_of, with_exchanged, with_stored, Has}
-use Rattle.st_model.proofs.TableLemmas.{changed-some, changed-other, entry_past}
-use Rattle.st_model.proofs.WholeLemmas.{named, length-changed}
+use Rattle.st_model.proofs.TableLemmas.{changed-some, changed-other, entry_past, length-changed}
+use Rattle.st_model.proofs.WholeLemmas.{named}
 use Rattle.st_model.proofs.Exchanging.{exchanged_is, entry-exchanged, length-exchanged, total_used-exchanged}
 use Rattle.st_memory.specs.declared.change.Change.TheVariants.{Field, Fields}
 use Rattle.st_memory.specs.declared.change.Exchange.{Exchange}
@@ -129,7 +129,7 @@ length_written t (Ref n) i x = by_kind (is_pointers (object_of t (Ref n)).kind)
     by_kind true = length-changed t n (with_field (object_of t (Ref n)) i x)
     by_kind false = refl
 
-small_written : (t : Table) (n i : ℕ) (x : Value) → written t (Small n) i x ≡ t
+pub small_written : (t : Table) (n i : ℕ) (x : Value) → written t (Small n) i x ≡ t
 unfolding written with_stored
 small_written t n i x = by_kind (is_pointers (object_of t (Small n)).kind)
   where

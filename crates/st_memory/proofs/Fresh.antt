@@ -152,13 +152,17 @@ module _ (c : ℕ) (k : Kind) (n l : ℕ) where
 
 -- of a method
 
+by_method : (P : Kind → Type 0) → P kind.Method → (k : Kind) → is_method k ≡ true → P k
+by_method P h kind.Pointers e = cc
+by_method P h kind.Words e = cc
+by_method P h kind.Bytes e = cc
+by_method P h kind.Method e = h
+
 pub header_right : (c : ℕ) (k : Kind) (n l : ℕ) → is_method k ≡ true → Reads (method_header table (Ref 0)) word (alone (fresh c k n l)) (Ok (record { 0 = 2 * l + 1 }))
-header_right c kind.Pointers n l e = cc
-header_right c kind.Words n l e = cc
-header_right c kind.Bytes n l e = cc
-header_right c kind.Method n l e =
-    right_kind (method_header table (Ref 0)) is_method (λ (o : Object). slice_get o.fields 0) dead.Field word (header_looks (Ref 0)) c kind.Method n l (Ok (record { 0 = 2 * l + 1 })) refl
-    (ap (λ x. Went x tt) (sym (value_of-odd l)))
+header_right c k n l e =
+    by_method (λ k. Reads (method_header table (Ref 0)) word (alone (fresh c k n l)) (Ok (record { 0 = 2 * l + 1 })))
+    (right_kind (method_header table (Ref 0)) is_method (λ (o : Object). slice_get o.fields 0) dead.Field word (header_looks (Ref 0)) c kind.Method n l (Ok (record { 0 = 2 * l + 1 })) refl
+    (ap (λ x. Went x tt) (sym (value_of-odd l)))) k e
 
 literal_in : (n l i : ℕ) → i < l → slice_get (fresh 0 kind.Method n l).fields (i + 1) ≡ Some nil
 literal_in n l i h = let e : i + 1 ≡ suc i = omega arith in ap (slice_get (Small l ∷ replicate l nil)) e ∙ got_nth l i nil h
@@ -167,20 +171,16 @@ literal_out : (n l i : ℕ) → l ≤ i → slice_get (fresh 0 kind.Method n l).
 literal_out n l i h = let e : i + 1 ≡ suc i = omega arith in ap (slice_get (Small l ∷ replicate l nil)) e ∙ got_none l i nil h
 
 pub literal_right : (c : ℕ) (k : Kind) (n l i : ℕ) → is_method k ≡ true → i < l → Reads (literal table (Ref 0) i) word (alone (fresh c k n l)) (Ok (record { 0 = 2 }))
-literal_right c kind.Pointers n l i e h = cc
-literal_right c kind.Words n l i e h = cc
-literal_right c kind.Bytes n l i e h = cc
-literal_right c kind.Method n l i e h =
-    right_kind (literal table (Ref 0) i) is_method (λ (o : Object). slice_get o.fields (i + 1)) dead.Field word (literal_looks (Ref 0) i) c kind.Method n l (Ok (record { 0 = 2 })) refl
-    (ap (or_got dead.Field) (literal_in n l i h) ∙ ap (λ x. Went x tt) (sym value_of-nil))
+literal_right c k n l i e h =
+    by_method (λ k. Reads (literal table (Ref 0) i) word (alone (fresh c k n l)) (Ok (record { 0 = 2 })))
+    (right_kind (literal table (Ref 0) i) is_method (λ (o : Object). slice_get o.fields (i + 1)) dead.Field word (literal_looks (Ref 0) i) c kind.Method n l (Ok (record { 0 = 2 })) refl
+    (ap (or_got dead.Field) (literal_in n l i h) ∙ ap (λ x. Went x tt) (sym value_of-nil))) k e
 
 pub literal_past : (c : ℕ) (k : Kind) (n l i : ℕ) → is_method k ≡ true → l ≤ i → Reads (literal table (Ref 0) i) word (alone (fresh c k n l)) (Err dead.Field)
-literal_past c kind.Pointers n l i e h = cc
-literal_past c kind.Words n l i e h = cc
-literal_past c kind.Bytes n l i e h = cc
-literal_past c kind.Method n l i e h =
-    right_kind (literal table (Ref 0) i) is_method (λ (o : Object). slice_get o.fields (i + 1)) dead.Field word (literal_looks (Ref 0) i) c kind.Method n l (Err dead.Field) refl
-    (ap (or_got dead.Field) (literal_out n l i h))
+literal_past c k n l i e h =
+    by_method (λ k. Reads (literal table (Ref 0) i) word (alone (fresh c k n l)) (Err dead.Field))
+    (right_kind (literal table (Ref 0) i) is_method (λ (o : Object). slice_get o.fields (i + 1)) dead.Field word (literal_looks (Ref 0) i) c kind.Method n l (Err dead.Field) refl
+    (ap (or_got dead.Field) (literal_out n l i h))) k e
 
 last_in : (n l i : ℕ) → i < l → from_last (fresh 0 kind.Method n l) i ≡ Some nil
 last_in n l i h =
@@ -197,20 +197,16 @@ last_out n l i h =
     ap (λ b. if b then slice_get (Small l ∷ replicate l nil) (suc (length (replicate l nil)) - (i + 1)) else None) t
 
 pub last_right : (c : ℕ) (k : Kind) (n l i : ℕ) → is_method k ≡ true → i < l → Reads (literal_from_last table (Ref 0) i) word (alone (fresh c k n l)) (Ok (record { 0 = 2 }))
-last_right c kind.Pointers n l i e h = cc
-last_right c kind.Words n l i e h = cc
-last_right c kind.Bytes n l i e h = cc
-last_right c kind.Method n l i e h =
-    right_kind (literal_from_last table (Ref 0) i) is_method (λ (o : Object). from_last o i) dead.Field word (last_looks (Ref 0) i) c kind.Method n l (Ok (record { 0 = 2 })) refl
-    (ap (or_got dead.Field) (last_in n l i h) ∙ ap (λ x. Went x tt) (sym value_of-nil))
+last_right c k n l i e h =
+    by_method (λ k. Reads (literal_from_last table (Ref 0) i) word (alone (fresh c k n l)) (Ok (record { 0 = 2 })))
+    (right_kind (literal_from_last table (Ref 0) i) is_method (λ (o : Object). from_last o i) dead.Field word (last_looks (Ref 0) i) c kind.Method n l (Ok (record { 0 = 2 })) refl
+    (ap (or_got dead.Field) (last_in n l i h) ∙ ap (λ x. Went x tt) (sym value_of-nil))) k e
 
 pub last_past : (c : ℕ) (k : Kind) (n l i : ℕ) → is_method k ≡ true → l ≤ i → Reads (literal_from_last table (Ref 0) i) word (alone (fresh c k n l)) (Err dead.Field)
-last_past c kind.Pointers n l i e h = cc
-last_past c kind.Words n l i e h = cc
-last_past c kind.Bytes n l i e h = cc
-last_past c kind.Method n l i e h =
-    right_kind (literal_from_last table (Ref 0) i) is_method (λ (o : Object). from_last o i) dead.Field word (last_looks (Ref 0) i) c kind.Method n l (Err dead.Field) refl
-    (ap (or_got dead.Field) (last_out n l i h))
+last_past c k n l i e h =
+    by_method (λ k. Reads (literal_from_last table (Ref 0) i) word (alone (fresh c k n l)) (Err dead.Field))
+    (right_kind (literal_from_last table (Ref 0) i) is_method (λ (o : Object). from_last o i) dead.Field word (last_looks (Ref 0) i) c kind.Method n l (Err dead.Field) refl
+    (ap (or_got dead.Field) (last_out n l i h))) k e
 
 -- words and bytes
 

@@ -21,6 +21,7 @@ use Rattle.st_memory.proofs.Fresh.{there_fresh}
 use Rattle.st_memory.proofs.Writing.{written_like, written_here, written_else}
 use Rattle.st_memory.proofs.Replaying.{got_take, got_drop, replayed_like}
 use Rattle.st_memory.proofs.Behind.{entry_joined, base_entry}
+use Rattle.st_memory.proofs.Exchanged.{small_written}
 use Rattle.st_model.proofs.TableLemmas.{entry_past}
 
 pub got_below : {A : Type 0} (xs : List A) (i : ℕ) (x : A) → slice_get xs i ≡ Some x → i < length xs
@@ -63,14 +64,6 @@ module _ (t : Table) (n i : ℕ) (x : Value) (closed : AllThere t) (known : is_t
     | inl same ↦ at_object j y (subst (λ k. field_value (written t (Ref n) i x) (Ref k) j ≡ Some y) same e)
     | inr d ↦ closed (Ref m) j y (sym (written_else t (Ref m) (Ref n) j i x (inl (λ q. d (let p : m ≡ n = cc in p)))) ∙ e)
   ]
-
-small_written : (t : Table) (n i : ℕ) (x : Value) → written t (Small n) i x ≡ t
-unfolding written with_stored
-small_written t n i x = by_kind (is_pointers (object_of t (Small n)).kind)
-  where
-    by_kind : (b : Bool) → (if b then t else t) ≡ t
-    by_kind true = refl
-    by_kind false = refl
 
 pub closed_written : (t : Table) (v : Value) (i : ℕ) (x : Value) → AllThere t → is_there table t x ≡ true → AllThere (written t v i x)
 closed_written t (Small n) i x closed known = subst AllThere (sym (small_written t n i x)) closed

@@ -2,8 +2,6 @@
 use Rattle.std.proofs.Common.{◌≡◌, ◌≢◌, ℕ, zero, suc, ◌+◌, ◌-◌, ◌*◌, ◌<◌, ◌≤◌, true, false, List, [], ◌∷◌, ◌++◌, length, take, drop, refl, sym, ap, ◌∙◌, subst, arith, is_some, inl, inr}
 use Rattle.std.specs.Prelude.{slice_get, slice_set, unwrap_or, Some, None, if◌then◌else◌}
 use Rattle.std.proofs.Math.Seq.{take-add}
-use Rattle.st_model.specs.declared.kind.Kind.{Kind}
-use Rattle.st_model.specs.declared.kind.Kind.TheVariants as kind
 use Rattle.st_model.specs.Values.{Value, Small, Ref}
 use Rattle.st_model.specs.Objects.{Object, is_bytes, is_words, with_units, object_with_unit, first_unit, size_of}
 use Rattle.st_model.specs.Table.{Table, entry, changed}
@@ -29,7 +27,7 @@ set_first (suc to) ws (u ∷ us) x l =
     let e : suc to + length ws ≡ suc (to + length ws) = omega arith in
     ap (λ i. slice_set (u ∷ laid to ws us) i x) e ∙ ap (λ q. u ∷ q) (set_first to ws us x (omega (arith, l)))
 
-drop_laid : (to i : ℕ) (ws us : List ℕ) → to + length ws ≤ i → drop i (laid to ws us) ≡ drop i us
+pub drop_laid : (to i : ℕ) (ws us : List ℕ) → to + length ws ≤ i → drop i (laid to ws us) ≡ drop i us
 drop_laid zero i [] us l = refl
 drop_laid zero i (w ∷ ws) [] l = refl
 drop_laid zero zero (w ∷ ws) (u ∷ us) l = absurd (omega (arith, l))
@@ -246,18 +244,25 @@ module _ (t u : Table) (s v : Value) (from to n : ℕ) (us : List ℕ) (source :
     bytes = let c = count_of x in let b = has.bytes in omega (arith, c, b, l);
   }
 
-  pub has_source : (k m : ℕ) → k + m ≤ n → HasBytes u s (from + k) m
+  has_source : (k m : ℕ) → k + m ≤ n → HasBytes u s (from + k) m
   has_source k m l = has_of s from k m source l
 
-  pub has_target : (k m : ℕ) → k + m ≤ n → HasBytes u v (to + k) m
+  has_target : (k m : ℕ) → k + m ≤ n → HasBytes u v (to + k) m
   has_target k m l = has_of v to k m target l
 
 -- the bytes of one object that are copied, where they are copied to
-abbrev pub bytes_with : Table → Value → ℕ → Value → ℕ → ℕ → List ℕ
+abbrev bytes_with : Table → Value → ℕ → Value → ℕ → ℕ → List ℕ
 bytes_with t s from v to k = laid to (units_from t s from k) (object_of t v).units
 
-pub length-with : (t : Table) (s : Value) (from : ℕ) (v : Value) (to k : ℕ) → length (bytes_with t s from v to k) ≡ length (object_of t v).units
+length-with : (t : Table) (s : Value) (from : ℕ) (v : Value) (to k : ℕ) → length (bytes_with t s from v to k) ≡ length (object_of t v).units
 length-with t s from v to k = length-laid to (units_from t s from k) (object_of t v).units
+
+-- while bytes are copied, each piece of both objects has its bytes
+pub both_have : (t u : Table) (s v : Value) (from to n a b k : ℕ) → HasBytes t s from n → HasBytes t v to n → u ≡ with_bytes_of t s a v b k
+    → (i m : ℕ) → i + m ≤ n → HasBytes u s (from + i) m × HasBytes u v (to + i) m
+both_have t u s v from to n a b k source target is i m l =
+    let same = length-with t s a v b k in
+    (has_source t u s v from to n (bytes_with t s a v b k) source target same is i m l, has_target t u s v from to n (bytes_with t s a v b k) source target same is i m l)
 
 pub none_laid : (t : Table) (s : Value) (from : ℕ) (v : Value) (to : ℕ) → is_live t v ≡ true → t ≡ with_bytes_of t s from v to 0
 none_laid t s from v to live = sym (ap (with_units_in t v) (nothing_laid to (object_of t v).units) ∙ units_none t v live)

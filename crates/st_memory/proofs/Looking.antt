@@ -4,7 +4,6 @@ use Rattle.std.specs.Prelude.{ℤ, pos, slice_get, unwrap_or, nat_le, Option, So
 use Rattle.st_model.specs.declared.dead.Dead.{Dead}
 use Rattle.st_model.specs.declared.dead.Dead.TheVariants as dead
 use Rattle.st_model.specs.declared.kind.Kind.{Kind}
-use Rattle.st_model.specs.declared.kind.Kind.TheVariants as kind
 use Rattle.st_model.specs.Values.{Value, Small, Ref}
 use Rattle.st_model.specs.declared.page.PageObject.TheVariants.{SmallIntegerClass}
 use Rattle.st_model.specs.Objects.{Object, is_pointers, is_words, is_method, has_bytes, first_unit, place_of, nil}

@@ -10,6 +10,7 @@ use Rattle.st_model.specs.Objects.{Object, is_pointers, is_method}
 use Rattle.st_model.specs.Machine.{Step, is_there}
 use Rattle.st_model.specs.Steps.{fetch_field, count_fields, class_of, literal, fetch_method_field, byte_at, code_byte}
 use Rattle.st_model.specs.Methods.{method_header, literal_from_last, from_last}
+use Rattle.st_model.specs.Lookup.{half_word}
 use Rattle.st_model.specs.Table.{Table, table, apart, joined}
 use Rattle.st_model.specs.View.{is_live, object_of, Has, Lacks, TooFew}
 use Rattle.st_model.specs.Calls.{Reads, itself}
@@ -26,7 +27,8 @@ use Rattle.st_memory.specs.Making.{made_object}
 use Rattle.st_memory.specs.Noted.{noted}
 use Rattle.st_memory.proofs.Looking.{Got, Looks, looked, look_at, class_in, class_look, fetch_looks, count_looks, header_looks, literal_looks, method_field_looks, last_looks, byte_looks, class_looks, counted}
 use Rattle.st_memory.proofs.Drafted.{given, taken, lacks_died}
-use Rattle.st_memory.proofs.Exchanged.{names_all, there_all, field_all, fields_all}
+use Rattle.st_memory.proofs.Exchanged.{names_all, there_all, field_all, fields_all, length_all, live_all}
+use Rattle.st_memory.proofs.Freeing.{half_alike}
 use Rattle.st_memory.proofs.Keeping.{there_apart}
 use Rattle.st_memory.proofs.Replaying.{replayed_more}
 use Rattle.st_memory.proofs.Behind.{draft_more}
@@ -109,6 +111,9 @@ pub live_there : (t : Table) (v : Value) → is_small v ≡ false → is_live t 
 unfolding is_live
 live_there t (Small n) e = cc
 live_there t (Ref n) e = refl
+
+pub half_exchanged : (t : Table) (e : Exchanges) → AreOf t e.pairs e.count → (v : Value) (r : ℕ) → Reads (half_word apart v) itself t (Ok r) → Reads (half_word apart v) itself (exchanged_by t e.pairs e.count) (Ok r)
+half_exchanged t e of v r h = half_alike (exchanged_by t e.pairs e.count) t (length_all e.pairs t e.count of) (live_all e.pairs t e.count of) v r h
 
 -- what is noted
 

@@ -64,6 +64,13 @@ module _ {m : ObjectMemory Table} (tabular : IsTabular m) (t u : Table) (v w : V
   pub exchanges_gone_second : is_small v ≡ false → is_small w ≡ false → is_live t w ≡ false → Changes (exchange m v w) itself t a (Err dead.Kind) u
   exchanges_gone_second e f g = λ s over h. subst (λ x. x.run s ≡ Died dead.Kind) (sym (exchange-as tabular v w)) (gone_second v w s e f (ap (λ x. is_live x w) over ∙ g))
 
+  -- why there is no such object
+  pub exchanges_err_first : (k : Dead) → is_small v ≡ false → is_small w ≡ false → is_live t v ≡ false → Lacks t v 0 0 k → Changes (exchange m v w) itself t a (Err k) u
+  exchanges_err_first k e f g lacks = rw (gone_kind t v k e g lacks) (exchanges_gone_first e f g)
+
+  pub exchanges_err_second : (k : Dead) → is_small v ≡ false → is_small w ≡ false → is_live t w ≡ false → Lacks t w 0 0 k → Changes (exchange m v w) itself t a (Err k) u
+  exchanges_err_second k e f g lacks = rw (gone_kind t w k f g lacks) (exchanges_gone_second e f g)
+
   pub exchanges : is_live t v ≡ true → is_live t w ≡ true → u ≡ with_exchanged t v w → Changes (exchange m v w) itself t a (Ok tt) u
   exchanges e f is = λ s over h.
       subst (λ x. x.run s ≡ Went tt (record s { memory = u })) (sym (exchange-as tabular v w))

@@ -9,7 +9,7 @@ use Rattle.st_model.specs.declared.dead.Dead.{Dead}
 use Rattle.st_model.specs.declared.dead.Dead.TheVariants as dead
 use Rattle.st_model.specs.declared.kind.Kind.{Kind}
 use Rattle.st_model.specs.declared.page.PageObject.{PageObject}
-use Rattle.st_model.specs.Objects.{Object, is_pointers, nil}
+use Rattle.st_model.specs.Objects.{Object, is_pointers, words_of, nil}
 use Rattle.st_model.specs.Formed.{fresh}
 use Rattle.st_model.specs.Steps.{object, object_named, found, stored_at, store_at, set_field, made, make_named, make, fetch_field, count_fields, class_of, literal, fetch_method_field, byte_at, store_field, transfer, fetch_word, fetch_byte, of_page}
 use Rattle.st_model.specs.Methods.{method_header, literal_from_last}
@@ -259,3 +259,8 @@ half_same t w x e live =
     let b = named_word t x (subst (λ (y : Value). is_live t y ≡ true) e live) in
     let q = sym a ∙ e ∙ b in
     cc
+
+-- an object of a class fits as one of that word of its class does
+pub fits_made : (v : View) (w x : ℕ) (k : Kind) (n l words : ℕ) → value_of w ≡ value_of x → is_live v.objects (value_of w) ≡ true → words ≡ words_of (fresh (x / 2) k n l)
+    → fits v (demand_of (fresh (w / 2) k n l)) ≡ fits v (record { entries = 1; words = words })
+fits_made v w x k n l words e live size = ap (λ i. fits v (record { entries = 1; words = i })) (ap (λ i. words_of (fresh i k n l)) (half_same v.objects w x e live) ∙ sym size)

@@ -3,7 +3,7 @@ use Rattle.std.specs.Prelude.{◌≡◌, ℕ, zero, suc, ◌+◌, ◌≤◌, tru
 use Rattle.st_model.specs.Values.{Value, Small, Ref}
 use Rattle.st_model.specs.Objects.{is_bytes, with_units}
 use Rattle.st_model.specs.Table.{Table, changed}
-use Rattle.st_model.specs.View.{is_live, object_of}
+use Rattle.st_model.specs.View.{View, Has, is_live, object_of, with_fields, fields_from}
 
 -- a live object of kind Bytes has n bytes from one on
 pub record HasBytes (t : Table) (v : Value) (from n : ℕ) : Type 0 where
@@ -35,3 +35,26 @@ with_run t v to ws = with_units_in t v (laid to ws (object_of t v).units)
 -- the table in which n bytes of one object, from one on, are copied to those of another, all as they were before
 abbrev pub with_bytes_of : Table → Value → ℕ → Value → ℕ → ℕ → Table
 with_bytes_of t source from target to n = with_run t target to (units_from t source from n)
+
+-- both objects have n bytes from these places on, with places of 32 bits
+pub record CanCopyBytes (t : Table) (s : Value) (from : ℕ) (v : Value) (to n : ℕ) : Type 0 where
+  pub source : HasBytes t s from n
+  pub target : HasBytes t v to n
+  pub small : (from + n ≤ 131066) × (to + n ≤ 131066)
+
+-- they are copied, and nothing else is changed
+pub record CopiesBytes (old new : View) (s : Value) (from : ℕ) (v : Value) (to n : ℕ) : Type 0 where
+  pub objects : new.objects ≡ with_bytes_of old.objects s from v to n
+  pub held : new.held ≡ old.held
+  pub head : new.head ≡ old.head
+
+-- the same of fields
+pub record CanCopyFields (t : Table) (s : Value) (from : ℕ) (v : Value) (to n : ℕ) : Type 0 where
+  pub source : Has t s from n
+  pub target : Has t v to n
+  pub small : (from + n ≤ 131066) × (to + n ≤ 131066)
+
+pub record CopiesFields (old new : View) (s : Value) (from : ℕ) (v : Value) (to n : ℕ) : Type 0 where
+  pub objects : new.objects ≡ with_fields old.objects v to (fields_from old.objects s from n)
+  pub held : new.held ≡ old.held
+  pub head : new.head ≡ old.head

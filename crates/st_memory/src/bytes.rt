@@ -1,6 +1,6 @@
 ghost use Rattle.std.specs.Prelude.{◌≡◌, ◌+◌, ◌-◌, ◌≤◌};
 ghost use Rattle.st_model.specs.Values.{value};
-ghost use Rattle.st_memory.specs.Copied.{HasBytes, with_bytes_of};
+ghost use Rattle.st_memory.specs.Copied.{HasBytes, CanCopyBytes, CopiesBytes, with_bytes_of};
 
 use crate::memory::Memory;
 use st_model::Oop;
@@ -26,14 +26,9 @@ fn copy_piece<M: Memory>(m: &mut M, n: u32, source: Oop, from: u32, target: Oop,
 
 /// Copies n bytes of an object of kind Bytes into those of another, the lowest first.
 fn copy_from_first<M: Memory>(m: &mut M, n: u32, source: Oop, from: u32, target: Oop, to: u32)
-    requires source { HasBytes (M.view m.old).objects (value source) from n }
-    requires target { HasBytes (M.view m.old).objects (value target) to n }
-    requires small { (from + n ≤ 131066) × (to + n ≤ 131066) }
+    requires bytes { CanCopyBytes (M.view m.old).objects (value source) from (value target) to n }
     requires down { value source ≡ value target → to ≤ from }
-    ensures objects { (M.view m.new).objects
-        ≡ with_bytes_of (M.view m.old).objects (value source) from (value target) to n }
-    ensures held { (M.view m.new).held ≡ (M.view m.old).held }
-    ensures head { (M.view m.new).head ≡ (M.view m.old).head }
+    ensures { CopiesBytes (M.view m.old) (M.view m.new) (value source) from (value target) to n }
 {
     let mut done = 0;
     while done < n {
@@ -45,14 +40,9 @@ fn copy_from_first<M: Memory>(m: &mut M, n: u32, source: Oop, from: u32, target:
 
 /// The same, the highest first.
 fn copy_from_last<M: Memory>(m: &mut M, n: u32, source: Oop, from: u32, target: Oop, to: u32)
-    requires source { HasBytes (M.view m.old).objects (value source) from n }
-    requires target { HasBytes (M.view m.old).objects (value target) to n }
-    requires small { (from + n ≤ 131066) × (to + n ≤ 131066) }
+    requires bytes { CanCopyBytes (M.view m.old).objects (value source) from (value target) to n }
     requires up { value source ≡ value target → from ≤ to }
-    ensures objects { (M.view m.new).objects
-        ≡ with_bytes_of (M.view m.old).objects (value source) from (value target) to n }
-    ensures held { (M.view m.new).held ≡ (M.view m.old).held }
-    ensures head { (M.view m.new).head ≡ (M.view m.old).head }
+    ensures { CopiesBytes (M.view m.old) (M.view m.new) (value source) from (value target) to n }
 {
     let mut left = n;
     while left > 0 {

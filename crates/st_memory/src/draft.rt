@@ -1,16 +1,12 @@
 ghost use Rattle.std.specs.Option.{option_map};
 ghost use Rattle.std.specs.Prelude.{is_some, ◌≡◌, ◌<◌, ◌≤◌, ◌+◌, ◌-◌, ◌*◌, Some, IfSome, IfNone, IfOk, IfErr};
-ghost use Rattle.st_model.specs.Values.{word, Ref};
-ghost use Rattle.st_model.specs.Objects.{one, words_of};
+ghost use Rattle.st_model.specs.{Values.{word, Ref}, Objects.{one, words_of}};
 ghost use Rattle.st_model.specs.Table.{apart, entry, total_used, free_place, without_first, borne_apart};
-ghost use Rattle.st_model.specs.Machine.{used};
-ghost use Rattle.st_model.specs.Steps.{count_fields, named_or_not};
-ghost use Rattle.st_model.specs.Calls.{Reads, itself};
+ghost use Rattle.st_model.specs.{Machine.used, Steps.{count_fields, named_or_not}, Calls.{Reads, itself}};
 ghost use Rattle.st_model.specs.View.{Has, Lacks};
 ghost use Rattle.st_memory.specs.Bearing.{IsNumberOf, instance_at};
 ghost use Rattle.st_memory.specs.Drafts.{AllThere, field_value, after_change, replayed, highest, HasField, named_object, IsOrigin, AreOf};
-ghost use Rattle.st_memory.specs.Making.{IsMade, made_object};
-ghost use Rattle.st_memory.specs.Noted.{with_noted, noted, drafted, count_of};
+ghost use Rattle.st_memory.specs.{Making.{IsMade, made_object}, Noted.{with_noted, noted, drafted, count_of}};
 
 use crate::change::{Change, Exchange, Origin};
 use crate::exchanges::Exchanges;
@@ -428,7 +424,7 @@ impl<'a, M: Memory> Objects for Draft<'a, M> {
     fn literal_from_last(&self, method: Word, k: u32) -> Result<Word, Dead> {
         let before = self.exchanges.word_before(method);
         match self.find_made(before) {
-            Some(made) => made.literal_from_last(k),
+            Some(made) => made.literal(k),
             None => self.base.literal_from_last(before, k),
         }
     }

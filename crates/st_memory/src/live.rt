@@ -1,10 +1,6 @@
 ghost use Rattle.std.specs.Prelude.{◌≡◌, ◌+◌, ◌≤◌, ℕ, [], true, false, IfOk, IfErr, IfSome, IfNone};
-ghost use Rattle.st_model.specs.Values.{value, word};
-ghost use Rattle.st_model.specs.Objects.{has_bytes};
-ghost use Rattle.st_model.specs.Table.{table, bounded_table};
-ghost use Rattle.st_model.specs.Machine.{is_there};
-ghost use Rattle.st_model.specs.Steps.{object};
-ghost use Rattle.st_model.specs.Calls.{Reads, Changes, itself};
+ghost use Rattle.st_model.specs.{Values.{value, word}, Objects.has_bytes, Table.{table, bounded_table}};
+ghost use Rattle.st_model.specs.{Machine.is_there, Steps.object, Calls.{Reads, Changes, itself}};
 ghost use Rattle.st_model.specs.View.{IsKnown, Has, Lacks, is_live, object_of};
 
 use crate::body::{count_fields, first_unit};

@@ -1,8 +1,6 @@
 ghost use Rattle.std.specs.Prelude.{◌≡◌, ◌≢◌, ◌<◌, ◌≤◌, ◌+◌, ◌-◌, ◌/◌, length, true, false, IfOk, slice_get, None};
-ghost use Rattle.st_model.specs.Limits.{most_words};
-ghost use Rattle.st_model.specs.Values.{value, is_small};
-ghost use Rattle.st_model.specs.Objects.{is_words, words_of, first_unit, one};
-ghost use Rattle.st_model.specs.Table.{total_used, entry};
+ghost use Rattle.st_model.specs.{Limits.most_words, Values.{value, is_small}};
+ghost use Rattle.st_model.specs.{Objects.{is_words, words_of, first_unit, one}, Table.{total_used, entry}};
 ghost use Rattle.st_model.specs.Formed.{IsHeader, IsMakeable, fresh};
 ghost use Rattle.st_model.specs.View.{View, IsComplete, is_live, object_of, with_object, with_stored, with_unit, empty_view, head_of};
 

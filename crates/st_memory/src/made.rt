@@ -1,10 +1,7 @@
 ghost use Rattle.std.specs.Prelude.{◌≡◌, ◌≤◌, IfOk};
-ghost use Rattle.st_model.specs.Values.{Ref, word};
-ghost use Rattle.st_model.specs.Objects.{words_of};
-ghost use Rattle.st_model.specs.Table.{table};
+ghost use Rattle.st_model.specs.{Values.{Ref, word}, Objects.words_of, Table.table};
 ghost use Rattle.st_model.specs.Steps.{count_fields, literal, fetch_method_field, byte_at, fetch_word, fetch_byte};
-ghost use Rattle.st_model.specs.Methods.{method_header, literal_from_last};
-ghost use Rattle.st_model.specs.Calls.{Reads, itself};
+ghost use Rattle.st_model.specs.{Methods.{method_header, literal_from_last}, Calls.{Reads, itself}};
 ghost use Rattle.st_memory.specs.Making.{IsMade, made_object, alone};
 
 use st_model::{Dead, Kind, Word};
@@ -63,10 +60,11 @@ impl Made {
         }
     }
 
-    /// Literal i of a method.
-    #[tactic(auto, using(crate::proofs::Fresh::literals))]
+    /// Literal i of a method, or the one with i literals behind it: all of them are nil.
+    #[tactic(auto, using(crate::proofs::Fresh::literals, crate::proofs::Fresh::lasts))]
     pub fn literal(self, i: u32) -> Result<Word, Dead>
-        ensures { Reads (literal table (Ref 0) i) word (alone (made_object self)) result }
+        ensures from_first { Reads (literal table (Ref 0) i) word (alone (made_object self)) result }
+        ensures from_last { Reads (literal_from_last table (Ref 0) i) word (alone (made_object self)) result }
     {
         if !self.kind.is_method() {
             return Err(Dead::Kind);
@@ -91,21 +89,6 @@ impl Made {
             return Ok(Word(2 * self.literals + 1));
         }
         if i <= self.literals {
-            Ok(Word::NIL)
-        } else {
-            Err(Dead::Field)
-        }
-    }
-
-    /// The literal of a method with k literals behind it.
-    #[tactic(auto, using(crate::proofs::Fresh::lasts))]
-    pub fn literal_from_last(self, k: u32) -> Result<Word, Dead>
-        ensures { Reads (literal_from_last table (Ref 0) k) word (alone (made_object self)) result }
-    {
-        if !self.kind.is_method() {
-            return Err(Dead::Kind);
-        }
-        if k < self.literals {
             Ok(Word::NIL)
         } else {
             Err(Dead::Field)

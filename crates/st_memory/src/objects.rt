@@ -1,16 +1,11 @@
-ghost use Rattle.std.specs.Option.{option_map};
-ghost use Rattle.std.specs.Prelude.{◌≡◌, ◌≢◌, ℕ, ◌+◌, ◌≤◌, true, Ok, Some, IfOk, IfSome};
-ghost use Rattle.st_model.specs.Values.{Ref, word};
-ghost use Rattle.st_model.specs.Objects.{place_of};
+ghost use Rattle.std.specs.{Option.option_map, Prelude.{◌≡◌, ◌≢◌, ℕ, ◌+◌, ◌≤◌, true, Ok, Some, IfOk, IfSome}};
+ghost use Rattle.st_model.specs.{Values.{Ref, word}, Objects.place_of};
 ghost use Rattle.st_model.specs.declared.page.PageObject.TheVariants.{MethodClass};
-ghost use Rattle.st_model.specs.Machine.{ObjectMemory, Head, is_there};
-ghost use Rattle.st_model.specs.Table.{Table, IsTabular};
+ghost use Rattle.st_model.specs.{Machine.{ObjectMemory, Head, is_there}, Table.{Table, IsTabular}};
 ghost use Rattle.st_model.specs.Steps.{fetch_field, count_fields, class_of, literal, fetch_method_field, byte_at, fetch_word, fetch_byte, store_field, transfer, exchange, make, new_object, object_at, next_instance, fetch_kind, fetch_size, get_free};
-ghost use Rattle.st_model.specs.Methods.{method_header, literal_from_last};
-ghost use Rattle.st_model.specs.Lookup.{half_word, find};
-ghost use Rattle.st_model.specs.Calls.{Reads, Changes, itself};
-ghost use Rattle.st_model.specs.View.{View};
-ghost use Rattle.st_memory.specs.Making.{CanMake};
+ghost use Rattle.st_model.specs.{Methods.{method_header, literal_from_last}, Lookup.half_word};
+ghost use Rattle.st_model.specs.{Calls.{Reads, Changes, itself}, View.View};
+ghost use Rattle.st_memory.specs.{Making.CanMake, Searched.FindsBy};
 
 use crate::context_fields::ContextFields;
 use st_model::{Dead, Demand, Kind, Word};
@@ -188,15 +183,14 @@ pub trait Objects {
     /// The method that is remembered for a selector in a class, if one is: it is the one that the search finds.
     fn remembered(&self, _class: Word, _selector: Word) -> Option<Word>
         ensures { IfSome result (λ method.
-            Reads (find names (word _class) (word _selector)) itself (table self.now) (Ok (Some (word method)))) }
+            FindsBy names (table self.now) (word _class) (word _selector) (word method)) }
     {
         None
     }
 
     /// Remembers the method that the search finds for a selector in a class, or doesn't.
     fn remember(&mut self, _class: Word, _selector: Word, _method: Word)
-        requires { Reads (find names (word _class) (word _selector)) itself (table self.old)
-            (Ok (Some (word _method))) }
+        requires { FindsBy names (table self.old) (word _class) (word _selector) (word _method) }
         ensures table { table self.new ≡ table self.old }
         ensures head { head self.new ≡ head self.old }
         ensures room { room self.new ≡ room self.old }

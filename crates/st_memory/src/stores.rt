@@ -1,7 +1,5 @@
 ghost use Rattle.std.specs.Prelude.{◌≡◌};
-ghost use Rattle.st_model.specs.Values.{word};
-ghost use Rattle.st_model.specs.Table.{bounded_table};
-ghost use Rattle.st_model.specs.Steps.{store_field, transfer};
+ghost use Rattle.st_model.specs.{Values.word, Table.bounded_table, Steps.{store_field, transfer}};
 ghost use Rattle.st_model.specs.Calls.{Changes, itself};
 ghost use Rattle.st_memory.specs.Places.{KeepsPlaces};
 

@@ -1,21 +1,16 @@
 ghost use Rattle.std.specs.Prelude.{◌≡◌, ◌+◌, ◌≤◌};
 ghost use Rattle.st_model.specs.Values.{value};
 ghost use Rattle.st_model.specs.View.{Has, with_fields, fields_from};
-ghost use Rattle.st_memory.specs.Places.{KeepsPlaces};
+ghost use Rattle.st_memory.specs.{Copied.{CanCopyFields, CopiesFields}, Places.KeepsPlaces};
 
 use crate::memory::Memory;
 use st_model::Oop;
 
 /// Copies n fields of an object of kind Pointers into those of another, the lowest first.
 fn copy_from_first<M: Memory>(m: &mut M, n: u32, source: Oop, from: u32, target: Oop, to: u32)
-    requires source { Has (M.view m.old).objects (value source) from n }
-    requires target { Has (M.view m.old).objects (value target) to n }
-    requires small { (from + n ≤ 131066) × (to + n ≤ 131066) }
+    requires fields { CanCopyFields (M.view m.old).objects (value source) from (value target) to n }
     requires down { value source ≡ value target → to ≤ from }
-    ensures objects { let old = (M.view m.old).objects in
-        (M.view m.new).objects ≡ with_fields old (value target) to (fields_from old (value source) from n) }
-    ensures held { (M.view m.new).held ≡ (M.view m.old).held }
-    ensures head { (M.view m.new).head ≡ (M.view m.old).head }
+    ensures copied { CopiesFields (M.view m.old) (M.view m.new) (value source) from (value target) to n }
     ensures places { KeepsPlaces (M.stands m.old) (M.stands m.new) }
 {
     for done in 0..n {
@@ -26,14 +21,9 @@ fn copy_from_first<M: Memory>(m: &mut M, n: u32, source: Oop, from: u32, target:
 
 /// The same, the highest first.
 fn copy_from_last<M: Memory>(m: &mut M, n: u32, source: Oop, from: u32, target: Oop, to: u32)
-    requires source { Has (M.view m.old).objects (value source) from n }
-    requires target { Has (M.view m.old).objects (value target) to n }
-    requires small { (from + n ≤ 131066) × (to + n ≤ 131066) }
+    requires fields { CanCopyFields (M.view m.old).objects (value source) from (value target) to n }
     requires up { value source ≡ value target → from ≤ to }
-    ensures objects { let old = (M.view m.old).objects in
-        (M.view m.new).objects ≡ with_fields old (value target) to (fields_from old (value source) from n) }
-    ensures held { (M.view m.new).held ≡ (M.view m.old).held }
-    ensures head { (M.view m.new).head ≡ (M.view m.old).head }
+    ensures copied { CopiesFields (M.view m.old) (M.view m.new) (value source) from (value target) to n }
     ensures places { KeepsPlaces (M.stands m.old) (M.stands m.new) }
 {
     let mut left = n;

@@ -13,7 +13,8 @@ use Rattle.st_model.specs.Arithmetic.{arithmetic_number}
 use Rattle.st_model.specs.Executing.{respond, execute}
 use Rattle.st_model.specs.Cycles.{run}
 use Rattle.st_model.proofs.Opened.{opened}
-use Rattle.st_model.proofs.SendRows.{pointers, plain, method, active, activation, objects, state, in_sender, in_method}
+use Rattle.st_model.proofs.StorageRows.{pointers, method}
+use Rattle.st_model.proofs.SendRows.{plain, active, activation, objects, state, in_sender, in_method}
 
 -- the selectors + - < > <= >= = ~= * / \\ @ bitShift: // bitAnd: bitOr: of 176 to 191
 numbers : map arithmetic_number (0 ∷ 1 ∷ 2 ∷ 3 ∷ 4 ∷ 5 ∷ 6 ∷ 7 ∷ 8 ∷ 9 ∷ 10 ∷ 11 ∷ 12 ∷ 13 ∷ 14 ∷ 15 ∷ []) ≡

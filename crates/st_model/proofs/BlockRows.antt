@@ -10,10 +10,7 @@ use Rattle.st_model.specs.Machine.{State, Registers, Transition, Died, Went, emp
 use Rattle.st_model.specs.Table.{Table, table}
 use Rattle.st_model.specs.Blocks.{blocks}
 use Rattle.st_model.proofs.Opened.{opened}
-
--- an object of kind Pointers, by half the pointer of its class
-unfoldable pub pointers : ℕ → List Value → Option Object
-pointers class fields = Some (record { class = class; kind = kind.Pointers; fields = fields; units = [] })
+use Rattle.st_model.proofs.StorageRows.{pointers}
 
 unfoldable words : ℕ → Option Object
 words class = Some (record { class = class; kind = kind.Words; fields = []; units = replicate 8 0 })

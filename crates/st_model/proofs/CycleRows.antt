@@ -4,7 +4,6 @@
 use Rattle.std.proofs.Common.{◌≡◌, ℕ, List, [], ◌∷◌, ◌++◌, Some, None, Option, refl}
 use Rattle.std.specs.Prelude.{◌+◌, pos, replicate, codes}
 use Rattle.std.specs.Fmt.{digits}
-use Rattle.st_model.specs.declared.kind.Kind.TheVariants as kind
 use Rattle.st_model.specs.declared.dead.Dead.TheVariants as dead
 use Rattle.st_model.specs.declared.event.Event.TheVariants.{Word}
 use Rattle.st_model.specs.Values.{Value, Small, Ref}
@@ -20,17 +19,11 @@ use Rattle.st_model.specs.Foreseen.{foreseen_cycle}
 use Rattle.st_model.specs.Events.{event}
 use Rattle.st_model.specs.Text.{input_text}
 use Rattle.st_model.proofs.Opened.{opened}
-
--- an object of kind Pointers, by half the pointer of its class
-unfoldable pub pointers : ℕ → List Value → Option Object
-pointers class fields = Some (record { class = class; kind = kind.Pointers; fields = fields; units = [] })
+use Rattle.st_model.proofs.StorageRows.{pointers, bytes, method}
 
 unfoldable pub plain : List Value → Option Object
 unfolding pointers
 plain fields = pointers 6 fields
-
-unfoldable pub method : List Value → List ℕ → Option Object
-method fields bytes = Some (record { class = 17; kind = kind.Method; fields = fields; units = bytes })
 
 -- the list's first and last process
 unfoldable pub list_of : Value → Value → Option Object
@@ -137,43 +130,32 @@ input_served_over_births : cycle births (raised (waiting_for_input (around (4660
 unfolding opened state within around pending in_context objects code context process idle semaphore empty list_of method plain pointers waiting_for_input served raised
 input_served_over_births = refl
 
+-- 36 is active, 37 of priority 6 waits at the semaphore 34, and 38 of this priority at 35. These signals are pending.
+unfoldable two_wait : List Value → ℕ → State Table
+unfolding state within around pending in_context objects code context process idle semaphore empty list_of method plain pointers
+two_wait signals priority = state (pending signals) (in_context 39 6 1) (objects [] None (Ref 36)
+    (empty ∷ empty ∷ empty ∷ semaphore (Ref 37) (Ref 37) 0 ∷ semaphore (Ref 38) (Ref 38) 0
+    ∷ process nil nil 4 nil ∷ process nil (Ref 40) 6 (Ref 34) ∷ process nil (Ref 41) priority (Ref 35)
+    ∷ context 9 3 (Small 8) nil ∷ context 8 0 nil nil ∷ context 8 0 nil nil ∷ code ∷ []))
+
+-- This process is active in its context and has pushed 2, and the other of the two is ready; 38 has this priority. Their lists are
+-- those for the priorities 5 and 6 with the two processes' own, and what 37 and 38 pushed is what their contexts have.
+unfoldable one_goes_on : Value → ℕ → ℕ → Option Object → Option Object → Value → Value → Value → Value → State Table
+unfolding state within around pending in_context objects code context process idle semaphore empty list_of method plain pointers
+one_goes_on active in_its priority fives sixes list37 list38 x37 x38 = state (pending []) (in_context in_its 8 1) (objects [] None active
+    (list_of (Ref 36) (Ref 36) ∷ fives ∷ sixes ∷ idle 0 ∷ idle 0
+    ∷ process nil (Ref 39) 4 (Ref 31) ∷ process nil (Ref 40) 6 list37 ∷ process nil (Ref 41) priority list38
+    ∷ context 7 1 (Small 8) nil ∷ context 8 0 x37 nil ∷ context 8 0 x38 nil ∷ code ∷ []))
+
 -- Two signals are pending, the oldest first. The newest is made first: the process 38, which waits for it, goes on, and 37 of the same
--- priority, which waits for the other one, is only ready.
-newest_first : GoesOn (state (pending (Ref 34 ∷ Ref 35 ∷ [])) (in_context 39 6 1) (objects [] None (Ref 36)
-    (empty ∷ empty ∷ empty ∷ semaphore (Ref 37) (Ref 37) 0 ∷ semaphore (Ref 38) (Ref 38) 0
-    ∷ process nil nil 4 nil ∷ process nil (Ref 40) 6 (Ref 34) ∷ process nil (Ref 41) 6 (Ref 35)
-    ∷ context 9 3 (Small 8) nil ∷ context 8 0 nil nil ∷ context 8 0 nil nil ∷ code ∷ [])))
-    (state (pending []) (in_context 41 8 1) (objects [] None (Ref 38)
-    (list_of (Ref 36) (Ref 36) ∷ empty ∷ list_of (Ref 37) (Ref 37) ∷ idle 0 ∷ idle 0
-    ∷ process nil (Ref 39) 4 (Ref 31) ∷ process nil (Ref 40) 6 (Ref 33) ∷ process nil (Ref 41) 6 (Ref 35)
-    ∷ context 7 1 (Small 8) nil ∷ context 8 0 nil nil ∷ context 8 0 (Small 2) nil ∷ code ∷ [])))
-unfolding opened state within around pending in_context objects code context process idle semaphore empty list_of method plain pointers
-newest_first = (refl, refl)
-
--- with the two signals the other way round 37 goes on
-other_way_round : GoesOn (state (pending (Ref 35 ∷ Ref 34 ∷ [])) (in_context 39 6 1) (objects [] None (Ref 36)
-    (empty ∷ empty ∷ empty ∷ semaphore (Ref 37) (Ref 37) 0 ∷ semaphore (Ref 38) (Ref 38) 0
-    ∷ process nil nil 4 nil ∷ process nil (Ref 40) 6 (Ref 34) ∷ process nil (Ref 41) 6 (Ref 35)
-    ∷ context 9 3 (Small 8) nil ∷ context 8 0 nil nil ∷ context 8 0 nil nil ∷ code ∷ [])))
-    (state (pending []) (in_context 40 8 1) (objects [] None (Ref 37)
-    (list_of (Ref 36) (Ref 36) ∷ empty ∷ list_of (Ref 38) (Ref 38) ∷ idle 0 ∷ idle 0
-    ∷ process nil (Ref 39) 4 (Ref 31) ∷ process nil (Ref 40) 6 (Ref 34) ∷ process nil (Ref 41) 6 (Ref 33)
-    ∷ context 7 1 (Small 8) nil ∷ context 8 0 (Small 2) nil ∷ context 8 0 nil nil ∷ code ∷ [])))
-unfolding opened state within around pending in_context objects code context process idle semaphore empty list_of method plain pointers
-other_way_round = (refl, refl)
-
+-- priority, which waits for the other one, is only ready. With the two signals the other way round 37 goes on.
 -- A process that waits to go on is the active one for the signals after it: 38 of priority 5 takes the place of 36, and then 37 of
 -- priority 6 that of 38, which is ready with its own context as it was.
-replaced : GoesOn (state (pending (Ref 34 ∷ Ref 35 ∷ [])) (in_context 39 6 1) (objects [] None (Ref 36)
-    (empty ∷ empty ∷ empty ∷ semaphore (Ref 37) (Ref 37) 0 ∷ semaphore (Ref 38) (Ref 38) 0
-    ∷ process nil nil 4 nil ∷ process nil (Ref 40) 6 (Ref 34) ∷ process nil (Ref 41) 5 (Ref 35)
-    ∷ context 9 3 (Small 8) nil ∷ context 8 0 nil nil ∷ context 8 0 nil nil ∷ code ∷ [])))
-    (state (pending []) (in_context 40 8 1) (objects [] None (Ref 37)
-    (list_of (Ref 36) (Ref 36) ∷ list_of (Ref 38) (Ref 38) ∷ empty ∷ idle 0 ∷ idle 0
-    ∷ process nil (Ref 39) 4 (Ref 31) ∷ process nil (Ref 40) 6 (Ref 34) ∷ process nil (Ref 41) 5 (Ref 32)
-    ∷ context 7 1 (Small 8) nil ∷ context 8 0 (Small 2) nil ∷ context 8 0 nil nil ∷ code ∷ [])))
-unfolding opened state within around pending in_context objects code context process idle semaphore empty list_of method plain pointers
-replaced = (refl, refl)
+two_signals : GoesOn (two_wait (Ref 34 ∷ Ref 35 ∷ []) 6) (one_goes_on (Ref 38) 41 6 empty (list_of (Ref 37) (Ref 37)) (Ref 33) (Ref 35) nil (Small 2))
+    × GoesOn (two_wait (Ref 35 ∷ Ref 34 ∷ []) 6) (one_goes_on (Ref 37) 40 6 empty (list_of (Ref 38) (Ref 38)) (Ref 34) (Ref 33) (Small 2) nil)
+    × GoesOn (two_wait (Ref 34 ∷ Ref 35 ∷ []) 5) (one_goes_on (Ref 37) 40 5 (list_of (Ref 38) (Ref 38)) empty (Ref 34) (Ref 32) (Small 2) nil)
+unfolding opened state within around pending in_context objects code context process idle semaphore empty list_of method plain pointers two_wait one_goes_on
+two_signals = ((refl, refl), (refl, refl), (refl, refl))
 
 -- a process of no greater priority is ready, behind the others, and the active one goes on, with nothing stored in its context but the
 -- word that it pushes
@@ -355,11 +337,12 @@ unfolding opened state within around pending in_context objects code context pro
 asks = ((refl, refl), (refl, refl), (refl, refl), (refl, refl))
 
 unfoldable text : Option Object
-text = Some (record { class = 6; kind = kind.Bytes; fields = []; units = 104 ∷ 105 ∷ [] })
+unfolding bytes
+text = bytes 6 (104 ∷ 105 ∷ [])
 
 -- so does 128, whose receiver is of kind Bytes
 asks_to_say : Ends (asking 128 (Ref 47) (text ∷ []) (low (Ref 34) 63 0 [])) (Went (With (outcome.Say (Ref 47))) (asked 128 (Ref 47) (text ∷ []) (low nil 63 0 (Ref 34 ∷ []))))
-unfolding opened state within around pending in_context objects code context process idle semaphore empty list_of method plain pointers sending understanding with_primitive text low asking asked
+unfolding opened state within around pending in_context objects code context process idle semaphore empty list_of method plain pointers bytes sending understanding with_primitive text low asking asked
 asks_to_say = (refl, refl)
 
 -- a run ends there, and that cycle is finished

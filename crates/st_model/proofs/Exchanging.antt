@@ -9,8 +9,8 @@ use Rattle.st_model.specs.Formed.{IsFormed}
 use Rattle.st_model.specs.Table.{Table, entry, changed, exchanged, exchanged_objects, total_used}
 use Rattle.st_model.specs.Show.{IsUsed}
 use Rattle.st_model.specs.View.{View, IsWhole, is_live, held_at, with_exchanged}
-use Rattle.st_model.proofs.TableLemmas.{changed-some, changed-other}
-use Rattle.st_model.proofs.WholeLemmas.{named, used_live, live_used, live_changed, none_changed, length-changed, live_all, whole_as}
+use Rattle.st_model.proofs.TableLemmas.{changed-some, changed-other, length-changed}
+use Rattle.st_model.proofs.WholeLemmas.{named, used_live, live_used, live_changed, none_changed, live_all, whole_as}
 
 -- the name that has the object of this one after an exchange of a and b, or before
 abbrev pub other_of : ℕ → ℕ → ℕ → ℕ

@@ -1,12 +1,13 @@
 -- Objects stay what their kind says where a field or a unit is stored, and new ones are.
 use Rattle.std.proofs.Common.{◌≡◌, ℕ, ◌+◌, ◌-◌, ◌*◌, ◌/◌, ◌<◌, ◌≤◌, zero, suc, true, false, List, [], ◌∷◌, length, set, replicate, refl, sym, ap, ◌∙◌, subst, arith, length-set, lit<}
-use Rattle.std.specs.Prelude.{slice_get, Some, ◌%◌, if◌then◌else◌}
+use Rattle.std.specs.Prelude.{slice_get, Some, ◌%◌, ◌==◌, if◌then◌else◌}
 use Rattle.std.proofs.lemmas.List.{length-replicate}
 use Rattle.st_model.specs.declared.kind.Kind.{Kind}
 use Rattle.st_model.specs.declared.kind.Kind.TheVariants as kind
 use Rattle.st_model.specs.Values.{Value, Small, is_small}
-use Rattle.st_model.specs.Objects.{Object, nil, is_words, is_pointers, holds_fields, size_of, words_of, with_field, object_with_unit}
+use Rattle.st_model.specs.Objects.{Object, MethodClass, nil, place_of, is_words, is_pointers, is_method, size_of, words_of, with_field, object_with_unit}
 use Rattle.st_model.specs.Formed.{IsFormed, IsHeader, IsMakeable, IsWord, literals_of, unit_limit, fresh}
+use Rattle.st_model.proofs.KindTests.{words_pointers, words_fields}
 
 -- what stands in a list after a store stood there before or is what was stored
 pub in_set : {A : Type 0} (P : A → Type 0) (xs : List A) (i : ℕ) (x : A) → P x → ((j : ℕ) (y : A) → slice_get xs j ≡ Some y → P y) → (j : ℕ) (y : A) → slice_get (set xs i x) j ≡ Some y → P y
@@ -58,6 +59,20 @@ formed_unit o i u f small = record {
   size = subst (λ n. n ≤ 65535) (sym (words_of-object_with_unit o i u)) f.size;
 }
 
+-- a new object of kind Words or Bytes
+formed_units : (class : ℕ) (k : Kind) (size : ℕ) → is_method k ≡ (class == place_of MethodClass) → is_method k ≡ false → is_pointers k ≡ false → 0 < unit_limit k
+    → words_of (record { class = class; kind = k; fields = []; units = replicate size 0 }) ≤ 65535 → IsFormed (record { class = class; kind = k; fields = []; units = replicate size 0 })
+formed_units class k size method none unitless limit body = record {
+  method = method;
+  has_header = λ h. cc;
+  header = λ y e h. cc;
+  fieldless = λ h. refl;
+  unitless = λ h. cc;
+  values = λ j y e. cc;
+  units = in_replicate (λ u. u < unit_limit k) size 0 limit;
+  size = body;
+}
+
 pub formed_fresh : (class : ℕ) (k : Kind) (size literals : ℕ) → IsMakeable class k size literals → IsFormed (fresh class k size literals)
 formed_fresh class kind.Pointers size literals m = record {
   method = m.kind;
@@ -69,26 +84,8 @@ formed_fresh class kind.Pointers size literals m = record {
   units = λ j u e. cc;
   size = m.body;
 }
-formed_fresh class kind.Words size literals m = record {
-  method = m.kind;
-  has_header = λ h. cc;
-  header = λ y e h. cc;
-  fieldless = λ h. refl;
-  unitless = λ h. cc;
-  values = λ j y e. cc;
-  units = in_replicate (λ u. u < 65536) size 0 (lit< tt);
-  size = m.body;
-}
-formed_fresh class kind.Bytes size literals m = record {
-  method = m.kind;
-  has_header = λ h. cc;
-  header = λ y e h. cc;
-  fieldless = λ h. refl;
-  unitless = λ h. cc;
-  values = λ j y e. cc;
-  units = in_replicate (λ u. u < 256) size 0 (lit< tt);
-  size = m.body;
-}
+formed_fresh class kind.Words size literals m = formed_units class kind.Words size m.kind refl refl (lit< tt) m.body
+formed_fresh class kind.Bytes size literals m = formed_units class kind.Bytes size m.kind refl refl (lit< tt) m.body
 formed_fresh class kind.Method size literals m = record {
   method = m.kind;
   has_header = λ h. omega arith;
@@ -119,27 +116,15 @@ unit_limit-word kind.Words h = refl
 unit_limit-word kind.Bytes h = cc
 unit_limit-word kind.Method h = cc
 
-fieldless_words : (k : Kind) → is_words k ≡ true → holds_fields k ≡ false
-fieldless_words kind.Pointers h = cc
-fieldless_words kind.Words h = refl
-fieldless_words kind.Bytes h = cc
-fieldless_words kind.Method h = cc
-
 -- an object of kind Words has its words alone
 pub words_alone : (o : Object) → IsFormed o → is_words o.kind ≡ true → o.fields ≡ []
-words_alone o f h = f.fieldless (fieldless_words o.kind h)
+words_alone o f h = f.fieldless (words_fields o.kind h)
 
 words_size : (o : Object) → IsFormed o → is_words o.kind ≡ true → size_of o ≡ length o.units
 words_size o f h =
     let none : length o.fields ≡ 0 = ap length (words_alone o f h) in
-    let words : is_pointers o.kind ≡ false = words_are o.kind h in
+    let words : is_pointers o.kind ≡ false = words_pointers o.kind h in
     rw words (omega (arith, none))
-  where
-    words_are : (k : Kind) → is_words k ≡ true → is_pointers k ≡ false
-    words_are kind.Pointers q = cc
-    words_are kind.Words q = refl
-    words_are kind.Bytes q = cc
-    words_are kind.Method q = cc
 
 pub words_range : (o : Object) (i : ℕ) → IsFormed o → is_words o.kind ≡ true → i < size_of o → i < length o.units
 words_range o i f h l = let e = words_size o f h in omega (arith, e, l)

@@ -169,37 +169,24 @@ input_words : (trying 95 0 (awaiting (5 ∷ 9 ∷ [])) (nil ∷ []) []
 unfolding opened trying done made state objects quiet mouse awaiting clocks with timed low semaphore short object words method large string bytes pointers
 input_words = (refl, refl, refl, refl, refl, refl, refl)
 
--- 98: the first four bytes of an object of kind Bytes become the second clock, the low byte first.
-second_clocks : (trying 98 1 (clocks 16909060 7) (nil ∷ Ref 16 ∷ []) (string (9 ∷ 9 ∷ 9 ∷ 9 ∷ []) ∷ [])
-    ≡ done (clocks 16909060 7) (nil ∷ Ref 16 ∷ []) (string (4 ∷ 3 ∷ 2 ∷ 1 ∷ []) ∷ []))
-    × (trying 98 1 (clocks 4294967295 7) (nil ∷ Ref 16 ∷ []) (large (9 ∷ 9 ∷ 9 ∷ 9 ∷ 9 ∷ []) ∷ [])
-    ≡ done (clocks 4294967295 7) (nil ∷ Ref 16 ∷ []) (large (255 ∷ 255 ∷ 255 ∷ 255 ∷ 9 ∷ []) ∷ []))
-    × (trying 98 1 (clocks 0 7) (Ref 16 ∷ Ref 16 ∷ []) (string (9 ∷ 9 ∷ 9 ∷ 9 ∷ []) ∷ [])
-    ≡ done (clocks 0 7) (Ref 16 ∷ Ref 16 ∷ []) (string (0 ∷ 0 ∷ 0 ∷ 0 ∷ []) ∷ []))
-    × Fails 98 1 (clocks 16909060 7) (nil ∷ Ref 16 ∷ []) (string (9 ∷ 9 ∷ 9 ∷ []) ∷ [])
-    × Fails 98 1 (clocks 16909060 7) (nil ∷ Ref 16 ∷ []) (words (9 ∷ 9 ∷ 9 ∷ 9 ∷ []) ∷ [])
-    × Fails 98 1 (clocks 16909060 7) (nil ∷ Ref 16 ∷ []) (method (Small 0 ∷ []) (9 ∷ 9 ∷ 9 ∷ 9 ∷ []) ∷ [])
-    × Fails 98 1 (clocks 16909060 7) (nil ∷ Ref 16 ∷ []) (object (nil ∷ nil ∷ nil ∷ nil ∷ []) ∷ [])
-    × Fails 98 1 (clocks 16909060 7) (nil ∷ Small 4 ∷ []) []
-    × Fails 98 0 (clocks 16909060 7) (Ref 16 ∷ []) (string (9 ∷ 9 ∷ 9 ∷ 9 ∷ []) ∷ [])
-unfolding opened trying done made state objects quiet mouse awaiting clocks with timed low semaphore short object words method large string bytes pointers
-second_clocks = (refl, refl, refl, refl, refl, refl, refl, refl, refl)
+-- 98 and 99: the first four bytes of an object of kind Bytes become the second or the millisecond clock, the low byte first.
+abbrev FillsBy : ℕ → (ℕ → World) → Type 0
+FillsBy k clock = (trying k 1 (clock 16909060) (nil ∷ Ref 16 ∷ []) (string (9 ∷ 9 ∷ 9 ∷ 9 ∷ []) ∷ [])
+    ≡ done (clock 16909060) (nil ∷ Ref 16 ∷ []) (string (4 ∷ 3 ∷ 2 ∷ 1 ∷ []) ∷ []))
+    × (trying k 1 (clock 4294967295) (nil ∷ Ref 16 ∷ []) (large (9 ∷ 9 ∷ 9 ∷ 9 ∷ 9 ∷ []) ∷ [])
+    ≡ done (clock 4294967295) (nil ∷ Ref 16 ∷ []) (large (255 ∷ 255 ∷ 255 ∷ 255 ∷ 9 ∷ []) ∷ []))
+    × (trying k 1 (clock 0) (Ref 16 ∷ Ref 16 ∷ []) (string (9 ∷ 9 ∷ 9 ∷ 9 ∷ []) ∷ [])
+    ≡ done (clock 0) (Ref 16 ∷ Ref 16 ∷ []) (string (0 ∷ 0 ∷ 0 ∷ 0 ∷ []) ∷ []))
+    × Fails k 1 (clock 16909060) (nil ∷ Ref 16 ∷ []) (string (9 ∷ 9 ∷ 9 ∷ []) ∷ [])
+    × Fails k 1 (clock 16909060) (nil ∷ Ref 16 ∷ []) (words (9 ∷ 9 ∷ 9 ∷ 9 ∷ []) ∷ [])
+    × Fails k 1 (clock 16909060) (nil ∷ Ref 16 ∷ []) (method (Small 0 ∷ []) (9 ∷ 9 ∷ 9 ∷ 9 ∷ []) ∷ [])
+    × Fails k 1 (clock 16909060) (nil ∷ Ref 16 ∷ []) (object (nil ∷ nil ∷ nil ∷ nil ∷ []) ∷ [])
+    × Fails k 1 (clock 16909060) (nil ∷ Small 4 ∷ []) []
+    × Fails k 0 (clock 16909060) (Ref 16 ∷ []) (string (9 ∷ 9 ∷ 9 ∷ 9 ∷ []) ∷ [])
 
--- 99: the first four bytes of an object of kind Bytes become the millisecond clock, the low byte first.
-millisecond_clocks : (trying 99 1 (clocks 7 16909060) (nil ∷ Ref 16 ∷ []) (string (9 ∷ 9 ∷ 9 ∷ 9 ∷ []) ∷ [])
-    ≡ done (clocks 7 16909060) (nil ∷ Ref 16 ∷ []) (string (4 ∷ 3 ∷ 2 ∷ 1 ∷ []) ∷ []))
-    × (trying 99 1 (clocks 7 4294967295) (nil ∷ Ref 16 ∷ []) (large (9 ∷ 9 ∷ 9 ∷ 9 ∷ 9 ∷ []) ∷ [])
-    ≡ done (clocks 7 4294967295) (nil ∷ Ref 16 ∷ []) (large (255 ∷ 255 ∷ 255 ∷ 255 ∷ 9 ∷ []) ∷ []))
-    × (trying 99 1 (clocks 7 0) (Ref 16 ∷ Ref 16 ∷ []) (string (9 ∷ 9 ∷ 9 ∷ 9 ∷ []) ∷ [])
-    ≡ done (clocks 7 0) (Ref 16 ∷ Ref 16 ∷ []) (string (0 ∷ 0 ∷ 0 ∷ 0 ∷ []) ∷ []))
-    × Fails 99 1 (clocks 7 16909060) (nil ∷ Ref 16 ∷ []) (string (9 ∷ 9 ∷ 9 ∷ []) ∷ [])
-    × Fails 99 1 (clocks 7 16909060) (nil ∷ Ref 16 ∷ []) (words (9 ∷ 9 ∷ 9 ∷ 9 ∷ []) ∷ [])
-    × Fails 99 1 (clocks 7 16909060) (nil ∷ Ref 16 ∷ []) (method (Small 0 ∷ []) (9 ∷ 9 ∷ 9 ∷ 9 ∷ []) ∷ [])
-    × Fails 99 1 (clocks 7 16909060) (nil ∷ Ref 16 ∷ []) (object (nil ∷ nil ∷ nil ∷ nil ∷ []) ∷ [])
-    × Fails 99 1 (clocks 7 16909060) (nil ∷ Small 4 ∷ []) []
-    × Fails 99 0 (clocks 7 16909060) (Ref 16 ∷ []) (string (9 ∷ 9 ∷ 9 ∷ 9 ∷ []) ∷ [])
+clock_bytes : FillsBy 98 (λ n. clocks n 7) × FillsBy 99 (clocks 7)
 unfolding opened trying done made state objects quiet mouse awaiting clocks with timed low semaphore short object words method large string bytes pointers
-millisecond_clocks = (refl, refl, refl, refl, refl, refl, refl, refl, refl)
+clock_bytes = ((refl, refl, refl, refl, refl, refl, refl, refl, refl), (refl, refl, refl, refl, refl, refl, refl, refl, refl))
 
 -- 100: due where the clock is at least the time: the signal is pending behind the others, and the timer is let go.
 timer_due : (trying 100 2 (timed 5 8 nil []) (nil ∷ Ref 16 ∷ Ref 17 ∷ []) (semaphore ∷ string (5 ∷ 0 ∷ 0 ∷ 0 ∷ []) ∷ [])

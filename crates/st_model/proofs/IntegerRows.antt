@@ -42,29 +42,24 @@ differences : answers 2 ((pos 3, pos 5) ∷ (minus 16383, pos 1) ∷ (least, pos
 unfolding computed
 differences = refl
 
-less : answers 3 ((least, pos 0) ∷ (pos 4, pos 4) ∷ (pos 4, minus 5) ∷ []) ≡ yes ∷ no ∷ no ∷ []
-unfolding computed
-less = refl
+-- 3 to 6: < > <= >=
+abbrev below_same_above : List (ℤ × ℤ)
+below_same_above = (least, pos 0) ∷ (pos 4, pos 4) ∷ (pos 4, minus 5) ∷ []
 
-greater : answers 4 ((least, pos 0) ∷ (pos 4, pos 4) ∷ (pos 4, minus 5) ∷ []) ≡ no ∷ no ∷ yes ∷ []
+orders : (answers 3 below_same_above ≡ yes ∷ no ∷ no ∷ [])
+    × (answers 4 below_same_above ≡ no ∷ no ∷ yes ∷ [])
+    × (answers 5 below_same_above ≡ yes ∷ yes ∷ no ∷ [])
+    × (answers 6 below_same_above ≡ no ∷ yes ∷ yes ∷ [])
 unfolding computed
-greater = refl
+orders = (refl, refl, refl, refl)
 
-less_or_equal : answers 5 ((least, pos 0) ∷ (pos 4, pos 4) ∷ (pos 4, minus 5) ∷ []) ≡ yes ∷ yes ∷ no ∷ []
-unfolding computed
-less_or_equal = refl
+-- 7 and 8: = ~=
+abbrev same_or_other : List (ℤ × ℤ)
+same_or_other = (minus 7, minus 7) ∷ (minus 7, pos 7) ∷ (pos 0, minus 1) ∷ []
 
-greater_or_equal : answers 6 ((least, pos 0) ∷ (pos 4, pos 4) ∷ (pos 4, minus 5) ∷ []) ≡ no ∷ yes ∷ yes ∷ []
+equalities : (answers 7 same_or_other ≡ yes ∷ no ∷ no ∷ []) × (answers 8 same_or_other ≡ no ∷ yes ∷ yes ∷ [])
 unfolding computed
-greater_or_equal = refl
-
-equal : answers 7 ((minus 7, minus 7) ∷ (minus 7, pos 7) ∷ (pos 0, minus 1) ∷ []) ≡ yes ∷ no ∷ no ∷ []
-unfolding computed
-equal = refl
-
-not_equal : answers 8 ((minus 7, minus 7) ∷ (minus 7, pos 7) ∷ (pos 0, minus 1) ∷ []) ≡ no ∷ yes ∷ yes ∷ []
-unfolding computed
-not_equal = refl
+equalities = (refl, refl)
 
 products : answers 9 ((minus 7, pos 6) ∷ (pos 128, minus 128) ∷ (pos 128, pos 128) ∷ (pos 129, minus 128) ∷ (least, least) ∷ []) ≡ is (minus 42) ∷ is least ∷ None ∷ None ∷ None ∷ []
 unfolding computed

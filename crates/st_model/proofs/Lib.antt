@@ -4,6 +4,7 @@ pub mod CopyingBits
 pub mod Painting
 pub mod Resting
 pub mod Leaving
+pub mod AddedLast
 pub mod TableLemmas
 pub mod BirthLemmas
 pub mod Names

@@ -14,7 +14,8 @@ use Rattle.st_model.specs.Table.{Table, entry, changed, total_used}
 use Rattle.st_model.specs.View.{View, IsComplete, IsWhole, is_live, object_of, held_at, with_object, with_stored, with_unit, nothing_held, no_devices, empty_view}
 use Rattle.st_model.specs.Loading.{IsLoading}
 use Rattle.st_model.proofs.FormedLemmas.{formed_field, formed_unit, words_of-with_field, words_of-object_with_unit}
-use Rattle.st_model.proofs.WholeLemmas.{named, length-changed, total_used-changed, none_changed, changed_is}
+use Rattle.st_model.proofs.TableLemmas.{length-changed}
+use Rattle.st_model.proofs.WholeLemmas.{named, total_used-changed, none_changed, changed_is}
 
 pub entry-set_same : (t : Table) (n : ℕ) (o : Object) → n < length t → entry (set t n (Some o)) n ≡ Some o
 entry-set_same [] n o l = absurd (omega (arith, l))
@@ -114,21 +115,22 @@ module _ (v w : View) (x : Value) (i : ℕ) (loading : IsLoading v) (live : is_l
 
 -- how many words the objects have then
 
-pub total_used-with_stored : (t : Table) (x : Value) (i : ℕ) (y : Value) → is_live t x ≡ true → total_used words_of (with_stored t x i y) ≡ total_used words_of t
-unfolding with_stored
-total_used-with_stored t x i y live =
+-- a change of an object that leaves its words as many
+total_used-as : (change : Table → Value → Table) (f : Object → Object) (t : Table) (x : Value) → ((n : ℕ) → change t (Ref n) ≡ changed t n (f (object_of t (Ref n))))
+    → ((o : Object) → words_of (f o) ≡ words_of o) → is_live t x ≡ true → total_used words_of (change t x) ≡ total_used words_of t
+total_used-as change f t x changes same live =
     let r = named t x live in
     let is : object_of t (Ref r.0) ≡ r.1 = ap (object_of t) (sym r.2) ∙ r.4 in
-    ap (λ z. total_used words_of (with_stored t z i y)) r.2
-    ∙ total_used-changed words_of t r.0 r.1 (with_field (object_of t (Ref r.0)) i y) r.3 (words_of-with_field (object_of t (Ref r.0)) i y ∙ ap words_of is)
+    ap (λ z. total_used words_of (change t z)) r.2 ∙ ap (total_used words_of) (changes r.0)
+    ∙ total_used-changed words_of t r.0 r.1 (f (object_of t (Ref r.0))) r.3 (same (object_of t (Ref r.0)) ∙ ap words_of is)
+
+pub total_used-with_stored : (t : Table) (x : Value) (i : ℕ) (y : Value) → is_live t x ≡ true → total_used words_of (with_stored t x i y) ≡ total_used words_of t
+unfolding with_stored
+total_used-with_stored t x i y = total_used-as (λ s z. with_stored s z i y) (λ o. with_field o i y) t x (λ n. refl) (λ o. words_of-with_field o i y)
 
 pub total_used-with_unit : (t : Table) (x : Value) (i u : ℕ) → is_live t x ≡ true → total_used words_of (with_unit t x i u) ≡ total_used words_of t
 unfolding with_unit
-total_used-with_unit t x i u live =
-    let r = named t x live in
-    let is : object_of t (Ref r.0) ≡ r.1 = ap (object_of t) (sym r.2) ∙ r.4 in
-    ap (λ z. total_used words_of (with_unit t z i u)) r.2
-    ∙ total_used-changed words_of t r.0 r.1 (object_with_unit (object_of t (Ref r.0)) i u) r.3 (words_of-object_with_unit (object_of t (Ref r.0)) i u ∙ ap words_of is)
+total_used-with_unit t x i u = total_used-as (λ s z. with_unit s z i u) (λ o. object_with_unit o i u) t x (λ n. refl) (λ o. words_of-object_with_unit o i u)
 
 pub total_used-with_object : (t : Table) (x : Value) (n : ℕ) (o : Object) → x ≡ Ref n → n < length t → is_live t x ≡ false → total_used words_of (with_object t x o) ≡ total_used words_of t + words_of o
 unfolding with_object is_live

@@ -12,7 +12,7 @@ use Rattle.st_model.specs.Machine.{State, Transition, Died, Went, empty_world}
 use Rattle.st_model.specs.Table.{Table, table}
 use Rattle.st_model.specs.Executing.{execute}
 use Rattle.st_model.proofs.Opened.{opened}
-use Rattle.st_model.proofs.BlockRows.{pointers}
+use Rattle.st_model.proofs.StorageRows.{pointers}
 
 unfoldable method : List Value → Option Object
 method fields = Some (record { class = 17; kind = kind.Method; fields = fields; units = 120 ∷ [] })

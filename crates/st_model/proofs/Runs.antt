@@ -1,6 +1,6 @@
 -- What steps over the table come to.
 use Rattle.std.proofs.Common.{◌≡◌, ℕ, suc, zero, ◌<◌, ◌≤◌, List, [], ◌∷◌, length, Bool, true, false, Option, Some, None, refl, ap, arith, is_some, length-set}
-use Rattle.std.specs.Prelude.{ℤ, ◌-◌, ◌==◌, ◌&&◌, slice_get, slice_set, unwrap_or, nat_lt, nat_le}
+use Rattle.std.specs.Prelude.{ℤ, ◌-◌, ◌==◌, slice_get, slice_set, unwrap_or, nat_lt, nat_le}
 use Rattle.std.proofs.lemmas.Bool.Decides.{nat_tests}
 use Rattle.st_model.specs.declared.dead.Dead.{Dead}
 use Rattle.st_model.specs.declared.dead.Dead.TheVariants as dead

@@ -12,7 +12,8 @@ use Rattle.st_model.specs.Show.{raised}
 use Rattle.st_model.specs.Contexts.{fetch_scheduled_registers}
 use Rattle.st_model.specs.Saving.{save}
 use Rattle.st_model.proofs.Opened.{opened}
-use Rattle.st_model.proofs.CycleRows.{pointers, plain, method, list_of, empty, semaphore, idle, process, context, objects, in_context, within, state, around, code, switching}
+use Rattle.st_model.proofs.StorageRows.{pointers, method}
+use Rattle.st_model.proofs.CycleRows.{plain, list_of, empty, semaphore, idle, process, context, objects, in_context, within, state, around, code, switching}
 
 -- The image with one process: the scheduler 29, whose active process is this one, the process 30 with this context, the context 31
 -- with a large stack, and the method 32. From 33 on are the objects of a row.

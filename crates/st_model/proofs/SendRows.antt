@@ -13,17 +13,11 @@ use Rattle.st_model.specs.Table.{Table, table}
 use Rattle.st_model.specs.Cycles.{run, run_of, finished}
 use Rattle.st_model.specs.Foreseen.{foreseen_cycle}
 use Rattle.st_model.proofs.Opened.{opened}
-
--- an object of kind Pointers, by half the pointer of its class
-unfoldable pub pointers : ℕ → List Value → Option Object
-pointers class fields = Some (record { class = class; kind = kind.Pointers; fields = fields; units = [] })
+use Rattle.st_model.proofs.StorageRows.{pointers, method}
 
 unfoldable pub plain : List Value → Option Object
 unfolding pointers
 plain fields = pointers 6 fields
-
-unfoldable pub method : List Value → List ℕ → Option Object
-method fields bytes = Some (record { class = 17; kind = kind.Method; fields = fields; units = bytes })
 
 -- the active context, with these pointers in stored form and these two words on its stack
 unfoldable pub active : ℕ → ℕ → Value → Value → Option Object

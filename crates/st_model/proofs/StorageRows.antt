@@ -12,6 +12,7 @@ use Rattle.st_model.specs.Births.{Birth, Births, births}
 use Rattle.st_model.specs.Storage.{storage, primitive_say}
 use Rattle.st_model.proofs.Opened.{opened}
 
+-- an object of kind Pointers, by half the pointer of its class
 unfoldable pub pointers : ℕ → List Value → Option Object
 pointers class fields = Some (record { class = class; kind = kind.Pointers; fields = fields; units = [] })
 

@@ -126,21 +126,22 @@ field_with_fields-other t v i [] u j live o = refl
 field_with_fields-other t v i (x ∷ xs) u j live o =
     field_with_fields-other (with_stored t v i x) v (suc i) xs u j (live_stored t v i x v ∙ live) o ∙ field_stored-other t v i x live u j o
 
-pub field_with_fields-below : (t : Table) (v : Value) (i : ℕ) (xs : List Value) (u : Value) (j : ℕ) → is_live t v ≡ true → j < i
+-- below or above the stored ones
+pub field_with_fields-beside : (t : Table) (v : Value) (i : ℕ) (xs : List Value) (u : Value) (j : ℕ) → is_live t v ≡ true → (j < i) ⊎ (i + length xs ≤ j)
     → field_of (with_fields t v i xs) u j ≡ field_of t u j
 unfolding with_fields
-field_with_fields-below t v i [] u j live l = refl
-field_with_fields-below t v i (x ∷ xs) u j live l =
-    field_with_fields-below (with_stored t v i x) v (suc i) xs u j (live_stored t v i x v ∙ live) (omega (arith, l))
-    ∙ field_stored-beside t v i x live u j (λ e. absurd (omega (arith, l, e)))
+field_with_fields-beside t v i [] u j live l = refl
+field_with_fields-beside t v i (x ∷ xs) u j live l =
+    field_with_fields-beside (with_stored t v i x) v (suc i) xs u j (live_stored t v i x v ∙ live) (later l)
+    ∙ field_stored-beside t v i x live u j (λ e. apart l e)
+  where
+    later : (j < i) ⊎ (i + length (x ∷ xs) ≤ j) → (j < suc i) ⊎ (suc i + length xs ≤ j)
+    later (inl h) = inl (omega (arith, h))
+    later (inr h) = inr (omega (arith, h))
 
-pub field_with_fields-above : (t : Table) (v : Value) (i : ℕ) (xs : List Value) (u : Value) (j : ℕ) → is_live t v ≡ true → i + length xs ≤ j
-    → field_of (with_fields t v i xs) u j ≡ field_of t u j
-unfolding with_fields
-field_with_fields-above t v i [] u j live l = refl
-field_with_fields-above t v i (x ∷ xs) u j live l =
-    field_with_fields-above (with_stored t v i x) v (suc i) xs u j (live_stored t v i x v ∙ live) (omega (arith, l))
-    ∙ field_stored-beside t v i x live u j (λ e. absurd (omega (arith, l, e)))
+    apart : (j < i) ⊎ (i + length (x ∷ xs) ≤ j) → j ≢ i
+    apart (inl h) e = omega (arith, h, e)
+    apart (inr h) e = omega (arith, h, e)
 
 pub fields_from-length : (t : Table) (v : Value) (i n : ℕ) → length (fields_from t v i n) ≡ n
 unfolding fields_from

@@ -10,7 +10,7 @@ use Rattle.st_model.specs.Formed.{IsFormed, IsHeader, IsWord, unit_limit}
 use Rattle.st_model.specs.Table.{Table, entry, changed, total_used}
 use Rattle.st_model.specs.Show.{IsUsed}
 use Rattle.st_model.specs.View.{View, Held, IsKnown, IsWhole, is_live, object_of, nothing, held_at, with_held, with_stored, with_unit}
-use Rattle.st_model.proofs.TableLemmas.{changed-some, changed-other}
+use Rattle.st_model.proofs.TableLemmas.{changed-some, changed-other, length-changed}
 use Rattle.st_model.proofs.SettledLemmas.{some_is, is_some-of}
 use Rattle.st_model.proofs.FormedLemmas.{formed_field, formed_unit, words_of-with_field, words_of-object_with_unit}
 
@@ -74,13 +74,6 @@ module _ (P Q : ℕ → Type 0) (f : (n : ℕ) → P n → Q n) where
   pub live_all : (xs : List Value) → AllLive P xs → AllLive Q xs
   live_all [] h = tt
   live_all (y ∷ ys) h = (live_more y h.0, live_all ys h.1)
-
-pub length-changed : (t : Table) (n : ℕ) (o : Object) → length (changed t n o) ≡ length t
-length-changed [] n o = refl
-length-changed (None ∷ t) zero o = refl
-length-changed (Some a ∷ t) zero o = refl
-length-changed (None ∷ t) (suc n) o = ap (λ k. suc k) (length-changed t n o)
-length-changed (Some a ∷ t) (suc n) o = ap (λ k. suc k) (length-changed t n o)
 
 pub total_used-changed : (weight : Object → ℕ) (t : Table) (n : ℕ) (a o : Object) → entry t n ≡ Some a → weight o ≡ weight a → total_used weight (changed t n o) ≡ total_used weight t
 total_used-changed weight [] n a o e q = refl

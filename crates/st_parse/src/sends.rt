@@ -5,6 +5,7 @@ ghost use Rattle.st_scan.specs.Views.{is_super, expression_view, expressions_vie
 ghost use Rattle.st_grammar.specs.Leaves.{among};
 ghost use Rattle.st_grammar.specs.Reading.{first, message_starts, checked_at, names_step, names_at};
 ghost use Rattle.st_grammar.specs.Reading.{unary_message_at, no_parts_yet};
+ghost use Rattle.st_grammar.specs.Trees.{bytes};
 ghost use Rattle.st_parse.specs.Phrases.{parts_view};
 ghost use Rattle.st_parse.specs.Answers.{Reads, Makes, MakesParts, with_keyword, sent_message, sent_parts};
 ghost use Rattle.st_parse.specs.Answers.{sent_operator, also_parts, also_operator, argument_of};
@@ -87,6 +88,23 @@ fn one(alloc: Global, e: Expression) -> Result<ExpressionList, AllocError>
     Ok(list)
 }
 
+/// A message whose selector is a leaf's bytes.
+fn message_by(
+    alloc: Global,
+    text: &[u8],
+    leaf: Leaf,
+    arguments: ExpressionList,
+) -> Result<Message, AllocError>
+    ensures selector { IfOk result (λ m. m.selector.items ≡ bytes text.now leaf) }
+    ensures arguments { IfOk result (λ m. m.arguments ≡ arguments) }
+{
+    let selector = bytes_of(text, leaf.token).to_vec(alloc)?;
+    Ok(Message {
+        selector,
+        arguments,
+    })
+}
+
 /// A binary message to a receiver.
 pub fn operation(
     alloc: Global,
@@ -97,12 +115,8 @@ pub fn operation(
 ) -> Result<Expression, AllocError>
     ensures { IfOk result (Makes (sent_operator text.now receiver operator argument)) }
 {
-    let selector = bytes_of(text, operator.token).to_vec(alloc)?;
     let arguments = one(alloc, argument)?;
-    let message = Message {
-        selector,
-        arguments,
-    };
+    let message = message_by(alloc, text, operator, arguments)?;
     send(alloc, receiver, message)
 }
 
@@ -138,11 +152,7 @@ fn unary_message<'a>(
     ensures { Reads result (names_step text.now (expression_view receiver) leaves.now) }
 {
     let (leaf, rest) = token(&NAMES, leaves)?;
-    let selector = bytes_of(text, leaf.token).to_vec(alloc)?;
-    let message = Message {
-        selector,
-        arguments: Vec::new(alloc),
-    };
+    let message = message_by(alloc, text, leaf, Vec::new(alloc))?;
     Ok((send(alloc, receiver, message)?, rest))
 }
 
@@ -184,12 +194,7 @@ pub fn with_unary<'a>(
     ensures { Reads result (unary_message_at text.now (expression_view cascade) leaves.now) }
 {
     let (leaf, rest) = token(&NAMES, leaves)?;
-    let selector = bytes_of(text, leaf.token).to_vec(alloc)?;
-    let arguments = Vec::new(alloc);
-    let message = Message {
-        selector,
-        arguments,
-    };
+    let message = message_by(alloc, text, leaf, Vec::new(alloc))?;
     Ok((cascade.with_sent(message)?, rest))
 }
 
@@ -203,13 +208,8 @@ pub fn with_operation(
 ) -> Result<Expression, AllocError>
     ensures { IfOk result (Makes (also_operator text.now cascade operator argument)) }
 {
-    let selector = bytes_of(text, operator.token).to_vec(alloc)?;
     let arguments = one(alloc, argument)?;
-    let message = Message {
-        selector,
-        arguments,
-    };
-    cascade.with_sent(message)
+    cascade.with_sent(message_by(alloc, text, operator, arguments)?)
 }
 
 /// A cascade with one more keyword message.

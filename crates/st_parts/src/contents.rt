@@ -155,7 +155,8 @@ fn member_of<M: Memory>(
     v: Oop,
     members: &mut u32,
 ) -> Result<Option<Literal>, AllocError>
-    ensures { IfOk result (λ l. option_map literal_view l ≡ member_at deep (M.view m.now).objects (value v)) }
+    ensures { IfOk result
+        (λ l. option_map literal_view l ≡ member_at deep (M.view m.now).objects (value v)) }
 {
     match constant_named(v) {
         Some(constant) => Ok(Some(constant)),
@@ -172,7 +173,8 @@ fn array_of<M: Memory>(
     vs: &[Oop],
     members: &mut u32,
 ) -> Result<Option<Literal>, AllocError>
-    ensures { IfOk result (λ l. option_map literal_view l ≡ arrays_at deep (M.view m.now).objects (values vs.now)) }
+    ensures { IfOk result
+        (λ l. option_map literal_view l ≡ arrays_at deep (M.view m.now).objects (values vs.now)) }
 {
     if deep == 0 {
         return Ok(None);

@@ -14,5 +14,6 @@ pub fn literals_have_one_name()
 
 /// Under names that tell no text apart a method is made of the same parts.
 pub fn parts_are_alike()
-    ensures { (a b : NamesView) → SeesAlike a b → (v : View) (at : Place) → parts_at a v at ≡ parts_at b v at }
+    ensures { (a b : NamesView) → SeesAlike a b → (v : View) (at : Place)
+        → parts_at a v at ≡ parts_at b v at }
 {}

@@ -65,7 +65,9 @@ fn owns_by<M: Memory>(m: &M, global: Oop, of: Compiled<'_>, v: Oop) -> Result<bo
 #[tactic(auto, using(st_model::proofs::Runs::runs), unfolding(crate::specs::Owners::owns))]
 fn owns<M: Memory>(m: &M, globals: Oop, of: Compiled<'_>, v: Oop) -> Result<bool, Dead>
     ensures { let t = (M.view m.now).objects in
-        Reads (owns table (value globals) of.entry.name.now (value of.entry.class) (value v) of.entry.meta) itself t result }
+        Reads
+        (owns table (value globals) of.entry.name.now (value of.entry.class) (value v) of.entry.meta)
+        itself t result }
 {
     let global = class_association(m, globals, of.name)?;
     owns_by(m, global, of, v)
@@ -74,8 +76,9 @@ fn owns<M: Memory>(m: &M, globals: Oop, of: Compiled<'_>, v: Oop) -> Result<bool
 /// Whether a value is the association of a method's class. Where there is no such class it isn't.
 #[tactic(auto, using(crate::proofs::Owning::owners))]
 pub(crate) fn is_owner<M: Memory>(m: &M, of: Compiled<'_>, v: Oop) -> bool
-    ensures { let w = M.view m.now in result
-        ≡ is_owner_among w.objects w.head.globals of.entry.name.now (value of.entry.class) of.entry.meta (value v) }
+    ensures { let w = M.view m.now in
+        result ≡ is_owner_among w.objects w.head.globals of.entry.name.now
+        (value of.entry.class) of.entry.meta (value v) }
 {
     let globals = m.globals();
     if globals.0 == 0 {

@@ -14,6 +14,7 @@ use Rattle.st_plain.specs.declared.entry.Entry.{Entry}
 use Rattle.st_plain.specs.Lists.{slot, entry_object, entry_total, listed_table, IsLaidOut, IsFull}
 use Rattle.st_plain.proofs.Slots.{slice_get-slot, slot-slice_get, entry-slot}
 use Rattle.st_heap.proofs.Changing.{changed-set}
+use Rattle.st_plain.proofs.Placing.{slice_get-set_other}
 
 -- a sum with another entry at a place
 total-replaced : (w : Entry → ℕ) (es : List (Option Entry)) (k : ℕ) (e f : Entry) → slot es k ≡ Some e → entry_total w (set es k (Some f)) + w e ≡ entry_total w es + w f
@@ -27,13 +28,6 @@ slice_get-set_here : {A : Type 0} (xs : List A) (k : ℕ) (x y : A) → slice_ge
 slice_get-set_here [] k x y h = cc
 slice_get-set_here (z ∷ xs) zero x y h = refl
 slice_get-set_here (z ∷ xs) (suc k) x y h = slice_get-set_here xs k x y h
-
-slice_get-set_there : {A : Type 0} (xs : List A) (k j : ℕ) (x : A) → j ≢ k → slice_get (set xs k x) j ≡ slice_get xs j
-slice_get-set_there [] k j x d = refl
-slice_get-set_there (z ∷ xs) zero zero x d = absurd (d refl)
-slice_get-set_there (z ∷ xs) zero (suc j) x d = refl
-slice_get-set_there (z ∷ xs) (suc k) zero x d = refl
-slice_get-set_there (z ∷ xs) (suc k) (suc j) x d = slice_get-set_there xs k j x (λ q. d (ap (λ n. suc n) q))
 
 within_slot : (es : List (Option Entry)) (k end : ℕ) (e : Entry) → ((j : ℕ) → end ≤ j → slot es j ≡ None) → slot es k ≡ Some e → k < end
 within_slot es k end e empty h = elim (cases_lt k end) [
@@ -54,7 +48,7 @@ module _ (es : List (Option Entry)) (a b : ℕ) (e f : Entry) (at_a : slot es a 
   half_way : slice_get (set es a (Some f)) b ≡ Some (Some f)
   half_way = elim (cases_eq b a) [
     | inl q ↦ subst (λ n. slice_get (set es a (Some f)) n ≡ Some (Some f)) (sym q) (slice_get-set_here es a (Some f) (Some e) (slice_get-slot es a e at_a))
-    | inr d ↦ slice_get-set_there es a b (Some f) d ∙ slice_get-slot es b f at_b
+    | inr d ↦ slice_get-set_other es a b (Some f) d ∙ slice_get-slot es b f at_b
   ]
 
   parts : (n : ℕ) (x y : Bool) → (n == a) ≡ x → (n == b) ≡ y → slice_get new n ≡ slice_get es (if x then b else if y then a else n)
@@ -66,7 +60,7 @@ module _ (es : List (Option Entry)) (a b : ℕ) (e f : Entry) (at_a : slot es a 
             at ∙ sym (slice_get-slot es a e at_a) ∙ ap (slice_get es) same
         | inr d ↦
             subst (λ m. slice_get new m ≡ slice_get es b) (sym is_a)
-            (slice_get-set_there (set es a (Some f)) b a (Some e) d ∙ slice_get-set_here es a (Some f) (Some e) (slice_get-slot es a e at_a) ∙ sym (slice_get-slot es b f at_b))
+            (slice_get-set_other (set es a (Some f)) b a (Some e) d ∙ slice_get-set_here es a (Some f) (Some e) (slice_get-slot es a e at_a) ∙ sym (slice_get-slot es b f at_b))
       ]
   parts n false true p q =
       let is_b : n ≡ b = grind (arith, nat_tests) in
@@ -74,7 +68,7 @@ module _ (es : List (Option Entry)) (a b : ℕ) (e f : Entry) (at_a : slot es a 
   parts n false false p q =
       let no_a : n ≢ a = grind (arith, nat_tests) in
       let no_b : n ≢ b = grind (arith, nat_tests) in
-      slice_get-set_there (set es a (Some f)) b n (Some e) no_b ∙ slice_get-set_there es a n (Some f) no_a
+      slice_get-set_other (set es a (Some f)) b n (Some e) no_b ∙ slice_get-set_other es a n (Some f) no_a
 
   -- at each place stands what stood at the other one
   slice_get-new : (n : ℕ) → slice_get new n ≡ slice_get es (other_of a b n)
@@ -115,8 +109,7 @@ module _ (es : List (Option Entry)) (a b : ℕ) (e f : Entry) (at_a : slot es a 
     apart = λ i j c d ne h g. laid.apart (other_of a b i) (other_of a b j) c d (other_of-distinct a b i j ne) (sym (slice_get-new i) ∙ h) (sym (slice_get-new j) ∙ g);
     fields_end = laid.fields_end;
     units_end = laid.units_end;
-    few_fields = laid.few_fields;
-    few_units = laid.few_units;
+    bounded = laid.bounded;
   }
 
   module _ (p : List Oop) (u : List ℕ) where

@@ -1,13 +1,15 @@
 -- What a memory and a loader say at all times, where a part of an object changes.
-use Rattle.std.proofs.Common.{◌≡◌, ℕ, ◌<◌, true, length, refl, ap, ◌∙◌}
-use Rattle.st_model.specs.Values.{Value}
+use Rattle.std.proofs.Common.{◌≡◌, ℕ, ◌<◌, true, List, length, take, refl, ap, ◌∙◌}
+use Rattle.st_model.specs.declared.oop.Oop.{Oop}
+use Rattle.st_model.specs.Values.{Value, value}
 use Rattle.st_model.specs.Objects.{words_of, is_words, size_of}
-use Rattle.st_model.specs.Formed.{unit_limit}
+use Rattle.st_model.specs.Formed.{IsHeader, unit_limit}
 use Rattle.st_model.specs.Loading.{IsLoading}
 use Rattle.st_model.specs.Table.{total_used}
-use Rattle.st_model.specs.View.{View, IsWhole, is_live, object_of, with_unit}
+use Rattle.st_model.specs.View.{View, IsWhole, is_live, object_of, with_unit, with_stored}
 use Rattle.st_model.proofs.FormedLemmas.{words_range}
-use Rattle.st_model.proofs.LoadingLemmas.{loading_unit, total_used-with_unit}
+use Rattle.st_model.proofs.LoadingLemmas.{loading_unit, loading_stored, total_used-with_unit, total_used-with_stored}
+use Rattle.st_model.proofs.Pointers.{IsWord-value_of}
 use Rattle.st_model.proofs.WholeLemmas.{formed_live, whole_unit}
 use Rattle.st_plain.specs.declared.objects.Objects.{Objects}
 use Rattle.st_plain.specs.declared.contents.Contents.{Contents}
@@ -15,6 +17,8 @@ use Rattle.st_plain.specs.declared.memory.PlainMemory.{PlainMemory}
 use Rattle.st_plain.specs.declared.loader.PlainLoader.{PlainLoader}
 use Rattle.st_plain.specs.ListsPlain.{objects_of, extent_of, IsLong}
 use Rattle.st_plain.specs.Plain.{plain_view, HasRoom, AreLong}
+use Rattle.st_plain.specs.Lists.{listed_table}
+use Rattle.st_plain.proofs.Placing.{same_table}
 use Rattle.st_plain.proofs.Room.{long_same, room_same}
 
 -- all that a memory of these parts says
@@ -51,6 +55,17 @@ pub filled_unit : (l : PlainLoader) (now : Objects) (x : Value) (i u : ℕ) → 
 filled_unit l now x i u live small objects extent =
     let v = plain_view l.contents in
     filled l now (loading_unit v (plain_view (record l.contents { objects = now })) x i l.loading live refl refl u small objects) extent (ap (total_used words_of) objects ∙ total_used-with_unit v.objects x i u live)
+
+pub filled_field : (l : PlainLoader) (now : Objects) (x : Value) (i : ℕ) (y : Oop) → is_live (objects_of l.contents.objects) x ≡ true → IsHeader (object_of (objects_of l.contents.objects) x) i (value y) → y.0 < 65536
+    → objects_of now ≡ with_stored (objects_of l.contents.objects) x i (value y) → extent_of now ≡ extent_of l.contents.objects → Filled (record l.contents { objects = now })
+filled_field l now x i y live header word objects extent =
+    let v = plain_view l.contents in
+    filled l now (loading_stored v (plain_view (record l.contents { objects = now })) x i l.loading live refl refl (value y) header (IsWord-value_of y.0 word) objects) extent
+    (ap (total_used words_of) objects ∙ total_used-with_stored v.objects x i (value y) live)
+
+-- what is not in use can change
+pub in_use_stays : (o : Objects) (p : List Oop) (u : List ℕ) → take o.next_field p ≡ take o.next_field o.pointers.items → take o.next_unit u ≡ take o.next_unit o.units.items → listed_table p u o.entries.items ≡ objects_of o
+in_use_stays o p u fields units = same_table p o.pointers.items u o.units.items o.next_field o.next_unit fields units o.entries.items o.laid_out.placed
 
 -- a word within the size is among the units
 pub word_within : (v : View) (x : Value) (i : ℕ) → IsWhole v → is_live v.objects x ≡ true → is_words (object_of v.objects x).kind ≡ true → i < size_of (object_of v.objects x) → i < length (object_of v.objects x).units

@@ -1,5 +1,5 @@
 -- What is marked where the roots and what the objects refer to are marked.
-use Rattle.std.proofs.Common.{◌≡◌, ℕ, ◌<◌, Bool, true, false, ◌++◌, length, refl, sym, ap, ◌∙◌, inl, inr, ◌⊎◌}
+use Rattle.std.proofs.Common.{◌≡◌, ℕ, Bool, true, false, ◌++◌, length, refl, sym, ap, ◌∙◌, inl, inr, ◌⊎◌}
 use Rattle.std.specs.Prelude.{Some, IsTrue, ◌==◌}
 use Rattle.st_model.specs.Objects.{Object, one}
 use Rattle.st_model.specs.Machine.{table_root, head_roots, device_roots}

@@ -3,7 +3,6 @@ use Rattle.std.proofs.Common.{◌≡◌, ◌≢◌, ℕ, zero, suc, ◌+◌, ◌
 use Rattle.std.specs.Prelude.{slice_get, unwrap_or, Option, Some, None}
 use Rattle.std.proofs.lemmas.Bool.{cases_eq}
 use Rattle.std.proofs.lemmas.List.{drop-take}
-use Rattle.st_model.specs.Limits.{most_words}
 use Rattle.st_model.specs.declared.oop.Oop.{Oop}
 use Rattle.st_model.specs.declared.kind.Kind.{Kind}
 use Rattle.st_model.specs.Values.{value, value_of, is_small}
@@ -13,7 +12,7 @@ use Rattle.st_model.specs.View.{with_object}
 use Rattle.st_model.proofs.Pointers.{value_of-even}
 use Rattle.st_plain.specs.declared.entry.Entry.{Entry}
 use Rattle.st_counted.specs.Words.{nil_word}
-use Rattle.st_plain.specs.Lists.{entry_object, listed_table, slot, new_entry, words_for, IsApart, IsPlaced, AllPlaced, AllApart, IsLaidOut, IsFull, cleared}
+use Rattle.st_plain.specs.Lists.{entry_object, listed_table, slot, new_entry, words_for, IsApart, IsPlaced, AllPlaced, AllApart, IsLaidOut, IsFull, cleared, AreBounded}
 
 -- runs before a place are the same in lists that are the same up to it
 
@@ -59,7 +58,7 @@ slice_get-set_same [] i y h = absurd (omega (arith, h))
 slice_get-set_same (x ∷ xs) zero y h = refl
 slice_get-set_same (x ∷ xs) (suc i) y h = slice_get-set_same xs i y (omega arith)
 
-slice_get-set_other : {A : Type 0} (xs : List A) (i j : ℕ) (y : A) → j ≢ i → slice_get (set xs i y) j ≡ slice_get xs j
+pub slice_get-set_other : {A : Type 0} (xs : List A) (i j : ℕ) (y : A) → j ≢ i → slice_get (set xs i y) j ≡ slice_get xs j
 slice_get-set_other [] i j y n = refl
 slice_get-set_other (x ∷ xs) zero zero y n = absurd (n refl)
 slice_get-set_other (x ∷ xs) zero (suc j) y n = refl
@@ -127,22 +126,16 @@ module _ (es : List (Option Entry)) (size_fields size_units end nf nu : ℕ) (la
       ]
     ]
 
-    still_empty : (j : ℕ) → top ≤ j → slot (set es k (Some e)) j ≡ None
-    still_empty j l =
-        let other : j ≢ k = omega arith in
-        slot-set_other es k j (Some e) other ∙ laid.empty j (omega arith)
-
     pub place_laid_out : IsLaidOut (set es k (Some e)) size_fields size_units top (nf + fields) (nu + units)
     place_laid_out = record {
       places = length-set es k (Some e) ∙ laid.places;
       within = within;
-      empty = still_empty;
+      empty = λ j l. let other : j ≢ k = omega arith in slot-set_other es k j (Some e) other ∙ laid.empty j (omega arith);
       placed = all_placed;
       apart = all_apart;
       fields_end = fields_end;
       units_end = units_end;
-      few_fields = laid.few_fields;
-      few_units = laid.few_units;
+      bounded = laid.bounded;
     }
 
 -- where all places are empty nothing overlaps
@@ -150,8 +143,8 @@ module _ (es : List (Option Entry)) (size_fields size_units end nf nu : ℕ) (la
 no_entry : (es : List (Option Entry)) (i : ℕ) (e : Entry) → slot es i ≡ None → slice_get es i ≡ Some (Some e) → ⊥
 no_entry es i e none there = let h = ap (λ x. unwrap_or x None) there in cc
 
-pub none_laid_out : (es : List (Option Entry)) (size_fields size_units : ℕ) → length es ≡ 32768 → ((k : ℕ) → slot es k ≡ None) → size_fields ≤ most_words → size_units ≤ 2 * most_words → IsLaidOut es size_fields size_units 0 0 0
-none_laid_out es size_fields size_units places none few_fields few_units = record {
+pub none_laid_out : (es : List (Option Entry)) (size_fields size_units : ℕ) → length es ≡ 32768 → ((k : ℕ) → slot es k ≡ None) → AreBounded size_fields size_units → IsLaidOut es size_fields size_units 0 0 0
+none_laid_out es size_fields size_units places none bounded = record {
   places = places;
   within = omega arith;
   empty = λ k l. none k;
@@ -159,8 +152,7 @@ none_laid_out es size_fields size_units places none few_fields few_units = recor
   apart = λ i j d e ne hi hj. absurd (no_entry es i d (none i) hi);
   fields_end = omega arith;
   units_end = omega arith;
-  few_fields = few_fields;
-  few_units = few_units;
+  bounded = bounded;
 }
 
 -- an object at the place of a pointer

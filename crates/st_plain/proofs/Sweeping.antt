@@ -123,8 +123,7 @@ removed_laid_out es fields units end nf nu k laid = record {
   apart = λ i j d e ne hi hj. laid.apart i j d e ne (set_none_still es k i d hi) (set_none_still es k j e hj);
   fields_end = laid.fields_end;
   units_end = laid.units_end;
-  few_fields = laid.few_fields;
-  few_units = laid.few_units;
+  bounded = laid.bounded;
 }
 
 -- places before the one that is emptied are as full as they were

@@ -61,6 +61,11 @@ AllPlaced next_field next_unit entries = (i : ℕ) (e : Entry) → slice_get ent
 abbrev pub AllApart : List (Option Entry) → Type 0
 AllApart entries = (i j : ℕ) (d e : Entry) → i ≢ j → slice_get entries i ≡ Some (Some d) → slice_get entries j ≡ Some (Some e) → IsApart d e
 
+-- the lists are no longer than a memory has words
+pub record AreBounded (fields units : ℕ) : Type 0 where
+  pub fields_most : fields ≤ most_words
+  pub units_most : units ≤ 2 * most_words
+
 -- The table has 32,768 places, of which those from table_end on are empty. The runs lie apart in lists of so many
 -- fields and units, before the first free ones.
 pub record IsLaidOut (entries : List (Option Entry)) (fields units table_end next_field next_unit : ℕ) : Type 0 where
@@ -71,8 +76,7 @@ pub record IsLaidOut (entries : List (Option Entry)) (fields units table_end nex
   pub apart : AllApart entries
   pub fields_end : next_field ≤ fields
   pub units_end : next_unit ≤ units
-  pub few_fields : fields ≤ most_words
-  pub few_units : units ≤ 2 * most_words
+  pub bounded : AreBounded fields units
 
 -- no place from 1 up to this one is empty
 abbrev pub IsFull : List (Option Entry) → ℕ → Type 0

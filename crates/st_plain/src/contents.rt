@@ -11,21 +11,10 @@ use crate::adding::{fields_of, units_of};
 use crate::marks::Marks;
 use crate::objects::Objects;
 use crate::roots::mark_roots;
-use st_counted::Roots;
+use st_counted::{Head, Roots};
 use st_model::{Demand, Kind, Oop};
 use std::alloc::{AllocError, Global};
 use std::mem::swap;
-
-/// What the head of an image says.
-#[derive(Clone, Copy)]
-pub struct Head {
-    /// How many objects there can be, and how many words they can have.
-    pub capacity: Demand,
-    /// The pointer of the global name table, or 0.
-    pub globals: Oop,
-    /// The pointer of the symbol table, or 0.
-    pub symbols: Oop,
-}
 
 /// What a memory consists of, whole or not yet.
 #[derive(Drop)]

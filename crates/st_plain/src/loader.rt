@@ -4,8 +4,9 @@ ghost use Rattle.st_model.specs.Props.{IsLoading-prop};
 ghost use Rattle.st_plain.specs.ListsPlain.{extent_of, IsLong};
 ghost use Rattle.st_plain.specs.Plain.{plain_view, HasRoom};
 
-use crate::contents::{Contents, Head};
+use crate::contents::Contents;
 use crate::memory::PlainMemory;
+use st_counted::Head;
 use st_memory::Loader;
 use st_model::{Demand, Kind, Oop};
 use std::alloc::{AllocError, Global};

@@ -7,32 +7,9 @@ ghost use Rattle.st_model.specs.View.{table_of};
 ghost use Rattle.st_plain.specs.Marked.{AddsMarks, is_of_page};
 
 use crate::lists::no_marks;
+use st_counted::ROOT_PAGE;
 use st_model::Oop;
 use std::alloc::{AllocError, Global};
-
-/// The pointers of the root page.
-const PAGE: [Oop; 20] = [
-    Oop(2),
-    Oop(4),
-    Oop(6),
-    Oop(8),
-    Oop(12),
-    Oop(14),
-    Oop(16),
-    Oop(22),
-    Oop(24),
-    Oop(26),
-    Oop(28),
-    Oop(32),
-    Oop(34),
-    Oop(40),
-    Oop(42),
-    Oop(44),
-    Oop(48),
-    Oop(50),
-    Oop(52),
-    Oop(56),
-];
 
 /// A mark for each name, true where something refers to it.
 #[derive(Drop)]
@@ -94,7 +71,7 @@ impl Marks {
     pub fn mark_page(&mut self)
         ensures { AddsMarks self.old.names.items self.new.names.items is_of_page }
     {
-        self.mark_all(&PAGE);
+        self.mark_all(&ROOT_PAGE);
     }
 
     /// Marks the table of a pointer of the head; 0 is none.

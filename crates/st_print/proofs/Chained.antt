@@ -1,10 +1,9 @@
 -- The words of an expression along its chain.
-use Rattle.std.proofs.Common.{◌≡◌, ℕ, zero, suc, ◌<◌, ◌≤◌, Bool, true, false, List, [], ◌∷◌, ◌++◌, length, get_or, refl, sym, ap, ◌∙◌, append_assoc, arith}
+use Rattle.std.proofs.Common.{◌≡◌, Bool, true, false, List, [], ◌∷◌, ◌++◌, refl, sym, ap, ◌∙◌, append_assoc}
 use Rattle.std.specs.Str.{byte}
 use Rattle.std.proofs.lemmas.List.{append-nil}
-use Rattle.st_scan.specs.declared.chain.Link.{Link}
 use Rattle.st_scan.specs.Views.{ExpressionView, variable, literal, block, assign, send}
-use Rattle.st_scan.specs.Chains.{LinkView, assigned, sent, with_link, linked, IsStart, link_size, links_size}
+use Rattle.st_scan.specs.Chains.{LinkView, assigned, sent, with_link, linked, IsStart}
 use Rattle.st_print.specs.declared.rank.Rank.{Rank}
 use Rattle.st_print.specs.declared.rank.Rank.TheVariants.{Unary, Binary, Any}
 use Rattle.st_print.specs.Words.{Word, name, mark, wrapped}
@@ -64,9 +63,3 @@ chained outer e whole ls h is =
     ∙ along outer e ls
     ∙ ap (λ (x : List Word). before_links outer ls ++ (x ++ behind_links outer ls)) (start_placed (wanted_by outer ls) e h)
     ∙ sym (append_assoc (before_links outer ls) (expression_words e) (behind_links outer ls))
-
--- a link is no deeper than all
-pub link_within : (ls : List Link) (i : ℕ) (x : Link) → i < length ls → x ≡ get_or ls i x → link_size x ≤ links_size ls
-link_within [] i x less is = absurd (omega arith)
-link_within (l ∷ ls) zero x less is = let same = ap link_size is in omega (arith, same)
-link_within (l ∷ ls) (suc i) x less is = let later = link_within ls i x (omega arith) is in omega (arith, later)

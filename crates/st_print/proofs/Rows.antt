@@ -1,19 +1,9 @@
 -- The text of trees, by the definition alone.
-use Rattle.std.proofs.Common.{ℕ, Bool, true, false, List, [], ◌∷◌, ◌++◌, refl, Some, None}
+use Rattle.std.proofs.Common.{true, false, [], ◌∷◌, ◌++◌, refl, Some, None}
 use Rattle.std.specs.Prelude.{codes, decimal, ◌≡◌}
-use Rattle.st_scan.specs.declared.token.Signed.{Signed}
-use Rattle.st_scan.specs.Views.{NameView, ContentView, ExpressionView}
 use Rattle.st_scan.specs.Views as v
+use Rattle.st_scan.proofs.Worked.{signed, name_at, literal_at}
 use Rattle.st_print.specs.Printed.{printed}
-
-abbrev signed : Bool → ℕ → Signed
-signed minus size = record { minus = minus; size = size }
-
-abbrev name_at : List ℕ → ℕ → NameView
-name_at text place = record { text = text; place = place }
-
-abbrev literal_at : ℕ → ContentView → ExpressionView
-literal_at place what = v.literal (record { place = place; what = what })
 
 -- x ^x
 unary : printed (record { selector = codes "x"; arguments = []; temporaries = []; primitive = None; body = (v.statement true (v.variable (name_at (codes "x") 4)) v.no_statements) }) ≡ codes "x ^ x"

@@ -7,7 +7,8 @@ use Rattle.std.proofs.lemmas.Bool.{eqb-true, eq-eqb}
 use Rattle.std.proofs.Math.Seq.{drop-append_seam}
 use Rattle.st_scan.specs.declared.token.Signed.{Signed}
 use Rattle.st_scan.specs.Views.{ContentView, number, character, bytes, symbol, array, nil_object, false_object, true_object, ExpressionView, variable, literal, block, assign, send}
-use Rattle.st_scan.specs.Chains.{LinkView, assigned, sent, linked, IsStart}
+use Rattle.st_scan.specs.declared.chain.Link.{Link}
+use Rattle.st_scan.specs.Chains.{LinkView, assigned, sent, linked, links_view, IsStart}
 use Rattle.st_print.specs.declared.rank.Rank.{Rank}
 use Rattle.st_print.specs.declared.rank.Rank.TheVariants.{Any}
 use Rattle.st_print.specs.Words.{Word, number_text, spaced, grouped, wrapped, mark}
@@ -67,6 +68,10 @@ signed_never e whole ls h is some =
     ap first_signed (chained Any e whole ls h is)
     ∙ ap first_signed (append_assoc (before_links Any ls) (expression_words e) (behind_links Any ls))
     ∙ ⊎_elim (λ none. absurd (some none)) (λ otherwise. otherwise (expression_words e ++ behind_links Any ls)) (links_first Any ls)
+
+-- what was put before a start, where nothing stood before
+pub put_before : (made out : List ℕ) (held ls : List Link) → made ≡ [] → held ≡ ls → out ≡ made ++ spaced (before_links Any (links_view held)) → out ≡ spaced (before_links Any (links_view ls))
+put_before made out held ls none same put = put ∙ ap (λ (x : List ℕ). x ++ spaced (before_links Any (links_view held))) none ∙ ap (λ (x : List Link). spaced (before_links Any (links_view x))) same
 
 pub no_words : (ws : List Word) → true ≡ (length (spaced ws) == 0) → ws ≡ []
 no_words [] e = refl

@@ -1,24 +1,17 @@
--- Trees of phrases that grow at their end; and what places have no part in.
+-- Trees of phrases that grow at their end; and `super` is told by its name alone.
 use Rattle.std.proofs.Common.{◌≡◌, ℕ, true, false, List, [], ◌∷◌, ◌++◌, refl, sym, ap, ◌∙◌, append_assoc}
 use Rattle.std.proofs.lemmas.List.{append-nil}
 use Rattle.st_scan.specs.Views.{ExpressionView, MessagesView, ExpressionsView, with_message, is_super}
 use Rattle.st_scan.specs.Views as views
 use Rattle.st_scan.specs.Placeless.{placeless}
+use Rattle.st_scan.proofs.Views.{is_super-placeless}
 use Rattle.st_grammar.specs.declared.leaf.Leaf.{Leaf}
 use Rattle.st_grammar.specs.Leaves.{operators}
 use Rattle.st_grammar.specs.Phrases.{One, names, Primary, Unary, Operations, Parts, Expression, Target, unary, binary, keyworded, no_operations, operation, no_parts, part, expression, unary_text, operations_text, expression_text}
 use Rattle.st_grammar.specs.Trees.{bytes, name_at, sent, after_names, unary_tree, after_operations, expression_tree, has_message, UnaryFits, OperationsFit, ExpressionFits}
 
--- `super` by its name alone
-super_placeless : (t : ExpressionView) → is_super (placeless t) ≡ is_super t
-super_placeless (views.variable n) = refl
-super_placeless (views.literal e) = refl
-super_placeless (views.block ns body) = refl
-super_placeless (views.assign n e) = refl
-super_placeless (views.send r ms) = refl
-
 pub super_same : (t u : ExpressionView) → placeless t ≡ placeless u → is_super u ≡ false → is_super t ≡ false
-super_same t u e f = sym (super_placeless t) ∙ ap is_super e ∙ super_placeless u ∙ f
+super_same t u e f = sym (is_super-placeless t) ∙ ap is_super e ∙ is_super-placeless u ∙ f
 
 -- LISTS
 

@@ -1,13 +1,17 @@
 -- A primitive on processes, or on devices or clocks, is found by its number, and fails where it takes another number of arguments.
-use Rattle.std.proofs.Common.{◌≡◌, ℕ, true, false, refl}
+use Rattle.std.proofs.Common.{◌≡◌, ℕ, true, false, refl, ◌∙◌}
 use Rattle.std.specs.Prelude.{◌==◌, if◌then◌else◌}
 use Rattle.st_model.specs.Machine.{ObjectMemory, State, Went, answer}
 use Rattle.st_model.specs.Primitives.{taking}
 use Rattle.st_model.specs.Processes.{processes}
 use Rattle.st_model.specs.Processes as step
-use Rattle.st_model.specs.Input.{input}
+use Rattle.st_model.specs.Input.{input, primitive_be_cursor, primitive_be_display}
 use Rattle.st_model.specs.Input as act
 use Rattle.st_model.specs.Table.{Table}
+use Rattle.st_model.specs.declared.device.Device.TheVariants.{Cursor, Display}
+use Rattle.st_process.specs.declared.shapes.Setting.TheVariants.{CursorLink, SampleInterval}
+use Rattle.st_process.specs.Devices.{set_device, be_device}
+use Rattle.st_process.proofs.Settings.{link-set, interval-set}
 use Rattle.st_process.specs.Numbers.{process_takes, input_takes}
 use Rattle.st_frames.proofs.Numbered.{fails, none, taken}
 
@@ -74,17 +78,17 @@ module _ (m : ObjectMemory Table) where
   unfolding input taking
   input-91 k n s f e = rw f (taken (n == 1) (act.primitive_move_mouse m) s (rw f at e))
 
-  pub input-92 : (k n : ℕ) (s : State Table) → k ≡ 92 → input_takes k n ≡ true → (input m k n).run s ≡ (act.primitive_link_cursor m).run s
+  pub input-92 : (k n : ℕ) (s : State Table) → k ≡ 92 → input_takes k n ≡ true → (input m k n).run s ≡ (set_device m CursorLink).run s
   unfolding input taking
-  input-92 k n s f e = rw f (taken (n == 1) (act.primitive_link_cursor m) s (rw f at e))
+  input-92 k n s f e = rw f (taken (n == 1) (act.primitive_link_cursor m) s (rw f at e)) ∙ link-set m s
 
   pub input-93 : (k n : ℕ) (s : State Table) → k ≡ 93 → input_takes k n ≡ true → (input m k n).run s ≡ (act.primitive_input_semaphore m).run s
   unfolding input taking
   input-93 k n s f e = rw f (taken (n == 1) (act.primitive_input_semaphore m) s (rw f at e))
 
-  pub input-94 : (k n : ℕ) (s : State Table) → k ≡ 94 → input_takes k n ≡ true → (input m k n).run s ≡ (act.primitive_sample_interval m).run s
+  pub input-94 : (k n : ℕ) (s : State Table) → k ≡ 94 → input_takes k n ≡ true → (input m k n).run s ≡ (set_device m SampleInterval).run s
   unfolding input taking
-  input-94 k n s f e = rw f (taken (n == 1) (act.primitive_sample_interval m) s (rw f at e))
+  input-94 k n s f e = rw f (taken (n == 1) (act.primitive_sample_interval m) s (rw f at e)) ∙ interval-set m s
 
   pub input-95 : (k n : ℕ) (s : State Table) → k ≡ 95 → input_takes k n ≡ true → (input m k n).run s ≡ (act.primitive_input_word m).run s
   unfolding input taking
@@ -102,12 +106,12 @@ module _ (m : ObjectMemory Table) where
   unfolding input taking
   input-100 k n s f e = rw f (taken (n == 2) (act.primitive_timer m) s (rw f at e))
 
-  pub input-101 : (k n : ℕ) (s : State Table) → k ≡ 101 → input_takes k n ≡ true → (input m k n).run s ≡ (act.primitive_be_cursor m).run s
-  unfolding input taking
+  pub input-101 : (k n : ℕ) (s : State Table) → k ≡ 101 → input_takes k n ≡ true → (input m k n).run s ≡ (be_device m Cursor).run s
+  unfolding input taking be_device primitive_be_cursor
   input-101 k n s f e = rw f (taken (n == 0) (act.primitive_be_cursor m) s (rw f at e))
 
-  pub input-102 : (k n : ℕ) (s : State Table) → k ≡ 102 → input_takes k n ≡ true → (input m k n).run s ≡ (act.primitive_be_display m).run s
-  unfolding input taking
+  pub input-102 : (k n : ℕ) (s : State Table) → k ≡ 102 → input_takes k n ≡ true → (input m k n).run s ≡ (be_device m Display).run s
+  unfolding input taking be_device primitive_be_display
   input-102 k n s f e = rw f (taken (n == 0) (act.primitive_be_display m) s (rw f at e))
 
   pub input-116 : (k n : ℕ) (s : State Table) → k ≡ 116 → input_takes k n ≡ true → (input m k n).run s ≡ (act.primitive_low_space m).run s

@@ -5,6 +5,7 @@ pub mod Numbering
 pub mod Highest
 pub mod Sleeping
 pub mod Semaphores
+pub mod Settings
 pub mod Timers
 pub mod Taking
 pub mod ByNumber

@@ -1,13 +1,15 @@
 ghost use Rattle.std.specs.Prelude.{◌≡◌, ◌<◌, ◌≤◌, ◌+◌, IfOk, false};
 ghost use Rattle.st_model.specs.Values.{word};
-ghost use Rattle.st_model.specs.Input.{check_truth, primitive_link_cursor, hold_and_answer, primitive_input_semaphore, primitive_sample_interval, word_that_waits, take_word, primitive_input_word, primitive_be_cursor, primitive_be_display};
+ghost use Rattle.st_model.specs.Input.{check_truth, hold_and_answer, primitive_input_semaphore, word_that_waits, take_word, primitive_input_word};
 ghost use Rattle.st_model.specs.Calls.{itself};
 ghost use Rattle.st_model.specs.Deeds.{is_done, deed_of_trial, copies_pixels};
+ghost use Rattle.st_process.specs.Devices.{check_setting, set_device, be_device};
 ghost use Rattle.st_frames.specs.Answering.{succeed_by, answer_word, answer_deed};
 ghost use Rattle.st_frames.specs.Rows.{RowReads, RowLeaves, Takes};
 
 use crate::holding::hold;
 use crate::processes::check_fields;
+use crate::shapes::Setting;
 use st_frames::{
     Answer, Registers, bits_or_die, number, page, succeed_leaving, succeed_with, top, under,
 };
@@ -28,17 +30,32 @@ fn check_truth<O: Objects>(m: &O, r: &Registers, v: Word) -> Result<(), Dead>
     }
 }
 
-/// Primitive 92 links the cursor to the mouse or no more: nothing is seen of it.
-#[tactic(auto, using(st_frames::proofs::Tries::tries, crate::proofs::Changing::same), unfolding(st_model::specs::Input::primitive_link_cursor))]
-pub fn primitive_link_cursor<O: Objects>(m: &mut O, r: &mut Registers) -> Result<Tried, Dead>
+/// What says a setting: true or false, or a SmallInteger.
+#[tactic(auto, using(st_frames::proofs::Doing::rows, crate::proofs::Settings::settings))]
+fn check_setting<O: Objects>(m: &O, r: &Registers, setting: Setting, v: Word) -> Result<(), Dead>
+    ensures does { RowReads O.Objects.own (check_setting O.names setting (word v))
+        itself m.now r.now result }
+{
+    match setting {
+        Setting::CursorLink => check_truth(m, r, v),
+        Setting::SampleInterval => {
+            bits_or_die(m, r, v)?;
+            Ok(())
+        }
+    }
+}
+
+/// Primitives 92 and 94: the argument sets what nothing is seen of.
+#[tactic(auto, using(st_frames::proofs::Tries::tries, crate::proofs::Changing::same), unfolding(crate::specs::Devices::set_device))]
+pub fn set_device<O: Objects>(m: &mut O, r: &mut Registers, setting: Setting) -> Result<Tried, Dead>
     requires room { 1 ≤ O.room m.old }
-    ensures does { RowLeaves O.Objects.own (primitive_link_cursor O.names)
+    ensures does { RowLeaves O.Objects.own (set_device O.names setting)
         is_done deed_of_trial m.old r.old result m.new r.new }
     ensures takes { Takes O.Objects.own 1 m.old m.new }
 {
     let receiver = under(m, r, 1)?;
     let argument = top(m, r)?;
-    match check_truth(m, r, argument) {
+    match check_setting(m, r, setting, argument) {
         Ok(()) => succeed_with(m, r, 1, receiver),
         Err(_) => Ok(Tried::Failed),
     }
@@ -78,22 +95,6 @@ pub fn primitive_input_semaphore<O: Objects>(m: &mut O, r: &mut Registers) -> Re
     let argument = top(m, r)?;
     match check_fields(m, r, argument, 3) {
         Ok(()) => answer_held(m, r, 1, Device::InputSemaphore, argument, receiver),
-        Err(_) => Ok(Tried::Failed),
-    }
-}
-
-/// Primitive 94 sets how often the mouse is looked at: nothing is seen of it.
-#[tactic(auto, using(st_frames::proofs::Tries::tries, crate::proofs::Changing::same), unfolding(st_model::specs::Input::primitive_sample_interval))]
-pub fn primitive_sample_interval<O: Objects>(m: &mut O, r: &mut Registers) -> Result<Tried, Dead>
-    requires room { 1 ≤ O.room m.old }
-    ensures does { RowLeaves O.Objects.own (primitive_sample_interval O.names)
-        is_done deed_of_trial m.old r.old result m.new r.new }
-    ensures takes { Takes O.Objects.own 1 m.old m.new }
-{
-    let receiver = under(m, r, 1)?;
-    let argument = top(m, r)?;
-    match bits_or_die(m, r, argument) {
-        Ok(_) => succeed_with(m, r, 1, receiver),
         Err(_) => Ok(Tried::Failed),
     }
 }
@@ -154,32 +155,17 @@ pub fn primitive_input_word<O: Objects>(m: &mut O, r: &mut Registers) -> Result<
     }
 }
 
-/// Primitive 101: the receiver is the cursor.
-#[tactic(auto, using(st_frames::proofs::Tries::effects), unfolding(st_model::specs::Input::primitive_be_cursor))]
-pub fn primitive_be_cursor<O: Objects>(m: &mut O, r: &mut Registers) -> Result<Tried, Dead>
+/// Primitives 101 and 102: the receiver is what this device shows.
+#[tactic(auto, using(st_frames::proofs::Tries::effects), unfolding(crate::specs::Devices::be_device))]
+pub fn be_device<O: Objects>(m: &mut O, r: &mut Registers, device: Device) -> Result<Tried, Dead>
     requires room { 1 ≤ O.room m.old }
-    ensures does { RowLeaves O.Objects.own (primitive_be_cursor O.names)
+    ensures does { RowLeaves O.Objects.own (be_device O.names device)
         is_done deed_of_trial m.old r.old result m.new r.new }
     ensures takes { Takes O.Objects.own 1 m.old m.new }
 {
     let receiver = top(m, r)?;
     match check_fields(m, r, receiver, 3) {
-        Ok(()) => answer_held(m, r, 0, Device::Cursor, receiver, receiver),
-        Err(_) => Ok(Tried::Failed),
-    }
-}
-
-/// Primitive 102: the receiver is the display.
-#[tactic(auto, using(st_frames::proofs::Tries::effects), unfolding(st_model::specs::Input::primitive_be_display))]
-pub fn primitive_be_display<O: Objects>(m: &mut O, r: &mut Registers) -> Result<Tried, Dead>
-    requires room { 1 ≤ O.room m.old }
-    ensures does { RowLeaves O.Objects.own (primitive_be_display O.names)
-        is_done deed_of_trial m.old r.old result m.new r.new }
-    ensures takes { Takes O.Objects.own 1 m.old m.new }
-{
-    let receiver = top(m, r)?;
-    match check_fields(m, r, receiver, 3) {
-        Ok(()) => answer_held(m, r, 0, Device::Display, receiver, receiver),
+        Ok(()) => answer_held(m, r, 0, device, receiver, receiver),
         Err(_) => Ok(Tried::Failed),
     }
 }

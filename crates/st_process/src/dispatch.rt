@@ -6,17 +6,15 @@ ghost use Rattle.st_process.specs.Numbers.{process_takes, input_takes};
 ghost use Rattle.st_frames.specs.Rows.{RowLeaves, Takes, tried_changes, process_changes};
 
 use crate::clocks::{primitive_millisecond_clock, primitive_second_clock};
-use crate::devices::{
-    primitive_be_cursor, primitive_be_display, primitive_input_semaphore, primitive_input_word,
-    primitive_link_cursor, primitive_sample_interval,
-};
+use crate::devices::{be_device, primitive_input_semaphore, primitive_input_word, set_device};
 use crate::low_space::primitive_low_space;
 use crate::mouse::{primitive_mouse_point, primitive_move_mouse};
 use crate::processes::{primitive_resume, primitive_signal, primitive_suspend, primitive_wait};
+use crate::shapes::Setting;
 use crate::timer::primitive_timer;
 use st_frames::Registers;
 use st_memory::Objects;
-use st_model::{Dead, Tried};
+use st_model::{Dead, Device, Tried};
 
 /// Whether a primitive on processes of this number takes so many arguments.
 fn process_takes(primitive: u32, arguments: u32) -> bool
@@ -99,15 +97,15 @@ pub fn try_input<O: Objects>(
     match primitive {
         90 => primitive_mouse_point(m, r),
         91 => primitive_move_mouse(m, r),
-        92 => primitive_link_cursor(m, r),
+        92 => set_device(m, r, Setting::CursorLink),
         93 => primitive_input_semaphore(m, r),
-        94 => primitive_sample_interval(m, r),
+        94 => set_device(m, r, Setting::SampleInterval),
         95 => primitive_input_word(m, r),
         98 => primitive_second_clock(m, r),
         99 => primitive_millisecond_clock(m, r),
         100 => primitive_timer(m, r),
-        101 => primitive_be_cursor(m, r),
-        102 => primitive_be_display(m, r),
+        101 => be_device(m, r, Device::Cursor),
+        102 => be_device(m, r, Device::Display),
         116 => primitive_low_space(m, r),
         _ => Ok(Tried::Failed),
     }

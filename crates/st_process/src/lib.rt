@@ -1,5 +1,6 @@
 //! Processes and semaphores, and the primitives on them, on devices and on clocks (chapter 29). What each does is a definition of
-//! `st_model/specs/Processes.antt` or `st_model/specs/Input.antt`, of the same name.
+//! `st_model/specs/Processes.antt` or `st_model/specs/Input.antt`, of the same name; two that differ in the device alone, or in what
+//! is set, are one of `specs/Devices.antt`.
 #![tactic(auto)]
 
 mod clocks;

@@ -1,11 +1,14 @@
 ghost use Rattle.std.specs.Prelude.{◌≡◌, ◌≤◌, ◌+◌};
-ghost use Rattle.st_model.specs.Values.{word};
+ghost use Rattle.st_model.specs.Values.{Ref, word};
+ghost use Rattle.st_model.specs.Objects.{place_of};
+ghost use Rattle.st_model.specs.declared.page.PageObject.TheVariants.{NilObject};
 ghost use Rattle.st_model.specs.Steps.{same_value};
 ghost use Rattle.st_model.specs.Processes.{link_first, add_last, unlink_first, take_first};
 ghost use Rattle.st_model.specs.Calls.{Reads, itself};
 ghost use Rattle.st_process.specs.Scheduling.{is_empty};
 ghost use Rattle.st_frames.specs.Rows.{RowDoes, Takes};
 
+use crate::shapes::Link;
 use st_frames::{Registers, page};
 use st_memory::Objects;
 use st_model::{Dead, PageObject, Word};
@@ -20,22 +23,16 @@ pub fn is_empty<O: Objects>(m: &O, list: Word) -> Result<bool, Dead>
 }
 
 /// Links a process behind the last one of a list, or where its first one is nil, as the first.
-#[tactic(auto, using(st_frames::proofs::Doing::rows), unfolding(st_model::specs::Processes::link_first))]
-fn link_first<O: Objects>(
-    m: &mut O,
-    r: &Registers,
-    process: Word,
-    list: Word,
-    first: Word,
-    nil: Word,
-) -> Result<(), Dead>
+#[tactic(auto, using(st_frames::proofs::Doing::rows, st_frames::proofs::Doing::pages), unfolding(st_model::specs::Processes::link_first))]
+fn link_first<O: Objects>(m: &mut O, r: &Registers, link: Link, first: Word) -> Result<(), Dead>
     requires room { 1 ≤ O.room m.old }
     ensures does { RowDoes O.Objects.own
-        (link_first O.names (word process) (word list) (same_value (word first) (word nil)))
-        itself m.old r.now result m.new r.now }
+        (link_first O.names (word link.process) (word link.list)
+        (same_value (word first) (Ref (place_of NilObject)))) itself m.old r.now result m.new r.now }
     ensures takes { Takes O.Objects.own 1 m.old m.new }
 {
-    if first.same(nil) {
+    let Link { process, list } = link;
+    if first.same(page(m, PageObject::NilObject)) {
         m.store_field(list, 0, process)
     } else {
         let last = m.fetch_field(list, 1)?;
@@ -44,7 +41,7 @@ fn link_first<O: Objects>(
 }
 
 /// A process goes behind the last one of a list.
-#[tactic(auto, using(st_frames::proofs::Doing::rows), unfolding(st_model::specs::Processes::add_last))]
+#[tactic(auto, using(st_frames::proofs::Doing::rows, st_frames::proofs::Doing::pages), unfolding(st_model::specs::Processes::add_last))]
 pub fn add_last<O: Objects>(m: &mut O, r: &Registers, process: Word, list: Word) -> Result<(), Dead>
     requires room { 3 ≤ O.room m.old }
     ensures does { RowDoes O.Objects.own (add_last O.names (word process) (word list))
@@ -52,29 +49,23 @@ pub fn add_last<O: Objects>(m: &mut O, r: &Registers, process: Word, list: Word)
     ensures takes { Takes O.Objects.own 3 m.old m.new }
 {
     let first = m.fetch_field(list, 0)?;
-    let nil = page(m, PageObject::NilObject);
-    link_first(m, r, process, list, first, nil)?;
+    link_first(m, r, Link { process, list }, first)?;
     m.store_field(list, 1, process)?;
     m.store_field(process, 3, list)
 }
 
 /// The first process of a list, which has this last one, leaves it to the one behind it.
-#[tactic(auto, using(st_frames::proofs::Doing::rows), unfolding(st_model::specs::Processes::unlink_first))]
-fn unlink_first<O: Objects>(
-    m: &mut O,
-    r: &Registers,
-    process: Word,
-    list: Word,
-    last: Word,
-    nil: Word,
-) -> Result<(), Dead>
+#[tactic(auto, using(st_frames::proofs::Doing::rows, st_frames::proofs::Doing::pages), unfolding(st_model::specs::Processes::unlink_first))]
+fn unlink_first<O: Objects>(m: &mut O, r: &Registers, link: Link, last: Word) -> Result<(), Dead>
     requires room { 2 ≤ O.room m.old }
     ensures does { RowDoes O.Objects.own
-        (unlink_first O.names (word process) (word list) (word nil)
-        (same_value (word last) (word process))) itself m.old r.now result m.new r.now }
+        (unlink_first O.names (word link.process) (word link.list) (Ref (place_of NilObject))
+        (same_value (word last) (word link.process))) itself m.old r.now result m.new r.now }
     ensures takes { Takes O.Objects.own 2 m.old m.new }
 {
+    let Link { process, list } = link;
     if last.same(process) {
+        let nil = page(m, PageObject::NilObject);
         m.store_field(list, 0, nil)?;
         m.store_field(list, 1, nil)
     } else {
@@ -84,17 +75,16 @@ fn unlink_first<O: Objects>(
 }
 
 /// The first process of a list, which leaves it.
-#[tactic(auto, using(st_frames::proofs::Doing::rows), unfolding(st_model::specs::Processes::take_first))]
+#[tactic(auto, using(st_frames::proofs::Doing::rows, st_frames::proofs::Doing::pages), unfolding(st_model::specs::Processes::take_first))]
 pub fn take_first<O: Objects>(m: &mut O, r: &Registers, list: Word) -> Result<Word, Dead>
     requires room { 3 ≤ O.room m.old }
     ensures does { RowDoes O.Objects.own (take_first O.names (word list))
         word m.old r.now result m.new r.now }
     ensures takes { Takes O.Objects.own 3 m.old m.new }
 {
-    let first = m.fetch_field(list, 0)?;
+    let process = m.fetch_field(list, 0)?;
     let last = m.fetch_field(list, 1)?;
-    let nil = page(m, PageObject::NilObject);
-    unlink_first(m, r, first, list, last, nil)?;
-    m.store_field(first, 0, nil)?;
-    Ok(first)
+    unlink_first(m, r, Link { process, list }, last)?;
+    m.store_field(process, 0, page(m, PageObject::NilObject))?;
+    Ok(process)
 }

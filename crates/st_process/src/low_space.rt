@@ -24,11 +24,13 @@ fn low_space<O: Objects>(
 ) -> Result<Low, Dead>
     ensures does { RowReads O.Objects.own
         (low_space O.names (word semaphore) (word entries) (word words)) low_in m.now r.now result }
+    ensures of { IfOk result (λ low. low.semaphore ≡ semaphore) }
 {
     check_fields(m, r, semaphore, 3)?;
     let entries = positive_value(m, r, entries)?;
     let words = positive_value(m, r, words)?;
     Ok(Low {
+        semaphore,
         entries: entries as u32,
         words: words as u32,
     })
@@ -37,48 +39,23 @@ fn low_space<O: Objects>(
 /// A semaphore is to be signalled once space is low, which is left to be done; the receiver is the answer. The semaphore must
 /// be there.
 #[tactic(auto, using(crate::proofs::Changing::lows))]
-fn set_low_space<O: Objects>(
-    m: &O,
-    r: &Registers,
-    semaphore: Word,
-    low: Low,
-    receiver: Word,
-) -> Result<Answer, Dead>
+fn set_low_space<O: Objects>(m: &O, r: &Registers, low: Low, receiver: Word) -> Result<Answer, Dead>
     ensures does { RowLeaves O.Objects.own
-        (set_low_space O.names (word semaphore) (low_in low) (word receiver))
+        (set_low_space O.names (word low.semaphore) (low_in low) (word receiver))
         answer_word answer_deed m.now r.now result m.now r.now }
     ensures plain { IfOk result (λ a. copies_pixels a.deed ≡ false) }
 {
-    if !m.is_there(semaphore) {
+    if !m.is_there(low.semaphore) {
         return Err(Dead::Kind);
     }
     Ok(Answer {
         word: receiver,
         deed: Deed::SetLowSpace {
-            semaphore,
+            semaphore: low.semaphore,
             entries: low.entries,
             words: low.words,
         },
     })
-}
-
-/// Has a semaphore signalled once space is low, and answers the receiver.
-#[tactic(auto, using(st_frames::proofs::Doing::rows), unfolding(st_frames::specs::Answering::succeed_by))]
-fn answer_low_space<O: Objects>(
-    m: &mut O,
-    r: &mut Registers,
-    semaphore: Word,
-    low: Low,
-    receiver: Word,
-) -> Result<Tried, Dead>
-    requires room { 1 ≤ O.room m.old }
-    ensures does { RowLeaves O.Objects.own (succeed_by O.names 3
-        (set_low_space O.names (word semaphore) (low_in low) (word receiver)))
-        is_done deed_of_trial m.old r.old result m.new r.new }
-    ensures takes { Takes O.Objects.own 1 m.old m.new }
-{
-    let answer = set_low_space(m, r, semaphore, low, receiver)?;
-    succeed_leaving(m, r, 3, answer)
 }
 
 /// Primitive 116: the first argument is to be signalled once fewer entries or words are free than the others say.
@@ -94,7 +71,10 @@ pub fn primitive_low_space<O: Objects>(m: &mut O, r: &mut Registers) -> Result<T
     let entries = under(m, r, 1)?;
     let words = top(m, r)?;
     match low_space(m, r, semaphore, entries, words) {
-        Ok(low) => answer_low_space(m, r, semaphore, low, receiver),
+        Ok(low) => {
+            let answer = set_low_space(m, r, low, receiver)?;
+            succeed_leaving(m, r, 3, answer)
+        }
         Err(_) => Ok(Tried::Failed),
     }
 }

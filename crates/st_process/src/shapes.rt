@@ -2,6 +2,8 @@
 
 ghost use Rattle.std.specs.Prelude.{◌≤◌};
 
+use st_model::Word;
+
 /// A place, from the left and from the top.
 #[derive(Clone, Copy)]
 pub struct Place {
@@ -13,13 +15,42 @@ pub struct Place {
     pub ghost top: { y ≤ 16383 },
 }
 
-/// Space is low below so many free entries and words.
+/// A process, and the list that it is in or goes into.
+#[derive(Clone, Copy)]
+pub struct Link {
+    /// The process.
+    pub process: Word,
+    /// The list.
+    pub list: Word,
+}
+
+/// Space is low below so many free entries and words, and then a semaphore is signalled.
 #[derive(Clone, Copy)]
 pub struct Low {
+    /// The semaphore.
+    pub semaphore: Word,
     /// Free entries.
     pub entries: u32,
     /// Free words.
     pub words: u32,
+}
+
+/// A semaphore, and the object whose first four bytes say when it is to be signalled.
+#[derive(Clone, Copy)]
+pub struct Alarm {
+    /// The semaphore.
+    pub semaphore: Word,
+    /// The object of the bytes.
+    pub bytes: Word,
+}
+
+/// What is set of a device that nothing is seen of.
+#[derive(Clone, Copy)]
+pub enum Setting {
+    /// Whether the cursor is linked to the mouse, which true or false says.
+    CursorLink,
+    /// How often the mouse is looked at, which a SmallInteger says.
+    SampleInterval,
 }
 
 /// What primitive 100 does to the timer.

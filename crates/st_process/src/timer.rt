@@ -10,7 +10,7 @@ ghost use Rattle.st_frames.specs.Rows.{RowReads, RowLeaves, Takes};
 
 use crate::clocks::check_four_bytes;
 use crate::holding::hold;
-use crate::shapes::Timing;
+use crate::shapes::{Alarm, Timing};
 use st_frames::{Answer, Registers, number_read, page, succeed_leaving, top, under};
 use st_memory::Objects;
 use st_model::{Dead, Deed, Device, PageObject, Tried, Word};
@@ -60,19 +60,14 @@ fn timing_by<O: Objects>(m: &O, r: &Registers, semaphore: Word, time: u32) -> Re
 
 /// What is done to the timer, by the time that the first four bytes of an object say.
 #[tactic(auto, using(st_frames::proofs::Doing::rows, crate::proofs::Semaphores::timings))]
-fn find_timing<O: Objects>(
-    m: &O,
-    r: &Registers,
-    semaphore: Word,
-    bytes: Word,
-) -> Result<Timing, Dead>
-    ensures does { RowReads O.Objects.own (timing O.names (word semaphore) (word bytes))
+fn find_timing<O: Objects>(m: &O, r: &Registers, alarm: Alarm) -> Result<Timing, Dead>
+    ensures does { RowReads O.Objects.own (timing O.names (word alarm.semaphore) (word alarm.bytes))
         timing_in m.now r.now result }
     ensures room { IfOk result (HasRoom r.now.world.now) }
 {
-    check_four_bytes(m, r, bytes)?;
-    let time = number_read(m, r, bytes, 0, 4)?;
-    timing_by(m, r, semaphore, time as u32)
+    check_four_bytes(m, r, alarm.bytes)?;
+    let time = number_read(m, r, alarm.bytes, 0, 4)?;
+    timing_by(m, r, alarm.semaphore, time as u32)
 }
 
 /// The semaphore's signal is to be pending and the timer let go, which is left to be done. The semaphore must be there.
@@ -108,43 +103,17 @@ fn wait<O: Objects>(m: &O, r: &Registers, semaphore: Word, due: u32) -> Result<D
 
 /// What is left to be done to the timer. What it names must be there.
 #[tactic(auto, using(st_frames::proofs::Doing::rows, st_frames::proofs::Doing::pages, crate::proofs::Timers::timers))]
-fn set_timer<O: Objects>(
-    m: &O,
-    r: &Registers,
-    semaphore: Word,
-    timing: Timing,
-) -> Result<Deed, Dead>
+fn set_timer<O: Objects>(m: &O, r: &Registers, alarm: Alarm, timing: Timing) -> Result<Deed, Dead>
     requires room { HasRoom r.now.world.now timing }
-    ensures does { RowLeaves O.Objects.own (set_timer O.names (word semaphore) (timing_in timing))
+    ensures does { RowLeaves O.Objects.own (set_timer O.names (word alarm.semaphore) (timing_in timing))
         no_word itself m.now r.now result m.now r.now }
     ensures plain { IfOk result (λ d. copies_pixels d ≡ false) }
 {
     match timing {
-        Timing::Rings => ring(m, r, semaphore),
-        Timing::Waits(due) => wait(m, r, semaphore, due),
+        Timing::Rings => ring(m, r, alarm.semaphore),
+        Timing::Waits(due) => wait(m, r, alarm.semaphore, due),
         Timing::LetsGo => hold(m, r, Device::Timer, page(m, PageObject::NilObject)),
     }
-}
-
-/// Sets the timer, and answers the receiver.
-#[tactic(auto, using(st_frames::proofs::Doing::rows), unfolding(st_frames::specs::Answering::succeed_by, st_model::specs::Input::set_timer_and_answer))]
-fn answer_timer<O: Objects>(
-    m: &mut O,
-    r: &mut Registers,
-    semaphore: Word,
-    timing: Timing,
-    receiver: Word,
-) -> Result<Tried, Dead>
-    requires left { HasRoom r.old.world.now timing }
-    requires room { 1 ≤ O.room m.old }
-    ensures does { RowLeaves O.Objects.own (succeed_by O.names 2
-        (set_timer_and_answer O.names (word semaphore) (timing_in timing) (word receiver)))
-        is_done deed_of_trial m.old r.old result m.new r.new }
-    ensures takes { Takes O.Objects.own 1 m.old m.new }
-{
-    let deed = set_timer(m, r, semaphore, timing)?;
-    let word = receiver;
-    succeed_leaving(m, r, 2, Answer { word, deed })
 }
 
 /// Primitive 100: the first argument is to be signalled once the millisecond clock is at least the second.
@@ -158,8 +127,13 @@ pub fn primitive_timer<O: Objects>(m: &mut O, r: &mut Registers) -> Result<Tried
     let receiver = under(m, r, 2)?;
     let semaphore = under(m, r, 1)?;
     let bytes = top(m, r)?;
-    match find_timing(m, r, semaphore, bytes) {
-        Ok(timing) => answer_timer(m, r, semaphore, timing, receiver),
+    let alarm = Alarm { semaphore, bytes };
+    match find_timing(m, r, alarm) {
+        Ok(timing) => {
+            let deed = set_timer(m, r, alarm, timing)?;
+            let word = receiver;
+            succeed_leaving(m, r, 2, Answer { word, deed })
+        }
         Err(_) => Ok(Tried::Failed),
     }
 }

@@ -3,7 +3,7 @@ ghost use Rattle.std.specs.Prelude.{◌≡◌, ◌-◌, ℕ, List, Some, None, I
 ghost use Rattle.st_host.specs.{Counts.HasCause, Runs.{Makes, Spares}};
 ghost use Rattle.st_image.specs.Back.{CanStart};
 ghost use Rattle.st_chunk.specs.{Definitions.{IsDefinition, entries}, ScriptDefinitions.definition_of};
-ghost use Rattle.st_changes.specs.Views.{definition_of as kept_definition};
+ghost use Rattle.st_changes.specs.{Last.HasSelector, Views.{definition_of as kept_definition}};
 ghost use Rattle.st_store.specs.{Names.IsNoFileOf, Faults.RestsUnlessGate};
 ghost use Rattle.st_protocol.specs.{Obeying.Obeys, declared.status.Status.TheVariants.DiskFault};
 ghost use Rattle.st_protocol.specs.Statuses.{Counts};
@@ -29,16 +29,22 @@ fn copied(alloc: Global, bytes: &[u8]) -> Result<Text, AllocError>
     Ok(text)
 }
 
-/// A definition with texts of its own.
-fn owned(alloc: Global, definition: &Definition<'_>) -> Result<KeptDefinition, AllocError>
-    ensures { IfOk result (λ d. kept_definition d ≡ definition_of definition.now) }
+/// A definition and its selector, with texts of their own.
+fn owned(
+    alloc: Global,
+    definition: &Definition<'_>,
+    selector: &[u8],
+) -> Result<(KeptDefinition, Text), AllocError>
+    ensures definition { IfOk result (λ r. kept_definition r.0 ≡ definition_of definition.now) }
+    ensures selector { IfOk result (λ r. r.1.items ≡ selector.now) }
 {
-    Ok(KeptDefinition {
+    let kept = KeptDefinition {
         class: copied(alloc, definition.class)?,
         meta: definition.meta,
         category: copied(alloc, definition.category)?,
         text: copied(alloc, definition.text)?,
-    })
+    };
+    Ok((kept, copied(alloc, selector)?))
 }
 
 /// The slot of the other image file and the same changes file.
@@ -87,16 +93,18 @@ impl Archive {
         &self.changes
     }
 
-    /// Keeps a definition: its entry stands in the changes file, synced. `TooLarge` comes where the entry would take the file
-    /// past 2^30 bytes, and `OutOfMemory` where there is no memory: then nothing was done, since all memory is taken before the
+    /// Keeps a definition, whose selector is handed over: its entry stands in the changes file, synced. `TooLarge` comes where the
+    /// entry would take the file past 2^30 bytes, and `OutOfMemory` where there is no memory: then nothing was done, since all memory is taken before the
     /// first write, and the archive is as before. After `DiskFault` the store has the definition or it hasn't, and is closed.
     pub fn accept<H: Host>(
         &mut self,
         alloc: Global,
         host: &mut H,
         definition: &Definition<'_>,
+        selector: &[u8],
     ) -> Result<(), Status>
         requires good { IsDefinition (definition_of definition.now) }
+        requires selector { HasSelector (definition_of definition.now).text selector.now }
         requires open { IsSome self.old.store }
         ensures named { self.new.name ≡ self.old.name }
         ensures open { OnOk result (IsSome self.new.store) }
@@ -113,13 +121,13 @@ impl Archive {
         ensures counts { Counts H.Host.own ⊥ host.old host.new result }
         ensures kind { IfErr result IsOfKeeping }
     {
-        let Ok(definition) = owned(alloc, definition) else {
+        let Ok((definition, selector)) = owned(alloc, definition, selector) else {
             return Err(Status::OutOfMemory);
         };
         if !self.changes.fits(&definition) {
             return Err(Status::TooLarge);
         }
-        let Ok(()) = self.changes.reserve(alloc, &definition) else {
+        let Ok(()) = self.changes.reserve_as(alloc, &definition, Some(selector)) else {
             return Err(Status::OutOfMemory);
         };
         let Some(store) = self.store.take() else {

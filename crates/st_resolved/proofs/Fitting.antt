@@ -1,5 +1,5 @@
 -- The instructions of a method without faults fit their bytes.
-use Rattle.std.proofs.Common.{◌≡◌, ℕ, zero, suc, ◌+◌, ◌-◌, ◌<◌, ◌≤◌, Bool, true, false, ◌&&◌, List, [], ◌∷◌, ◌++◌, length, Option, Some, None, inl, inr, refl, arith}
+use Rattle.std.proofs.Common.{◌≡◌, ℕ, zero, suc, ◌+◌, ◌-◌, ◌<◌, ◌≤◌, Bool, true, false, List, [], ◌∷◌, ◌++◌, length, Option, Some, None, inl, inr, refl, arith}
 use Rattle.std.proofs.lemmas.Bool.Decides.{nat_tests}
 use Rattle.std.proofs.lemmas.Option.{slice_get_within}
 use Rattle.std.specs.Prelude.{if◌then◌else◌, nat_lt, nat_le, slice_get}
@@ -7,7 +7,7 @@ use Rattle.st_emit.specs.declared.step.Constant.TheVariants.{Receiver, True, Fal
 use Rattle.st_emit.specs.declared.step.Place.{Place}
 use Rattle.st_emit.specs.declared.step.Place.TheVariants.{Field, Temporary, Literal, Shared}
 use Rattle.st_emit.specs.declared.step.Step.{Step}
-use Rattle.st_emit.specs.declared.step.Step.TheVariants.{Push, PushConstant, PushNumber, Store, PopStore, Pop, Duplicate, Send, SendSuper, SendSpecial, ReturnConstant, ReturnTop, ReturnBlock, Jump, JumpBack, JumpIf, JumpPast}
+use Rattle.st_emit.specs.declared.step.Step.TheVariants.{Push, PushConstant, PushNumber, Pop, ReturnTop, Jump, JumpBack, JumpIf, JumpPast}
 use Rattle.st_emit.specs.declared.form.By.{By}
 use Rattle.st_emit.specs.declared.form.By.TheVariants.{Special, SelectorAt}
 use Rattle.st_emit.specs.declared.form.TwoSided.TheVariants.{TrueFirst, FalseFirst}
@@ -48,19 +48,7 @@ held_fits (Jump d) h r = at_most d 1023 r
 held_fits (JumpPast d) h r = at_most d 1023 r
 held_fits (JumpIf on d) h r = at_most d 1023 r
 held_fits (JumpBack d) h r = (h, at_most d 1024 r)
-held_fits (Push p) h r = h
-held_fits (PushConstant k) h r = h
-held_fits (PushNumber n) h r = h
-held_fits (Store p) h r = h
-held_fits (PopStore p) h r = h
-held_fits Pop h r = h
-held_fits Duplicate h r = h
-held_fits (Send n s) h r = h
-held_fits (SendSuper n s) h r = h
-held_fits (SendSpecial k) h r = h
-held_fits (ReturnConstant k) h r = h
-held_fits ReturnTop h r = h
-held_fits ReturnBlock h r = h
+held_fits s h r = h
 
 pub all_fit : (ss : List Step) → AllHeld ss → all_reach ss ≡ true → AllFit ss
 all_fit [] h r = tt

@@ -1,14 +1,14 @@
 -- The places of a tree are no matter of its code.
 use Rattle.std.proofs.Common.{◌≡◌, ℕ, suc, ◌+◌, Bool, true, false, ◌||◌, ◌&&◌, not, ◌==◌, ◌*◌, List, [], ◌∷◌, ◌++◌, length, Option, Some, None, refl, sym, ap, ◌∙◌, arith}
 use Rattle.std.specs.Prelude.{if◌then◌else◌, is_some, nat_lt, Ok}
-use Rattle.st_scan.specs.Views.{is_super, NameView, ContentView, ElementsView, ElementView, ExpressionView, StatementsView, MessagesView, ExpressionsView, MethodView}
+use Rattle.st_scan.specs.Views.{is_super, NameView, ContentView, ElementsView, ExpressionView, StatementsView, MessagesView, ExpressionsView, MethodView}
 use Rattle.st_scan.specs.Views as views
 use Rattle.st_scan.specs.Placeless.{placeless_name, placeless_names, placeless_content, placeless_elements, placeless, placeless_statements, placeless_messages, placeless_expressions, without_places}
 use Rattle.st_emit.specs.Names.{NamesView, Scope, Declared, Variable, temporary, field, shared, constant_named, variable_named, declared_as, numbered, declared, or_else}
 use Rattle.st_emit.specs.Literals.{LiteralView, Named, Naming, given, ◌>>=◌, literal_of, members_of}
 use Rattle.st_emit.specs.Literals as lits
 use Rattle.st_emit.specs.Nodes as nodes
-use Rattle.st_emit.specs.Nodes.{Node, Body, Tail}
+use Rattle.st_emit.specs.Nodes.{Node, Body}
 use Rattle.st_emit.specs.Resolving.{Context, behind, inside, names_in, names_in_statements, names_in_messages, names_in_all, literal_node, content_node, Message, sends_tail, assign_tail, tailed, is_plain, all_plain, before, count_node, expression_node, statements_body, messages_of, nodes_of}
 use Rattle.st_code.specs.declared.fault.Fault.{Fault}
 use Rattle.st_code.specs.declared.fault.Cause.{Cause}
@@ -98,10 +98,7 @@ content_same views.true_object = refl
 
 super_same : (e : ExpressionView) → is_super (placeless e) ≡ is_super e
 super_same (views.variable n) = refl
-super_same (views.literal e) = refl
-super_same (views.block ns b) = refl
-super_same (views.assign target e) = refl
-super_same (views.send r ms) = refl
+super_same e = refl
 
 plain_same : (e : ExpressionView) → is_plain (placeless e) ≡ is_plain e
 plain_same (views.variable n) = refl

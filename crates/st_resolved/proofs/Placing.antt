@@ -12,7 +12,7 @@ use Rattle.st_emit.specs.declared.form.By.{By}
 use Rattle.st_emit.specs.declared.form.By.TheVariants.{Special, SelectorAt}
 use Rattle.st_emit.specs.declared.form.TwoSided.TheVariants.{TrueFirst, FalseFirst}
 use Rattle.st_emit.specs.declared.form.Form.{Form}
-use Rattle.st_emit.specs.declared.form.Form.TheVariants.{Message as Plain, One, Two, Repeated}
+use Rattle.st_emit.specs.declared.form.Form.TheVariants.{One, Two, Repeated}
 use Rattle.st_emit.specs.Names.{Variable, temporary, field, shared, constant_named, variable_named}
 use Rattle.st_emit.specs.Literals.{LiteralView, small_number, Naming, given, ◌>>=◌, named_literal, literal_of}
 use Rattle.st_emit.specs.Literals as lits
@@ -152,15 +152,7 @@ module _ (final : List LiteralView) where
 
   body_placed : (n : Node) → Placed final n → BodyPlaced final (body_of n)
   body_placed (nodes.block f i c b) h = h.2
-  body_placed (nodes.constant k) h = tt
-  body_placed (nodes.small k) h = tt
-  body_placed (nodes.literal x p) h = tt
-  body_placed (nodes.variable p) h = tt
-  body_placed (nodes.assign p x) h = tt
-  body_placed (nodes.send above r ms) h = tt
-  body_placed (nodes.one_sided side x a) h = tt
-  body_placed (nodes.two_sided side x a b) h = tt
-  body_placed (nodes.loop kind x a) h = tt
+  body_placed n h = tt
 
   tail_placed : (n : Node) (t : Tail) → Placed final n → TailPlaced t → Placed final (with_tail n t)
   tail_placed n (nodes.assigned p) h k = h
@@ -173,26 +165,15 @@ module _ (final : List LiteralView) where
   puts_plain above m ms g k h = puts_end (MessagesPlaced final above) TailPlaced (message_nodes above m ms) (nodes.sent above) (puts_messages above m ms g k h) (λ x p. p)
 
   puts_formed : (form : Form) (is_block : Bool) (ms : List (Naming Node)) (otherwise : Naming Tail) → AllGrow ms → AllPut ms → Puts TailPlaced otherwise → Puts TailPlaced (formed form is_block ms otherwise)
-  puts_formed Plain is_block ms otherwise g h k = k
-  puts_formed (One side) is_block [] otherwise g h k = k
   puts_formed (One side) is_block (a ∷ []) otherwise g h k = puts_end (Placed final) TailPlaced a (λ n. nodes.sided side (body_of n)) h.0 (λ n p. body_placed n p)
-  puts_formed (One side) is_block (a ∷ b ∷ ms) otherwise g h k = k
-  puts_formed (Two TrueFirst) is_block [] otherwise g h k = k
-  puts_formed (Two TrueFirst) is_block (a ∷ []) otherwise g h k = k
   puts_formed (Two TrueFirst) is_block (a ∷ b ∷ []) otherwise g h k =
       puts_then (Placed final) TailPlaced a (λ n. b >>= λ o. given (nodes.chosen TrueFirst (body_of n) (body_of o))) (λ n. grows_end b (λ o. nodes.chosen TrueFirst (body_of n) (body_of o)) g.1.0) h.0
       (λ n p. puts_end (Placed final) TailPlaced b (λ o. nodes.chosen TrueFirst (body_of n) (body_of o)) h.1.0 (λ o q. (body_placed n p, body_placed o q)))
-  puts_formed (Two TrueFirst) is_block (a ∷ b ∷ c ∷ ms) otherwise g h k = k
-  puts_formed (Two FalseFirst) is_block [] otherwise g h k = k
-  puts_formed (Two FalseFirst) is_block (a ∷ []) otherwise g h k = k
   puts_formed (Two FalseFirst) is_block (a ∷ b ∷ []) otherwise g h k =
       puts_then (Placed final) TailPlaced b (λ n. a >>= λ o. given (nodes.chosen FalseFirst (body_of o) (body_of n))) (λ n. grows_end a (λ o. nodes.chosen FalseFirst (body_of o) (body_of n)) g.0) h.1.0
       (λ n p. puts_end (Placed final) TailPlaced a (λ o. nodes.chosen FalseFirst (body_of o) (body_of n)) h.0 (λ o q. (body_placed o q, body_placed n p)))
-  puts_formed (Two FalseFirst) is_block (a ∷ b ∷ c ∷ ms) otherwise g h k = k
-  puts_formed (Repeated kind) true [] otherwise g h k = k
   puts_formed (Repeated kind) true (a ∷ []) otherwise g h k = puts_end (Placed final) TailPlaced a (λ n. nodes.looped kind (body_of n)) h.0 (λ n p. body_placed n p)
-  puts_formed (Repeated kind) true (a ∷ b ∷ ms) otherwise g h k = k
-  puts_formed (Repeated kind) false ms otherwise g h k = k
+  puts_formed form is_block ms otherwise g h k = k
 
   puts_single : (above is_block : Bool) (m : Message) → AllGrow m.arguments → AllPut m.arguments → IsRight m.selector (length m.arguments) → Puts TailPlaced (single_tail above is_block m)
   puts_single above is_block m g h r = by_test (not above && m.all_blocks)

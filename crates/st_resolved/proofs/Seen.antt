@@ -1,5 +1,5 @@
 -- The variables of nodes that a tree without faults gives are seen where they stand.
-use Rattle.std.proofs.Common.{◌≡◌, ℕ, zero, suc, ◌+◌, ◌<◌, ◌≤◌, Bool, true, false, not, ◌&&◌, cond, List, [], ◌∷◌, ◌++◌, length, Option, Some, None, inl, inr, ◌⊎◌, refl, sym, ap, ◌∙◌, subst, arith, append-nil}
+use Rattle.std.proofs.Common.{◌≡◌, ℕ, zero, suc, ◌+◌, ◌≤◌, Bool, true, false, not, ◌&&◌, cond, List, [], ◌∷◌, ◌++◌, length, Option, Some, None, inl, inr, refl, sym, ap, ◌∙◌, subst, arith, append-nil}
 use Rattle.std.proofs.lemmas.Bool.Decides.{nat_tests}
 use Rattle.std.specs.Prelude.{if◌then◌else◌, nat_lt, slice_get, is_some, bytes_eq, option_map}
 use Rattle.st_scan.specs.declared.token.Signed.{Signed}
@@ -10,7 +10,7 @@ use Rattle.st_emit.specs.declared.step.Place.{Place}
 use Rattle.st_emit.specs.declared.step.Place.TheVariants.{Field, Temporary, Shared}
 use Rattle.st_emit.specs.declared.form.TwoSided.TheVariants.{TrueFirst, FalseFirst}
 use Rattle.st_emit.specs.declared.form.Form.{Form}
-use Rattle.st_emit.specs.declared.form.Form.TheVariants.{Message as Plain, One, Two, Repeated}
+use Rattle.st_emit.specs.declared.form.Form.TheVariants.{One, Two, Repeated}
 use Rattle.st_emit.specs.Names.{NamesView, Scope, Declared, Variable, temporary, field, shared, constant_named, declared_as, field_named, shared_named, variable_named, own_variable, or_else, numbered, declared}
 use Rattle.st_emit.specs.Literals.{LiteralView, small_number, Naming, given, ◌>>=◌, named_literal, literal_of}
 use Rattle.st_emit.specs.Literals as lits
@@ -210,26 +210,15 @@ module _ (from to : ℕ) where
       seen_plain b above m ms g k h = puts_end final AreSent (TailSeen b) (message_nodes above m ms) (nodes.sent above) (seen_messages above m ms g k h) (λ x p. p)
 
       seen_formed : (form : Form) (b : Bool) (ms : List (Naming Node)) (otherwise : Naming Tail) → AllGrow ms → AllSeen true ms → Puts final (TailSeen b) otherwise → Puts final (TailSeen b) (formed form b ms otherwise)
-      seen_formed Plain b ms otherwise g h k = k
-      seen_formed (One side) b [] otherwise g h k = k
       seen_formed (One side) b (a ∷ []) otherwise g h k = puts_end final (IsSeenArgument true) (TailSeen b) a (λ n. nodes.sided side (body_of n)) h.0 (λ n p. p.1 refl)
-      seen_formed (One side) b (a ∷ c ∷ ms) otherwise g h k = k
-      seen_formed (Two TrueFirst) b [] otherwise g h k = k
-      seen_formed (Two TrueFirst) b (a ∷ []) otherwise g h k = k
       seen_formed (Two TrueFirst) b (a ∷ c ∷ []) otherwise g h k =
           puts_then final (IsSeenArgument true) (TailSeen b) a (λ n. c >>= λ o. given (nodes.chosen TrueFirst (body_of n) (body_of o))) (λ n. grows_end c (λ o. nodes.chosen TrueFirst (body_of n) (body_of o)) g.1.0) h.0
           (λ n p. puts_end final (IsSeenArgument true) (TailSeen b) c (λ o. nodes.chosen TrueFirst (body_of n) (body_of o)) h.1.0 (λ o q. (p.1 refl, q.1 refl)))
-      seen_formed (Two TrueFirst) b (a ∷ c ∷ d ∷ ms) otherwise g h k = k
-      seen_formed (Two FalseFirst) b [] otherwise g h k = k
-      seen_formed (Two FalseFirst) b (a ∷ []) otherwise g h k = k
       seen_formed (Two FalseFirst) b (a ∷ c ∷ []) otherwise g h k =
           puts_then final (IsSeenArgument true) (TailSeen b) c (λ n. a >>= λ o. given (nodes.chosen FalseFirst (body_of o) (body_of n))) (λ n. grows_end a (λ o. nodes.chosen FalseFirst (body_of o) (body_of n)) g.0) h.1.0
           (λ n p. puts_end final (IsSeenArgument true) (TailSeen b) a (λ o. nodes.chosen FalseFirst (body_of o) (body_of n)) h.0 (λ o q. (q.1 refl, p.1 refl)))
-      seen_formed (Two FalseFirst) b (a ∷ c ∷ d ∷ ms) otherwise g h k = k
-      seen_formed (Repeated kind) true [] otherwise g h k = k
       seen_formed (Repeated kind) true (a ∷ []) otherwise g h k = puts_end final (IsSeenArgument true) (TailSeen true) a (λ n. nodes.looped kind (body_of n)) h.0 (λ n p. (refl, p.1 refl))
-      seen_formed (Repeated kind) true (a ∷ c ∷ ms) otherwise g h k = k
-      seen_formed (Repeated kind) false ms otherwise g h k = k
+      seen_formed form b ms otherwise g h k = k
 
       seen_single : (above b : Bool) (m : Message) → AllGrow m.arguments → AllSeen m.all_blocks m.arguments → Puts final (TailSeen b) (single_tail above b m)
       seen_single above b m g h = by_test (not above) m.all_blocks refl

@@ -1,8 +1,8 @@
 -- Code has bytes.
-use Rattle.std.proofs.Common.{◌≡◌, ℕ, ◌+◌, ◌-◌, ◌≤◌, ◌==◌, Bool, true, false, List, [], ◌∷◌, ◌++◌, refl, ap, ◌∙◌, arith}
+use Rattle.std.proofs.Common.{◌≡◌, ℕ, ◌+◌, ◌-◌, ◌≤◌, Bool, true, false, List, [], ◌∷◌, ◌++◌, arith}
 use Rattle.std.specs.Prelude.{if◌then◌else◌, nat_lt, nat_le, ◌&&◌}
 use Rattle.st_emit.specs.Bounds.{short_pushes, short_literals, short_pops, short_selectors, short_arguments, long_selectors, long_arguments}
-use Rattle.st_emit.specs.declared.step.Constant.TheVariants.{Receiver, True, False, Nil, Context}
+use Rattle.st_emit.specs.declared.step.Constant.TheVariants.{Receiver, Nil, Context}
 use Rattle.st_emit.specs.declared.step.Place.{Place}
 use Rattle.st_emit.specs.declared.step.Place.TheVariants.{Field, Temporary, Literal, Shared}
 use Rattle.st_emit.specs.declared.step.Step.{Step}
@@ -93,11 +93,6 @@ mutual
 
   return_some : (n : Node) → 1 ≤ size (return_code n (code_of for_value n))
   return_some (constant Receiver) = omega arith
-  return_some (constant True) = omega arith
-  return_some (constant False) = omega arith
-  return_some (constant Nil) = omega arith
-  return_some (constant Context) = omega arith
-  return_some (small k) = omega arith
   return_some (literal l place) = first_some (Push (Literal place)) (ReturnTop ∷ [])
   return_some (variable p) = first_some (Push p) (ReturnTop ∷ [])
   return_some (assign p n) = more_some (code_of for_value n ++ Store p ∷ []) (ReturnTop ∷ []) (more_some (code_of for_value n) (Store p ∷ []) (code_some for_value n))
@@ -107,3 +102,4 @@ mutual
   return_some (two_sided TrueFirst x a b) = more_some _ (ReturnTop ∷ []) (more_some (code_of for_value x) _ (code_some for_value x))
   return_some (two_sided FalseFirst x a b) = more_some _ (ReturnTop ∷ []) (more_some (code_of for_value x) _ (code_some for_value x))
   return_some (loop kind x a) = more_some _ (ReturnTop ∷ []) (more_some (body_code x) _ (body_some x))
+  return_some n = omega arith

@@ -88,16 +88,11 @@ fn long_count(arguments: u8, selector: u8) -> usize
     }
 }
 
-/// A send by three bytes, behind the first.
-fn doubly(lookup: Lookup, arguments: u8, rest: &[u8]) -> Option<Found>
-    ensures { result ≡ doubly (is_above lookup) (arguments ∷ rest.now) }
+/// A send of a selector that is looked up there.
+fn sent(lookup: Lookup, arguments: usize, selector: usize) -> Step
+    ensures { result ≡ sending (is_above lookup) arguments selector }
 {
-    let [selector, ..] = rest else {
-        return None;
-    };
-    let arguments = long_count(arguments, *selector);
-    let selector = *selector as usize;
-    let step = match lookup {
+    match lookup {
         Lookup::InClass => Step::Send {
             arguments,
             selector,
@@ -106,7 +101,18 @@ fn doubly(lookup: Lookup, arguments: u8, rest: &[u8]) -> Option<Found>
             arguments,
             selector,
         },
+    }
+}
+
+/// A send by three bytes, behind the first.
+fn doubly(lookup: Lookup, arguments: u8, rest: &[u8]) -> Option<Found>
+    ensures { result ≡ doubly (is_above lookup) (arguments ∷ rest.now) }
+{
+    let [selector, ..] = rest else {
+        return None;
     };
+    let arguments = long_count(arguments, *selector);
+    let step = sent(lookup, arguments, *selector as usize);
     Some(Found { step, size: 3 })
 }
 
@@ -133,18 +139,7 @@ fn place_in(byte: u8) -> Place
 fn extended(lookup: Lookup, byte: u8) -> Step
     ensures { result ≡ sending (is_above lookup) (arguments_of byte) (selector_of byte) }
 {
-    let arguments = (byte / 32) as usize;
-    let selector = (byte % 32) as usize;
-    match lookup {
-        Lookup::InClass => Step::Send {
-            arguments,
-            selector,
-        },
-        Lookup::InSuperclass => Step::SendSuper {
-            arguments,
-            selector,
-        },
-    }
+    sent(lookup, (byte / 32) as usize, (byte % 32) as usize)
 }
 
 /// An instruction of one byte.

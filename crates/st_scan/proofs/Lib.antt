@@ -13,3 +13,4 @@ pub mod Spans
 pub mod Strings
 pub mod Chains
 pub mod Views
+pub mod Worked

@@ -114,19 +114,14 @@ reaches zero c at (b ∷ text) le = absurd (omega arith)
 reaches (suc n) c at (b ∷ text) le =
     reaches_found c at (b ∷ text) (front_of (signs c) (b ∷ text)) (sound (signs c) (b ∷ text) (omega arith)) (λ p rest shorter. reaches n (after c p) (at + length (spelling p)) rest (omega arith))
 
+-- pieces that go from the start of a text to its end or its fault are its scan
+pub scanned : (text rest : List ℕ) (pieces : List Piece) (end : Option Fault) → joined pieces ++ rest ≡ text → AllStand start pieces rest → EndsBy (after_all start pieces) (0 + length (joined pieces)) rest end
+    → ScansTo text (tokens_from 0 pieces) end
+scanned text rest pieces end parts stand ends =
+    let none : 0 + length (joined pieces) ≡ length (joined pieces) = omega arith in
+    record { pieces = pieces; rest = rest; parts = parts; stand = stand; are_tokens = refl; ends = subst (λ (k : ℕ). EndsBy (after_all start pieces) k rest end) none ends }
+
 pub some : (text : List ℕ) → HasScan text
 some text =
     let r = reaches (length text) start 0 text (omega arith) in
-    let zero_more : 0 + length (joined r.pieces) ≡ length (joined r.pieces) = omega arith in
-    record {
-      tokens = tokens_from 0 r.pieces;
-      fault = r.end;
-      scan = record {
-        pieces = r.pieces;
-        rest = r.rest;
-        parts = r.parts;
-        stand = r.stand;
-        are_tokens = refl;
-        ends = subst (λ (k : ℕ). EndsBy (after_all start r.pieces) k r.rest r.end) zero_more r.ends;
-      };
-    }
+    record { tokens = tokens_from 0 r.pieces; fault = r.end; scan = scanned text r.rest r.pieces r.end r.parts r.stand r.ends }

@@ -1,11 +1,11 @@
 -- All fields of an object, one after the other.
-use Rattle.std.proofs.Common.{◌≡◌, ℕ, zero, suc, ◌-◌, ◌+◌, ◌<◌, ◌≤◌, List, [], ◌∷◌, ◌++◌, false, Ok, Err, refl, sym, subst, arith}
+use Rattle.std.proofs.Common.{◌≡◌, ℕ, zero, suc, ◌-◌, ◌+◌, ◌<◌, ◌≤◌, List, [], ◌∷◌, ◌++◌, Bool, false, Ok, Err, refl, sym, subst, arith}
 use Rattle.std.proofs.lemmas.List.{map-append}
 use Rattle.st_model.specs.declared.dead.Dead.{Dead}
 use Rattle.st_model.specs.declared.oop.Oop.{Oop}
-use Rattle.st_model.specs.Values.{Value, value}
+use Rattle.st_model.specs.Values.{Value, Ref, value}
 use Rattle.st_model.specs.Machine.{State, Went, Died, answer, ◌>>=◌}
-use Rattle.st_model.specs.Steps.{fetch_field, fetch_fields}
+use Rattle.st_model.specs.Steps.{same_value, fetch_field, fetch_fields}
 use Rattle.st_model.specs.Table.{Table, table}
 use Rattle.st_model.specs.Calls.{Reads}
 use Rattle.st_model.proofs.Runs.{run-then, run-of_page, after-went, run-answer}
@@ -73,10 +73,6 @@ module _ (o : Oop) (s : State Table) where
   unfolding name_of name_unless
   its_name q = simp (run-then, run-of_page, after-went, is_other o q) refl
 
-  pub no_pool : o.0 ≡ 2 → (pool_or_none table (value o)).run s ≡ Went [] s
-  unfolding pool_or_none pool_unless
-  no_pool q = simp (run-then, run-of_page, after-went, is_nil o q, run-answer) refl
-
-  pub its_pool : (o.0 ≡ 2 → ⊥) → (pool_or_none table (value o)).run s ≡ (pool_unless table (value o) false).run s
+  pub pool_by : (nil : Bool) → same_value (value o) (Ref 1) ≡ nil → (pool_or_none table (value o)).run s ≡ (pool_unless table (value o) nil).run s
   unfolding pool_or_none
-  its_pool q = simp (run-then, run-of_page, after-went, is_other o q) refl
+  pool_by nil e = simp (run-then, run-of_page, after-went, e) refl

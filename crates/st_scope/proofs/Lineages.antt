@@ -53,13 +53,11 @@ module _ (least : ℕ) (first : Value) (t : Table) where
 
   nil_ends : (b : Bool) (rest : Step Table (List Value)) (s : State Table) → b ≡ true → (none_if b rest).run s ≡ Went [] s
   unfolding none_if answer
-  nil_ends true rest s e = refl
-  nil_ends false rest s e = cc
+  nil_ends b rest s e = rw e refl
 
   goes_on : (b : Bool) (rest : Step Table (List Value)) (s : State Table) → b ≡ false → (none_if b rest).run s ≡ rest.run s
   unfolding none_if
-  goes_on true rest s e = cc
-  goes_on false rest s e = refl
+  goes_on b rest s e = rw e refl
 
   within_nil : (left : ℕ) (class : Oop) (s : State Table) → class.0 ≡ 2 → (chain_within table least left (value class)).run s ≡ Went [] s
   unfolding chain_within until_nil of_page ◌>>=◌ after

@@ -1,5 +1,5 @@
 -- The pools of a chain, class after class.
-use Rattle.std.proofs.Common.{◌≡◌, ℕ, ◌+◌, ◌<◌, ◌≤◌, List, [], ◌∷◌, ◌++◌, length, drop, Result, Ok, Err, refl, sym, ap, ◌∙◌, subst}
+use Rattle.std.proofs.Common.{◌≡◌, ℕ, ◌+◌, ◌<◌, ◌≤◌, List, [], ◌∷◌, ◌++◌, true, false, length, drop, Result, Ok, Err, refl, sym, ap, ◌∙◌, subst}
 use Rattle.std.specs.Prelude.{slice_index_or}
 use Rattle.std.specs.Global.{Vec}
 use Rattle.std.proofs.lemmas.List.{at_drop_more, drop_all, map-append}
@@ -17,17 +17,22 @@ use Rattle.st_scope.specs.declared.unread.Unread.{Unread}
 use Rattle.st_scope.specs.declared.unread.Unread.TheVariants.{Dies, OutOfMemory}
 use Rattle.st_scope.specs.Findings.{Finds}
 use Rattle.st_scope.proofs.Finding.{finds_death, finds_nothing}
-use Rattle.st_scope.proofs.FieldsOf.{its_pool}
+use Rattle.st_scope.proofs.Lineages.{is_nil, is_other}
+use Rattle.st_scope.proofs.FieldsOf.{pool_by}
 use Rattle.st_scope.proofs.Passing.{Left, all_left, none_left, left_dies, passed_more}
+
+pub no_pool : (o : Oop) (s : State Table) → o.0 ≡ 2 → (pool_or_none table (value o)).run s ≡ Went [] s
+unfolding pool_unless answer
+no_pool o s q = pool_by o s true (is_nil o q)
 
 module _ (o : Oop) (t : Table) (other : o.0 ≡ 2 → ⊥) where
   pub pool_uncounted : (k : Dead) → Reads (count_fields table (value o)) itself t (Err k) → (s : State Table) → s.memory ≡ t → (pool_or_none table (value o)).run s ≡ Died k
   unfolding pool_unless
-  pool_uncounted k r s e = its_pool o s other ∙ simp (run-then, r s e, after-died) refl
+  pool_uncounted k r s e = pool_by o s false (is_other o other) ∙ simp (run-then, r s e, after-died) refl
 
   pub pool_counted : (n : ℕ) → Reads (count_fields table (value o)) itself t (Ok n) → (s : State Table) → s.memory ≡ t → (pool_or_none table (value o)).run s ≡ Went (value o ∷ []) s
   unfolding pool_unless
-  pool_counted n r s e = its_pool o s other ∙ simp (run-then, r s e, after-went, run-answer) refl
+  pool_counted n r s e = pool_by o s false (is_other o other) ∙ simp (run-then, r s e, after-went, run-answer) refl
 
 -- a class's own pools
 pub own_and_shared : (class : Value) (t : Table) (pool : Oop) → Reads (fetch_field table class 7) value t (Ok pool) → (own : Vec Oop) → Reads (pool_or_none table (value pool)) values_of t (Ok own)

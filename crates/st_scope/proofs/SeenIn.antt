@@ -13,7 +13,7 @@ use Rattle.st_model.specs.declared.dead.Dead.{Dead}
 use Rattle.st_model.specs.declared.oop.Oop.{Oop}
 use Rattle.st_model.specs.Values.{Value, Small, Ref, value_of, value}
 use Rattle.st_model.specs.Objects.{Object}
-use Rattle.st_model.specs.Machine.{Head, State, Transition, Went, Step, tried}
+use Rattle.st_model.specs.Machine.{Head, State, Transition, Went, Step, tried, answer, ◌>>=◌, ◌>>◌}
 use Rattle.st_model.specs.Table.{Table, table, entry}
 use Rattle.st_model.specs.Lookup.{half_word, pointer_if}
 use Rattle.st_model.specs.Calls.{Reads, itself}
@@ -40,6 +40,7 @@ use Rattle.st_scope.specs.Lineages.{lineage_of}
 use Rattle.st_scope.specs.Sought.{is_among, shared_at, AreShared}
 use Rattle.st_scope.specs.Alike.{SeesAlike}
 use Rattle.st_scope.proofs.Alike.{code_alike}
+use Rattle.st_scope.proofs.Finding.{then_finds}
 use Rattle.st_scope.specs.Seen.{AreSeen, FindsNames}
 
 -- POINTERS
@@ -209,3 +210,24 @@ module _ (head : Head) (class : Value) (meta : Bool) (tree : MethodView) (t : Ta
   pub answers_shape : (k : Dead) → Reads (names_seen table head class meta tree) (itself {A = NamesView}) t (Err k) → Reads (names table head class meta tree) itself t (Ok (Err fault.Shape))
   unfolding names tried
   answers_shape k h s e = simp (run-then, h s e, after-went, run-answer) refl
+
+  -- what comes behind the tables
+  abbrev pub behind_tables : List (List ℕ) → List Value → Step Table NamesView
+  behind_tables fields tables = do
+    check_dictionary table class
+    check_symbols table head.symbols
+    shared ← shared_names table (tables ++ as_table head.globals) (mentioned_in tree.body)
+    answer (record { fields = fields; shared = shared; symbols = is_some head.symbols })
+
+  pub seen_behind : (chains : Chains) → Reads (lineage table class meta) lineage_of t (Ok chains)
+      → (owners : List Oop) → owners ≡ chains.owners.items → (fields : Vec (Vec ℕ)) → Reads (field_names table (values owners)) texts_of t (Ok fields)
+      → (sharers : List Oop) → sharers ≡ chains.sharers.items → (tables : Vec Oop) → Reads (pools table (values sharers)) values_of t (Ok tables)
+      → (r : Result Names Unread) (u : Unread) → r ≡ Err u → Finds (behind_tables (texts_of fields) (values_of tables)) (itself {A = NamesView}) t (Err u)
+      → FindsNames tree (names_seen table head class meta tree) t r
+  unfolding names_seen
+  seen_behind chains ran owners e fields k sharers d tables l r u q h =
+      let named = subst (λ os. Reads (field_names table (values os)) texts_of t (Ok fields)) e k in
+      let shared = subst (λ os. Reads (pools table (values os)) values_of t (Ok tables)) d l in
+      names_fail tree _ t r u q
+      (then_finds (itself {A = NamesView}) lineage_of t (Err u) _ _ chains ran
+      (then_finds (itself {A = NamesView}) texts_of t (Err u) _ _ fields named (then_finds (itself {A = NamesView}) values_of t (Err u) _ _ tables shared h)))

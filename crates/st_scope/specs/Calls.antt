@@ -1,5 +1,5 @@
 -- The calls of this crate, each with its refusals in their order: what a definition's class is, and what names its methods see.
-use Rattle.std.specs.Prelude.{ℕ, ◌+◌, ◌∷◌, [], ◌++◌, List, Option, Some, None, is_some, Result, Ok, Err, Bool}
+use Rattle.std.specs.Prelude.{ℕ, ◌∷◌, [], ◌++◌, List, Option, Some, None, is_some, Result, Ok, Err, Bool}
 use Rattle.st_model.specs.Values.{Value}
 use Rattle.st_model.specs.Machine.{ObjectMemory, Head, Step, answer, tried, ◌>>=◌, ◌>>◌}
 use Rattle.st_scan.specs.Views.{MethodView}

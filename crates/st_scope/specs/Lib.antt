@@ -6,6 +6,7 @@ pub mod Variables
 pub mod Shapes
 pub mod Calls
 pub mod Meanings
+pub mod Owners
 pub mod Findings
 pub mod Lineages
 pub mod Walks

@@ -2,7 +2,8 @@
 
 use st_model::Demand;
 
-/// Why a definition isn't installed; nothing has changed then. `class_of_name` answers `NoClass` and `NoGlobals` alone.
+/// Why a definition isn't installed; nothing has changed then. `owner_of_name` and `class_of_name` answer
+/// `NoClass` and `NoGlobals` alone.
 #[derive(Clone, Copy, Debug, PartialEq, Eq)]
 pub enum InstallFault {
     /// There is no global of the class's name, or the value of the first one is no class.

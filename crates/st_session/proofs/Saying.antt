@@ -40,37 +40,31 @@ module _ {D : Type 0} (host : Ghosts D) where
   end_cause old mid new (Err e) f le cause =
       subst (λ x. StatusHasCause host ⊥ old new x) (sym f) (rose_second (host.say_faults old) (host.say_faults mid) (host.say_faults new) le (subst (λ x. StatusHasCause host ⊥ mid new x) f cause))
 
+  -- what a call tells, where something was said or kept before it
+  tells_from : (text rest : List ℕ) (old mid new : D) (result : Result Unit Status) → host.say_faults old ≤ host.say_faults mid → Says host text old new
+      → (SaysAll host rest mid new → SaysAll host text old new) → Tells host rest mid new result → Tells host text old new result
+  tells_from text rest old mid new result low says more end = record {
+    all = over result end.all;
+    says = says;
+    fault = end.fault;
+    counts = record { disk = omega (arith, says.disk_count); say = says.part.say; cause = end_cause old mid new result end.fault low end.counts.cause };
+    served = end.served;
+  }
+    where
+      over : (r : Result Unit Status) → OnOk r (SaysAll host rest mid new) → OnOk r (SaysAll host text old new)
+      over (Ok u) all = more all
+      over (Err e) all = tt
+
   -- behind a call that said nothing
   pub tells_behind : (text : List ℕ) (old mid new : D) (result : Result Unit Status) → SaysAll host [] old mid → Says host [] old mid → Tells host text mid new result → Tells host text old new result
   tells_behind text old mid new result all says end =
-      let whole = says_then says all end.says refl in
-      record {
-        all = over result end.all;
-        says = whole;
-        fault = end.fault;
-        counts = record { disk = omega (arith, whole.disk_count); say = whole.part.say; cause = end_cause old mid new result end.fault says.part.say end.counts.cause };
-        served = end.served;
-      }
-    where
-      over : (r : Result Unit Status) → OnOk r (SaysAll host text mid new) → OnOk r (SaysAll host text old new)
-      over (Ok u) rest = all_join host [] text old mid new all rest
-      over (Err e) rest = tt
+      tells_from text text old mid new result says.part.say (says_then says all end.says refl) (λ rest. all_join host [] text old mid new all rest) end
 
   -- what was added to nothing, and then said, or not
   pub tells_pushed : (text p q : List ℕ) (old mid new : D) (result : Result Unit Status) → p ≡ [] → Pushes {E = SayFault} host text old mid p q (Ok tt) → Tells host q mid new result → Tells host text old new result
   tells_pushed text p q old mid new result empty run end =
-      let says = pushed_says {E = SayFault} {t = text} {p = p} {q = q} {old = old} {mid = mid} {new = new} empty run end.says in
-      record {
-        all = over result end.all;
-        says = says;
-        fault = end.fault;
-        counts = record { disk = omega (arith, says.disk_count); say = says.part.say; cause = end_cause old mid new result end.fault run.cause.later end.counts.cause };
-        served = end.served;
-      }
-    where
-      over : (r : Result Unit Status) → OnOk r (SaysAll host q mid new) → OnOk r (SaysAll host text old new)
-      over (Ok u) all = pushed_all {E = SayFault} {t = text} {p = p} {q = q} {old = old} {mid = mid} {new = new} empty run all
-      over (Err e) all = tt
+      tells_from text q old mid new result run.cause.later (pushed_says {E = SayFault} {t = text} {p = p} {q = q} {old = old} {mid = mid} {new = new} empty run end.says)
+      (λ all. pushed_all {E = SayFault} {t = text} {p = p} {q = q} {old = old} {mid = mid} {new = new} empty run all) end
 
   pub tells_cut : (text p q : List ℕ) (old new : D) (fault : SayFault) → p ≡ [] → Pushes {E = SayFault} host text old new p q (Err fault) → Tells host text old new (Err status.SayFault)
   tells_cut text p q old new fault empty run =

@@ -15,21 +15,20 @@ use Rattle.st_browse.specs.Asked.{IsTextFor}
 use Rattle.st_browse.specs.Decompiling.{IsKeptOrMade, IsShown}
 use Rattle.st_session.specs.Decompiled.{made_text}
 use Rattle.st_session.proofs.Written.{made_is}
-use Rattle.st_install.specs.Syntax.{IsSyntax, syntax}
-use Rattle.st_install.proofs.Syntaxes.{is, only}
+use Rattle.st_grammar.specs.Syntax.{syntax}
 use Rattle.st_session.specs.Sources.{selector_of, is_named, is_of, or_earlier, last_text, kept_text, or_made, shown_text, text_for}
 use Rattle.st_changes.proofs.KeptLast.{all_cons}
 use Rattle.st_changes.proofs.Lasts.{none_of}
 
 -- THE SELECTOR
 
-by_tree : (selector text : List ℕ) (r : Result MethodView Fault) → IsSyntax text r → is_named selector (selector_of r) ≡ true → HasSelector text selector
+by_tree : (selector text : List ℕ) (r : Result MethodView Fault) → syntax text ≡ r → is_named selector (selector_of r) ≡ true → HasSelector text selector
 by_tree selector text (Ok tree) means e = record { tree = tree; means = means; is = (bytes_decides tree.selector selector).0 e }
 by_tree selector text (Err f) first e = cc
 
 named : (selector text : List ℕ) → HasSelector text selector → is_named selector (selector_of (syntax text)) ≡ true
 named selector text h =
-    ap (λ (r : Result MethodView Fault). is_named selector (selector_of r)) (sym (only text (Ok h.tree) h.means)) ∙ (bytes_decides h.tree.selector selector).1 h.is
+    ap (λ (r : Result MethodView Fault). is_named selector (selector_of r)) h.means ∙ (bytes_decides h.tree.selector selector).1 h.is
 
 -- ONE DEFINITION
 
@@ -45,7 +44,7 @@ module _ (side : Side) (selector : List ℕ) (d : Definition) where
       record {
         class_is = (bytes_decides d.class side.class).0 parts.0;
         side = (booleans_Decides d.meta side.meta).0 rest.0;
-        named = by_tree selector d.text (syntax d.text) (is d.text) rest.1;
+        named = by_tree selector d.text (syntax d.text) refl rest.1;
       }
 
   fails : is_of side selector d ≡ false → IsOf side.class side.meta selector d → ⊥

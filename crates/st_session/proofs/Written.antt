@@ -15,8 +15,8 @@ use Rattle.st_decompile.specs.Answers.{IsSource, IsSourceOf}
 use Rattle.st_decompile.proofs.Finding.{none_found, back_is}
 use Rattle.st_decompile.proofs.Sameness.{parts_are, parts_same}
 use Rattle.st_chunk.specs.Asks.{Side}
-use Rattle.st_install.specs.Syntax.{IsSyntax, syntax}
-use Rattle.st_install.proofs.Syntaxes.{is, only}
+use Rattle.st_grammar.specs.Syntax.{IsSyntax, syntax}
+use Rattle.st_grammar.proofs.Syntaxes.{is, only}
 use Rattle.st_browse.specs.Decompiling.{method_place, names_at, IsTextOf, IsTextOfParts, IsTextUnder, IsTextAt, IsMade}
 use Rattle.st_session.specs.Decompiled.{is_code, has_code, if_has_code, text_written, written_under, written_at, made_text}
 

@@ -14,7 +14,7 @@ use Rattle.st_decompile.specs.Comparing.{same_parts}
 use Rattle.st_expression_stack.specs.Names.{calling_of, name_in}
 use Rattle.st_decompile.specs.Whole.{candidate}
 use Rattle.st_chunk.specs.Asks.{Side}
-use Rattle.st_install.specs.Syntax.{syntax}
+use Rattle.st_grammar.specs.Syntax.{syntax}
 use Rattle.st_browse.specs.Decompiling.{method_place, names_at}
 
 -- such code was made

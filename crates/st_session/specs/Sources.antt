@@ -6,7 +6,7 @@ use Rattle.st_scan.specs.declared.fault.Fault.{Fault}
 use Rattle.st_scan.specs.Views.{MethodView}
 use Rattle.st_chunk.specs.Definitions.{Definition}
 use Rattle.st_chunk.specs.Asks.{Side, Ask, Source}
-use Rattle.st_install.specs.Syntax.{syntax}
+use Rattle.st_grammar.specs.Syntax.{syntax}
 use Rattle.st_session.specs.Decompiled.{made_text}
 
 -- the selector of a method's tree, if there is one

@@ -30,7 +30,8 @@ fn run_and_report<H: Host, M: Memory>(
         (s : State Births) → Shows first s →
         OnOk result (SaysAll H.Host.own (run_text state_text cycles s) host.old host.new) }
     ensures says { let first = shown (M.view machine.old.memory) machine.old.frame machine.old.world in
-        (s : State Births) → Shows first s → Says H.Host.own (run_text state_text cycles s) host.old host.new }
+        (s : State Births) → Shows first s
+        → Says H.Host.own (run_text state_text cycles s) host.old host.new }
     ensures cause { HasCause (H.say_faults host.old) (H.say_faults host.new) result }
 {
     let mut out = Output::new();

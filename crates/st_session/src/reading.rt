@@ -243,7 +243,8 @@ pub fn serve<M: Memory, H: Host, S: Source>(
     ensures ends { IsTrue S.is_told → (c : Commit) (s : State Births)
         → IsOpen M.view H.Host.own host.old opened c s
         → SessionEnds H.Host.own (OpensAs opened.store.name) (IsNoFileOf opened.store.name) c
-        opened.store.name (session_over opened.replayed (losses_of opened.lost.items) s c (S.remaining script.old))
+        opened.store.name (session_over opened.replayed (losses_of opened.lost.items) s c
+        (S.remaining script.old))
         (session_so_far_over opened.replayed (losses_of opened.lost.items) s c)
         (S.remaining script.old) (S.remaining script.new) host.old host.new result }
     ensures complete { IsTrue S.is_told → (c : Commit) (s : State Births)

@@ -67,7 +67,8 @@ fn push_entry<H: Host, M: Memory>(
     method: Oop,
     finished: u32,
 ) -> Result<bool, SayFault>
-    ensures { PushesLook H.Host.own finished (entry_seen (value method) finished (shown_by M.view machine.now))
+    ensures { PushesLook H.Host.own finished
+        (entry_seen (value method) finished (shown_by M.view machine.now))
         host.old host.new out.old out.new result }
 {
     if !has_entered(machine, method, finished) {
@@ -159,7 +160,8 @@ fn push_death<H: Host>(
     finished: u32,
     cause: Dead,
 ) -> Result<Cycled, SayFault>
-    ensures pushes { Pushes H.Host.own (dead_text finished cause) host.old host.new out.old out.new (went result) }
+    ensures pushes { Pushes H.Host.own (dead_text finished cause) host.old host.new out.old out.new
+        (went result) }
     ensures over { IfOk result (λ cycled. cycled ≡ Over) }
 {
     match push_line(out, host, b"dead", &[finished, u32::from(cause.number())]) {

@@ -1,7 +1,7 @@
 -- A step over the births and over the table that shows them leaves a table that shows them again, also where nothing is
 -- reclaimed after it.
 use Rattle.std.proofs.Common.{◌≡◌, ℕ, List, Some, refl, sym, ◌∙◌, ap, subst, inl, inr}
-use Rattle.st_model.specs.Values.{renamed_all, AllLive}
+use Rattle.st_model.specs.Values.{AllLive}
 use Rattle.st_model.specs.Objects.{Object, place_of, renamed_object, IsLiveObject}
 use Rattle.st_model.specs.Machine.{State, Transition, Died, Went, roots_of}
 use Rattle.st_model.specs.Births.{Births, births, object_born, bearer, borne}
@@ -17,10 +17,10 @@ use Rattle.st_simulation.proofs.Same.{StateSame, TransitionSame, Anything}
 use Rattle.st_simulation.proofs.ContextsSame.{fetch_scheduled_registers-same}
 use Rattle.st_model.proofs.BirthLemmas.{pointer_of-borne}
 use Rattle.st_model.proofs.SettledLemmas.{bearer-borne}
-use Rattle.st_model.proofs.Names.{map_all, map_object, same_object, all_back, object_back, both_all, both_object, parts_roots, roots-renamed, same_registers, same_head, same_world}
+use Rattle.st_model.proofs.Names.{map_all, map_object, same_object, same_registers, same_head, same_world}
 use Rattle.st_simulation.proofs.HeapsSame.{Naming, HeapSame, cycle_simulation}
 use Rattle.st_simulation.proofs.Started.{naming, states_start}
-use Rattle.st_simulation.proofs.Ended.{same_at}
+use Rattle.st_simulation.proofs.Ended.{same_at, roots_both, object_both}
 use Rattle.st_simulation.proofs.Closed.{fetched_closed}
 use Rattle.st_model.proofs.Raised.{raised_shown}
 
@@ -48,15 +48,10 @@ module _ (w : Naming) (u : State Births) (c : State Table) (ss : StateSame (cycl
       let b = hs.bears n p e in
       let s = same_at w.live w.name (object_born u.memory n) (entry c.memory (w.name n)) o (hs.objects n b.0) f in
       let g : entry c.memory p ≡ Some (renamed_object w.name o) = subst (λ x. entry c.memory x ≡ Some (renamed_object w.name o)) b.1 s.1 in
-      (g, both_object w.live (λ m. IsUsed c.memory (w.name m)) o s.0 (object_back (IsUsed c.memory) w.name o (closed.objects p (renamed_object w.name o) g)))
-
-  roots_same : roots_of c ≡ renamed_all w.name (roots_of u)
-  roots_same = (λ i. parts_roots (ss.registers i) (ss.head i) (ss.world i)) ∙ roots-renamed w.name u.registers u.head u.world
+      (g, object_both w u c ss (IsUsed c.memory) o s.0 (closed.objects p (renamed_object w.name o) g))
 
   roots_here : AllLive here (roots_of u)
-  roots_here =
-      let r : AllLive (IsUsed c.memory) (renamed_all w.name (roots_of u)) = subst (λ vs. AllLive (IsUsed c.memory) vs) roots_same closed.roots in
-      both_all w.live (λ m. IsUsed c.memory (w.name m)) (roots_of u) ss.roots (all_back (IsUsed c.memory) w.name (roots_of u) r)
+  roots_here = roots_both w u c ss (IsUsed c.memory) closed.roots
 
   pub shows_now : Shows c u
   shows_now = record {

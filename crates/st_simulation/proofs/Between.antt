@@ -22,19 +22,20 @@ use Rattle.st_simulation.proofs.Started.{naming, states_start}
 use Rattle.st_simulation.proofs.Again.{shown_again}
 use Rattle.st_simulation.proofs.Reclaimed.{went_step}
 
+-- where nothing is made, a bounded table ends as the table does
+pub both_same : (a : Head) (o p : Transition (State Table) (Unit {0})) → TransitionSame (strict (bounded_simulation a)) Anything itself o p → p ≡ o
+both_same a (Died k) (Died l) (inl h) = ap (λ x. Died x) h
+both_same a (Died k) (Died l) (inr h) = absurd h
+both_same a (Died k) (Went y d) h = absurd h
+both_same a (Went x c) (Died k) h = absurd h.1
+both_same a (Went x c) (Went y d) (inl h) = absurd h.1
+both_same a (Went x c) (Went y d) (inr h) =
+    let s = h.2 in
+    ap (λ z. Went tt z) (state_is a c d (record { memory = s.memory; limits = s.limits; there = s.there; roots = s.roots; registers = s.registers; world = s.world; head = s.head }))
+
 -- a step over any memory that does the same over two memories of the same objects
 module _ (m : (H : Type 0) → ObjectMemory H → Step H (Unit {0}))
     (same : (H K : Type 0) (M : ObjectMemory H) (N : ObjectMemory K) (sim : Simulation M N) → SameAnswer sim (m H M) (m K N)) where
-  both_same : (a : Head) (o p : Transition (State Table) (Unit {0})) → TransitionSame (strict (bounded_simulation a)) Anything itself o p → p ≡ o
-  both_same a (Died k) (Died l) (inl h) = ap (λ x. Died x) h
-  both_same a (Died k) (Died l) (inr h) = absurd h
-  both_same a (Died k) (Went y d) h = absurd h
-  both_same a (Went x c) (Died k) h = absurd h.1
-  both_same a (Went x c) (Went y d) (inl h) = absurd h.1
-  both_same a (Went x c) (Went y d) (inr h) =
-      let s = h.2 in
-      ap (λ z. Went tt z) (state_is a c d (record { memory = s.memory; limits = s.limits; there = s.there; roots = s.roots; registers = s.registers; world = s.world; head = s.head }))
-
   -- bounded or not
   pub as_table : (c : State Table) → (m Table bounded_table).run c ≡ (m Table table).run c
   as_table c =

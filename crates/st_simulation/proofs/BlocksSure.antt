@@ -4,8 +4,8 @@ use Rattle.std.specs.Prelude.{ℤ}
 use Rattle.st_model.specs.Values.{Value}
 use Rattle.st_model.specs.Objects.{Object}
 use Rattle.st_model.specs.Blocks.{check_context, home_of_block, fill_block, new_block, primitive_block_copy, start_of, enter_block, value_with_words, value_if_any, primitive_value, Passing, passing, value_with_fields, value_with_if_any, primitive_value_with, blocks}
-use Rattle.st_simulation.proofs.Present.{bare, full, answer_itself-sure}
-use Rattle.st_simulation.proofs.PresentSteps.{There, SureValue, SureAnswer, sures, parts, home_of-sure, switch-sure, primitive_value-sure, taking-sure, check_class-sure, positive_small-sure}
+use Rattle.st_simulation.proofs.Present.{bare, full, answer_itself-sure, There, SureValue, SureAnswer}
+use Rattle.st_simulation.proofs.PresentSteps.{sures, parts, home_of-sure, switch-sure, primitive_value-sure, taking-sure, check_class-sure, positive_small-sure}
 
 module _ (o : Object) (lives : ℕ → Type 0) where
   check_context-sure : (n : ℕ) (v : Value) → There o lives n v → SureAnswer o lives n (check_context bare v) (check_context (full o) v)

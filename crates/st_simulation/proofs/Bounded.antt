@@ -159,8 +159,15 @@ module _ (a : Head) where
     there = λ t n. Unit {0};
     limits = λ b. b ≡ a;
     makes = Unit {0};
-    over = IsBeyond;
-    lax = Unit {0};
+    beyond = record {
+      over = IsBeyond;
+      lax = Unit {0};
+      over_lax = λ t o. tt;
+      over_live = λ t n o. tt;
+      over_replace = λ t n o p v e f. changed_beyond t n o p v e f;
+      over_exchange = λ t n m o p v e f. exchanged_beyond t n m o p v e f;
+      over_append = λ t o v. stays_beyond t o v;
+    };
     injective = λ m n k l e. e;
     read = λ t u n e l. rw e (read_same (entry t n));
     read_there = λ t u n o e f. (tt, any_object o);
@@ -179,11 +186,6 @@ module _ (a : Head) where
     there_replace = λ t n m o p e k. k;
     there_exchange = λ t n m k o p e f h. h;
     there_append = λ t m o k. k;
-    over_lax = λ t o. tt;
-    over_live = λ t n o. tt;
-    over_replace = λ t n o p v e f. changed_beyond t n o p v e f;
-    over_exchange = λ t n m o p v e f. exchanged_beyond t n m o p v e f;
-    over_append = λ t o v. stays_beyond t o v;
   }
 
 pub bounded_start : (c : State Table) → StateSame (bounded_simulation c.head) c c

@@ -10,7 +10,7 @@ use Rattle.st_model.specs.Table.{Table, table, bounded_table, entry, changed, ex
 use Rattle.st_model.specs.Bytecodes.{step}
 use Rattle.st_model.specs.Show.{IsUsed, IsClosed, renamed_head}
 use Rattle.st_model.specs.Foreseen.{IsSound}
-use Rattle.st_simulation.proofs.Same.{Simulation, StateSame, TransitionSame, Same}
+use Rattle.st_simulation.proofs.Same.{never_beyond, Simulation, StateSame, TransitionSame, Same}
 use Rattle.st_simulation.proofs.BytecodesSame.{step-same}
 use Rattle.st_simulation.proofs.ContextsSame.{fetch_scheduled_registers-same}
 use Rattle.st_model.specs.Contexts.{fetch_scheduled_registers}
@@ -101,8 +101,7 @@ module _ (bound : Bool) (a : Head) (P : Table → Type 0) (on_changed : (t : Tab
     there = IsUsed;
     limits = λ b. b ≡ a;
     makes = Unit {0};
-    over = λ t. ⊥;
-    lax = ⊥;
+    beyond = never_beyond _ _;
     injective = λ m n k l e. e;
     read = λ t u n e l. rw e.0 (read_same (entry t n));
     read_there = λ t u n o e f. ((o, f), e.1.objects n o f);
@@ -121,11 +120,6 @@ module _ (bound : Bool) (a : Head) (P : Table → Type 0) (on_changed : (t : Tab
     there_replace = λ t n m o p e k. used_changed t n m p k;
     there_exchange = λ t n m i o p e f k. used_exchanged t n m o p e f i k;
     there_append = λ t m o k. used_placed t m o k;
-    over_lax = λ t o. o;
-    over_live = λ t n o. absurd o;
-    over_replace = λ t n o p v e f. v;
-    over_exchange = λ t n m o p v e f. v;
-    over_append = λ t o v. v;
   }
 
   states_closed : (c : State Table) → IsClosed c → P c.memory → c.head ≡ a → StateSame closed_simulation c c

@@ -6,7 +6,7 @@ use Rattle.st_model.specs.Objects.{Object, renamed_object, IsLiveObject}
 use Rattle.st_model.specs.Machine.{ObjectMemory}
 use Rattle.st_model.specs.Methods.{bits_of, flag_of, temporary_count, literal_count, context_size, from_last, method_header, literal_from_last, primitive_number, method_primitive, extension_arguments, arguments_by_extension, arguments_by, method_arguments}
 use Rattle.st_model.specs.Contexts.{home_by, home_of, stack_place, fetch_stack_pointer, context_registers, fetch_context_registers, scheduled_context, fetch_scheduled_registers, store_context_registers, switch, fill_context, new_context, pass_words, activate}
-use Rattle.st_simulation.proofs.Same.{Simulation, ValueSame, OptionalSame, SameValue, SameRegisters, SameAnswer, steps_same, length-renamed, none-same, field-same}
+use Rattle.st_simulation.proofs.Same.{Simulation, ValueSame, OptionalSame, SameValue, SameRegisters, SameAnswer, steps_same, length-renamed, none-named, field-named}
 use Rattle.st_simulation.proofs.StepsSame.{memory_same, parts_same}
 
 module _ {H K : Type 0} {M : ObjectMemory H} {N : ObjectMemory K} (sim : Simulation M N) where
@@ -30,10 +30,10 @@ module _ {H K : Type 0} {M : ObjectMemory H} {N : ObjectMemory K} (sim : Simulat
 
   last_if : (b : Bool) (x y : Option Value) → OptionalSame sim x y → OptionalSame sim (if b then x else None) (if b then y else None)
   last_if true x y h = h
-  last_if false x y h = none-same sim
+  last_if false x y h = none-named _ _
 
   from_last-same : (o : Object) (k : ℕ) → IsLiveObject sim.live o → OptionalSame sim (from_last o k) (from_last (renamed_object sim.name o) k)
-  from_last-same o k h = rw (length-renamed sim.name o.fields) (last_if (nat_lt (k + 1) (length o.fields)) _ _ (field-same sim o (length o.fields - (k + 1)) h))
+  from_last-same o k h = rw (length-renamed sim.name o.fields) (last_if (nat_lt (k + 1) (length o.fields)) _ _ (field-named _ _ o (length o.fields - (k + 1)) h))
 
   pub method_header-same : (v w : Value) → ValueSame sim v w → SameValue sim (method_header M v) (method_header N w)
   unfolding method_header

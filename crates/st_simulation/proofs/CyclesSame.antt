@@ -2,12 +2,13 @@
 use Rattle.std.proofs.Common.{◌≡◌, ℕ, zero, suc, Option, Some, None, Bool, true, false, refl}
 use Rattle.st_model.specs.Values.{Value, renamed}
 use Rattle.st_model.specs.Machine.{ObjectMemory}
+use Rattle.st_model.specs.Processes.{scheduler, scheduled_process}
 use Rattle.st_model.specs.Cycles.{signal_if_any, signal_next, signal_newest, switch_unless_nil, switch_if_waiting, check_process_switch}
 use Rattle.st_model.specs.Saving.{store_active, store_process}
 use Rattle.st_simulation.proofs.Same.{Simulation, ValueSame, OptionalSame, SameAnswer, then_unit-same, steps_same}
 use Rattle.st_simulation.proofs.StepsSame.{parts_same}
 use Rattle.st_simulation.proofs.ContextsSame.{store_context_registers-same, fetch_scheduled_registers-same}
-use Rattle.st_simulation.proofs.ProcessesSame.{scheduled_process-same, signal-same, switch_to_process-same}
+use Rattle.st_simulation.proofs.ProcessesSame.{signal-same, switch_to_process-same}
 
 module _ {H K : Type 0} {M : ObjectMemory H} {N : ObjectMemory K} (sim : Simulation M N) where
   signal_if_any-same : (a b : Option Value) → OptionalSame sim a b → SameAnswer sim (signal_if_any M a) (signal_if_any N b)
@@ -31,18 +32,10 @@ module _ {H K : Type 0} {M : ObjectMemory H} {N : ObjectMemory K} (sim : Simulat
   switch_unless_nil-same v w true c h e = rw e (search steps_same)
   switch_unless_nil-same v w false c h e = rw e (switch_to_process-same sim v w h)
 
-  switch_if_waiting-same : SameAnswer sim (switch_if_waiting M) (switch_if_waiting N)
-  unfolding switch_if_waiting
-  switch_if_waiting-same = search (parts_same, switch_unless_nil-same) depth 16 fits 4000
-
   pub check_process_switch-same : SameAnswer sim (check_process_switch M) (check_process_switch N)
-  unfolding check_process_switch
-  check_process_switch-same = search (parts_same, signal_newest-same, switch_if_waiting-same) depth 16 fits 4000
-
-  store_active-same : SameAnswer sim (store_active M) (store_active N)
-  unfolding store_active
-  store_active-same = search (parts_same, store_context_registers-same, scheduled_process-same) depth 16 fits 4000
+  unfolding check_process_switch switch_if_waiting
+  check_process_switch-same = search (parts_same, signal_newest-same, switch_unless_nil-same) depth 16 fits 4000
 
   pub store_process-same : SameAnswer sim (store_process M) (store_process N)
-  unfolding store_process
-  store_process-same = search (parts_same, switch_if_waiting-same, store_active-same, fetch_scheduled_registers-same) depth 16 fits 4000
+  unfolding store_process switch_if_waiting store_active scheduled_process scheduler
+  store_process-same = search (parts_same, switch_unless_nil-same, store_context_registers-same, fetch_scheduled_registers-same) depth 32 fits 4000

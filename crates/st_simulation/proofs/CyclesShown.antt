@@ -1,5 +1,6 @@
 -- A running machine over a table does, cycle by cycle, what the births do that its table shows.
 use Rattle.std.proofs.Common.{◌≡◌, ℕ, zero, suc, ◌≤◌, Bool, true, false, refl, sym, ◌∙◌, ap, subst, length, inl, inr}
+use Rattle.st_model.specs.declared.dead.Dead.{Dead}
 use Rattle.st_model.specs.declared.demand.Demand.{Demand}
 use Rattle.st_model.specs.Outcomes.{Outcome, Ending, With, Space, renamed_outcome, renamed_ending, IsLiveOutcome, IsLiveEnding}
 use Rattle.st_model.specs.Outcomes as outcome
@@ -121,23 +122,26 @@ module _ (c : State Table) (s : State Births) (w : Shows c s) (places : length c
 
 -- a run
 
-run_step : (n : ℕ) (o : Transition (State Table) Ending) (p : Transition (State Births) Ending) → EndsShown o p
-    → ((c : State Table) (s : State Births) → o ≡ Went (With outcome.Went) c → Shows c s → EndsShown (run_of foreseen_cycle n c) (run_of (cycle births) n s))
+-- both die of one cause, or end alike and leave births that the table shows
+by_end : (P : Transition (State Table) Ending → Transition (State Births) Ending → Type 0) → ((a b : Dead) → EndsShown (Died a) (Died b) → P (Died a) (Died b))
+    → ((b : Ending) (c : State Table) (s : State Births) → Shows c s → IsLiveEnding (IsKept s.memory) b → P (Went (renamed_ending (pointer_of s.memory) b) c) (Went b s))
+    → (o : Transition (State Table) Ending) (p : Transition (State Births) Ending) → EndsShown o p → P o p
+by_end P died went (Died a) (Died b) h = died a b h
+by_end P died went (Died a) (Went b s) h = absurd h
+by_end P died went (Went a c) (Died b) h = absurd h
+by_end P died went (Went a c) (Went b s) h = rw h.0 (went b c s h.1 h.2)
+
+abbrev RunsOn : ℕ → Transition (State Table) Ending → Transition (State Births) Ending → Type 0
+RunsOn n o p =
+    ((c : State Table) (s : State Births) → o ≡ Went (With outcome.Went) c → Shows c s → EndsShown (run_of foreseen_cycle n c) (run_of (cycle births) n s))
     → EndsShown (and_on o (λ c. run_of foreseen_cycle n c)) (and_on p (λ s. run_of (cycle births) n s))
-run_step n (Died a) (Died b) h f = h
-run_step n (Died a) (Went b s) h f = absurd h
-run_step n (Went a c) (Died b) h f = absurd h
-run_step n (Went a c) (Went b s) h f = rw h.0 (on_step b h f)
+
+run_step : (n : ℕ) (o : Transition (State Table) Ending) (p : Transition (State Births) Ending) → EndsShown o p → RunsOn n o p
+run_step n = by_end (RunsOn n) (λ a b h f. h) on_step
   where
-    on_step : (b : Ending) → (a ≡ renamed_ending (pointer_of s.memory) b) × Shows c s × IsLiveEnding (IsKept s.memory) b
-        → ((c' : State Table) (s' : State Births) → Went a c ≡ Went (With outcome.Went) c' → Shows c' s' → EndsShown (run_of foreseen_cycle n c') (run_of (cycle births) n s'))
-        → EndsShown (and_on (Went (renamed_ending (pointer_of s.memory) b) c) (λ c'. run_of foreseen_cycle n c')) (and_on (Went b s) (λ s'. run_of (cycle births) n s'))
-    on_step (With outcome.Went) h f = f c s (ap (λ x. Went x c) h.0) h.1
-    on_step (With outcome.Snapshot) h f = (refl, h.1, tt)
-    on_step (With outcome.Quit) h f = (refl, h.1, tt)
-    on_step (With outcome.Debugger) h f = (refl, h.1, tt)
-    on_step (With (outcome.Say v)) h f = (refl, h.1, h.2)
-    on_step (Space demand left) h f = (refl, h.1, tt)
+    on_step : (b : Ending) (c : State Table) (s : State Births) → Shows c s → IsLiveEnding (IsKept s.memory) b → RunsOn n (Went (renamed_ending (pointer_of s.memory) b) c) (Went b s)
+    on_step (With outcome.Went) c s w l f = f c s refl w
+    on_step b c s w l f = (refl, w, l)
 
 -- what a cycle leaves that was done is sound, as what it began with was
 
@@ -214,23 +218,17 @@ run_shown (suc n) c s w p l =
 
 -- as many cycles are finished
 
-counted_step : (n : ℕ) (o : Transition (State Table) Ending) (p : Transition (State Births) Ending) → EndsShown o p
-    → ((c : State Table) (s : State Births) → o ≡ Went (With outcome.Went) c → Shows c s → finished_of foreseen_cycle n c ≡ finished_of (cycle births) n s)
+abbrev CountsOn : ℕ → Transition (State Table) Ending → Transition (State Births) Ending → Type 0
+CountsOn n o p =
+    ((c : State Table) (s : State Births) → o ≡ Went (With outcome.Went) c → Shows c s → finished_of foreseen_cycle n c ≡ finished_of (cycle births) n s)
     → counted o (λ c. finished_of foreseen_cycle n c) ≡ counted p (λ s. finished_of (cycle births) n s)
-counted_step n (Died a) (Died b) h f = refl
-counted_step n (Died a) (Went b s) h f = absurd h
-counted_step n (Went a c) (Died b) h f = absurd h
-counted_step n (Went a c) (Went b s) h f = rw h.0 (on_step b h f)
+
+counted_step : (n : ℕ) (o : Transition (State Table) Ending) (p : Transition (State Births) Ending) → EndsShown o p → CountsOn n o p
+counted_step n = by_end (CountsOn n) (λ a b h f. refl) on_step
   where
-    on_step : (b : Ending) → (a ≡ renamed_ending (pointer_of s.memory) b) × Shows c s × IsLiveEnding (IsKept s.memory) b
-        → ((c' : State Table) (s' : State Births) → Went a c ≡ Went (With outcome.Went) c' → Shows c' s' → finished_of foreseen_cycle n c' ≡ finished_of (cycle births) n s')
-        → counted (Went (renamed_ending (pointer_of s.memory) b) c) (λ c'. finished_of foreseen_cycle n c') ≡ counted (Went b s) (λ s'. finished_of (cycle births) n s')
-    on_step (With outcome.Went) h f = ap (λ x. suc x) (f c s (ap (λ x. Went x c) h.0) h.1)
-    on_step (With outcome.Snapshot) h f = refl
-    on_step (With outcome.Quit) h f = refl
-    on_step (With outcome.Debugger) h f = refl
-    on_step (With (outcome.Say v)) h f = refl
-    on_step (Space demand left) h f = refl
+    on_step : (b : Ending) (c : State Table) (s : State Births) → Shows c s → IsLiveEnding (IsKept s.memory) b → CountsOn n (Went (renamed_ending (pointer_of s.memory) b) c) (Went b s)
+    on_step (With outcome.Went) c s w l f = ap (λ x. suc x) (f c s refl w)
+    on_step b c s w l f = refl
 
 pub finished_shown : (n : ℕ) (c : State Table) (s : State Births) → Shows c s → IsSound c → c.head.entries ≤ 32767 → finished_of foreseen_cycle n c ≡ finished births n s
 unfolding finished_of finished

@@ -30,6 +30,13 @@ module _ (w : Naming) (u : State Births) (c : State Table) (ss : StateSame (cycl
   roots_same : roots_of c ≡ renamed_all w.name (roots_of u)
   roots_same = (λ i. parts_roots (ss.registers i) (ss.head i) (ss.world i)) ∙ roots-renamed w.name u.registers u.head u.world
 
+  -- what a name of the table is known for is known of what lives under it
+  pub roots_both : (known : ℕ → Type 0) → AllLive known (roots_of c) → AllLive (λ m. w.live m × known (w.name m)) (roots_of u)
+  roots_both known h = both_all w.live (λ m. known (w.name m)) (roots_of u) ss.roots (all_back known w.name (roots_of u) (subst (λ vs. AllLive known vs) roots_same h))
+
+  pub object_both : (known : ℕ → Type 0) (o : Object) → IsLiveObject w.live o → IsLiveObject known (renamed_object w.name o) → IsLiveObject (λ m. w.live m × known (w.name m)) o
+  object_both known o l h = both_object w.live (λ m. known (w.name m)) o l (object_back known w.name o h)
+
   root_forward : (n p : ℕ) → w.name n ≡ p → IsRoot births u.memory (roots_of u) n → IsRoot table c.memory (roots_of c) p
   root_forward n p e (held_root q) = held_root (subst (λ vs. AnyRefTo p vs) (sym roots_same) (subst (λ x. AnyRefTo x (renamed_all w.name (roots_of u))) e (any-renamed w.name n (roots_of u) q)))
   root_forward n p e (page_root k q) = page_root k (sym e ∙ (ap w.name q ∙ sym (hs.page k).2))
@@ -140,15 +147,13 @@ module _ (w : Naming) (u : State Births) (c : State Table) (ss : StateSame (cycl
           let here : entry c.memory p ≡ Some (renamed_object w.name o) = subst (λ x. entry c.memory x ≡ Some (renamed_object w.name o)) b.1 s.1 in
           let q : t.0 ≡ p = let z = a.0 in let y = t.1 in cc in
           let g = entry-settled c.memory set p (renamed_object w.name o) here (subst (λ x. IsTrue (set x)) q t.2) in
-          (g, both_object w.live (λ m. IsUsed table_after.memory (w.name m)) o s.0 (object_back (IsUsed table_after.memory) w.name o (closed.objects p (renamed_object w.name o) g)))
+          (g, object_both (IsUsed table_after.memory) o s.0 (closed.objects p (renamed_object w.name o) g))
 
       abbrev after_live : ℕ → Type 0
       after_live m = w.live m × IsUsed table_after.memory (w.name m)
 
       roots_stay : AllLive after_live (roots_of u)
-      roots_stay =
-          let r : AllLive (IsUsed table_after.memory) (renamed_all w.name (roots_of u)) = subst (λ vs. AllLive (IsUsed table_after.memory) vs) roots_same closed.roots in
-          both_all w.live (λ m. IsUsed table_after.memory (w.name m)) (roots_of u) ss.roots (all_back (IsUsed table_after.memory) w.name (roots_of u) r)
+      roots_stay = roots_both (IsUsed table_after.memory) closed.roots
 
       pub shows_after : Shows table_after births_after
       shows_after = record {

@@ -27,8 +27,8 @@ use Rattle.st_simulation.proofs.Present as at
 use Rattle.st_model.specs.Cycles.{check_process_switch}
 use Rattle.st_model.specs.Saving.{store_process}
 use Rattle.st_simulation.proofs.CyclesSure.{check_process_switch-sure, store_process-sure}
-use Rattle.st_simulation.proofs.Present.{bare, full, then_unit-sure, die-sure, later_value, later_option, later_call, answer_itself-sure, of_page-sure}
-use Rattle.st_simulation.proofs.PresentSteps.{large_arithmetic-sure, shift_large-sure, There, ThereIfAny, CallThere, CallThereIfAny, Later, SureValue, SureCall, SureAnyCall, SureAnswer, sures, parts, headers, activate-sure, fetch_context_registers-sure, find-sure, not_understood-sure, send-sure, send_to_super-sure, special_send-sure, end-sure, goes_on-sure, answer_with-sure, arithmetic-sure, equivalence-sure, receiver_class-sure, flush_cache-sure, check_class-sure, primitive_say-sure}
+use Rattle.st_simulation.proofs.Present.{bare, full, then_unit-sure, die-sure, later_value, later_option, later_call, answer_itself-sure, of_page-sure, There, ThereIfAny, CallThere, CallThereIfAny, Later, SureValue, SureCall, SureAnyCall, SureAnswer}
+use Rattle.st_simulation.proofs.PresentSteps.{large_arithmetic-sure, shift_large-sure, sures, parts, headers, activate-sure, fetch_context_registers-sure, find-sure, not_understood-sure, send-sure, send_to_super-sure, special_send-sure, end-sure, goes_on-sure, answer_with-sure, arithmetic-sure, equivalence-sure, receiver_class-sure, flush_cache-sure, check_class-sure, primitive_say-sure}
 use Rattle.st_simulation.proofs.StorageSure.{storage-sure}
 use Rattle.st_simulation.proofs.BlocksSure.{block_copy-sure, value-sure, blocks-sure}
 use Rattle.st_simulation.proofs.ProcessesSure.{processes-sure}

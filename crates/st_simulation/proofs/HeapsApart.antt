@@ -9,14 +9,14 @@ use Rattle.st_model.specs.Machine.{State, roots_of, used}
 use Rattle.st_model.specs.Births.{Birth, Births, births, object_born, replaced, exchanged_births, is_borne, bearer, least_free, born, borne, pointer_of, total_kept}
 use Rattle.st_model.specs.Table.{Table, apart, entry, changed, exchanged, placed, joined, free_place, without_first, pointer_apart, behind_by, borne_apart, total_used}
 use Rattle.st_model.specs.Show.{IsKept, Shows}
-use Rattle.st_simulation.proofs.Same.{OptionSame, Simulation, StateSame}
+use Rattle.st_simulation.proofs.Same.{never_beyond, OptionSame, Simulation, StateSame}
 use Rattle.st_model.proofs.TableLemmas.{shape, tail, coming, to_come, entry_before, joined-last, joined-other, length-joined, length-changed, shape-take_joined, shape-take_changed, shape-without_first, free_place-coming, changed-from, entry_past, entry-take, entry-taken}
 use Rattle.st_model.proofs.BirthLemmas.{pointer_of-borne, borne_before, object_there, object_within, length-replaced, bearer-replaced, length-born, born-last, born-other, bearer-born, object_past, is_borne-of, borne-bearer}
 use Rattle.std.proofs.lemmas.List.{take_all}
 use Rattle.st_simulation.proofs.Totals.{total_matches, words_of-renamed}
-use Rattle.st_model.proofs.Names.{any_values, any_object, map_all, map_object, same_object, same_registers, same_head, same_world}
+use Rattle.st_model.proofs.Names.{any_values, any_object, map_object, same_object}
 use Rattle.st_simulation.proofs.HeapsSame.{Naming, HeapSame, ObjectsSame, entry_shown, replaced-objects, replaced-same, born-same, next_is_live, borne_by_live, number_cases, order_cases, weight_there, one_renamed}
-use Rattle.st_simulation.proofs.Started.{lives, named, named-kept, named-later, naming, heaps_start}
+use Rattle.st_simulation.proofs.Started.{lives, named, named-kept, named-later, naming, heaps_start, shown_states}
 
 -- the names of the births from the first new one on lie behind all places
 abbrev pub named_apart : Births → Table → ℕ → ℕ
@@ -348,8 +348,7 @@ module _ (c : State Table) (s : State Births) (w : Shows c s) (places : length c
     there = λ h n. Unit {0};
     limits = λ x. Unit {0};
     makes = Unit {0};
-    over = λ h. ⊥;
-    lax = ⊥;
+    beyond = never_beyond _ _;
     injective = one_name_apart;
     read = λ h t n a l. a.objects n l;
     read_there = λ h t n o a e. (tt, any_object o);
@@ -368,20 +367,7 @@ module _ (c : State Table) (s : State Births) (w : Shows c s) (places : length c
     there_replace = λ h n m o p e k. k;
     there_exchange = λ h a b m o p e f k. k;
     there_append = λ h m o k. k;
-    over_lax = λ h o. o;
-    over_live = λ h n o. absurd o;
-    over_replace = λ h n o p v e f. v;
-    over_exchange = λ h a b o p v e f. v;
-    over_append = λ h o v. v;
   }
 
   pub states_apart : StateSame apart_simulation s c
-  states_apart = record {
-    memory = apart_start;
-    limits = tt;
-    there = any_values (roots_of s);
-    roots = map_all (IsKept s.memory) (lives s.memory) now_live (roots_of s) w.roots;
-    registers = w.registers ∙ same_registers (IsKept s.memory) (pointer_of s.memory) (named_apart s.memory c.memory) pointer_kept s.registers s.head s.world w.roots;
-    world = w.world ∙ same_world (IsKept s.memory) (pointer_of s.memory) (named_apart s.memory c.memory) pointer_kept s.registers s.head s.world w.roots;
-    head = w.head ∙ same_head (IsKept s.memory) (pointer_of s.memory) (named_apart s.memory c.memory) pointer_kept s.registers s.head s.world w.roots;
-  }
+  states_apart = shown_states c s w apart_simulation apart_start tt (any_values (roots_of s)) now_live pointer_kept

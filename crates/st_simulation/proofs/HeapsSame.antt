@@ -8,7 +8,7 @@ use Rattle.std.specs.Option.{option_map}
 use Rattle.std.specs.Prelude.{Bool, true, false, is_some, if◌then◌else◌}
 use Rattle.st_model.specs.Births.{Birth, Births, births, object_born, replaced, exchanged_births, is_borne, bearer, least_free, born, borne, total_kept}
 use Rattle.st_model.specs.Table.{Table, table, entry, changed, exchanged, first_free, placed, total_used}
-use Rattle.st_simulation.proofs.Same.{OptionSame, Simulation}
+use Rattle.st_simulation.proofs.Same.{never_beyond, OptionSame, Simulation}
 use Rattle.st_model.proofs.Names.{any_object}
 use Rattle.st_model.proofs.TableLemmas.{changed-some, changed-none, changed-other, changed-from, first_free-none, below_first_free, placed-first, placed-other, shape, to_come, shape-changed, next_to_come, first_free-shape, first_free-start}
 use Rattle.st_model.proofs.BirthLemmas.{pointer_of-borne, object_within, object_there, borne_before, replaced-born, replaced-other, length-replaced, borne-replaced, bearer-replaced, object_past, object_before, length-born, born-last, born-other, borne-last, borne-other, borne_past, bearer-born, is_borne-of, of-is_borne, least_free-free, below_least_free, least_free-start, borne_before, borne-bearer}
@@ -237,8 +237,7 @@ cycle_simulation w = record {
   there = λ h n. Unit {0};
   limits = λ a. Unit {0};
   makes = Unit {0};
-  over = λ h. ⊥;
-  lax = ⊥;
+  beyond = never_beyond _ _;
   injective = w.injective;
   read = λ h c n s l. s.objects n l;
   read_there = λ h c n o s e. (tt, any_object o);
@@ -257,9 +256,4 @@ cycle_simulation w = record {
   there_replace = λ h n m o p e k. k;
   there_exchange = λ h a b m o p e f k. k;
   there_append = λ h m o k. k;
-  over_lax = λ h o. o;
-  over_live = λ h n o. absurd o;
-  over_replace = λ h n o p v e f. v;
-  over_exchange = λ h a b o p v e f. v;
-  over_append = λ h o v. v;
 }

@@ -3,7 +3,7 @@
 -- The second may be bounded, and then doesn't make what the first makes beyond the capacities. From there on nothing is
 -- said of the second, and of the first that it stays beyond them, since no step drops anything.
 use Rattle.std.proofs.Common.{◌≡◌, ℕ, List, [], ◌∷◌, zero, suc, Option, Some, None, Bool, true, false, refl, ap, ◌∙◌, arith, length, is_some, ◌⊎◌, inl, inr}
-use Rattle.std.specs.Prelude.{if◌then◌else◌, slice_get, slice_set, ◌==◌, ◌&&◌, ℤ, pos, negsuc}
+use Rattle.std.specs.Prelude.{if◌then◌else◌, slice_get, slice_set, ◌==◌, ℤ, pos, negsuc}
 use Rattle.std.proofs.lemmas.Bool.Decides.{nat_tests}
 use Rattle.std.specs.Option.{option_map}
 use Rattle.st_model.specs.declared.dead.Dead.{Dead}
@@ -49,6 +49,28 @@ abbrev pub OptionSame : (ℕ → Type 0) → (ℕ → ℕ) → Option Object →
 OptionSame live f None o = o ≡ None
 OptionSame live f (Some a) o = IsLiveObject live a × (o ≡ Some (renamed_object f a))
 
+-- when the first memory is beyond the capacities, where the second may be bounded
+pub record Beyond {H : Type 0} (M : ObjectMemory H) (live : ℕ → Type 0) : Type 1 where
+  pub over : H → Type 0
+  pub lax : Type 0
+  pub over_lax : (h : H) → over h → lax
+  pub over_live : (h : H) (n : ℕ) → over h → live n
+  pub over_replace : (h : H) (n : ℕ) (o p : Object) → over h → M.read h n ≡ Some o → words_of p ≡ words_of o → over (M.replace h n p)
+  pub over_exchange : (h : H) (a b : ℕ) (o p : Object) → over h → M.read h a ≡ Some o → M.read h b ≡ Some p → over (M.exchange h a b)
+  pub over_append : (h : H) (o : Object) → over h → over (M.append h o)
+
+-- never
+abbrev pub never_beyond : {H : Type 0} (M : ObjectMemory H) (live : ℕ → Type 0) → Beyond M live
+never_beyond M live = record {
+  over = λ h. ⊥;
+  lax = ⊥;
+  over_lax = λ h o. o;
+  over_live = λ h n o. absurd o;
+  over_replace = λ h n o p v e f. v;
+  over_exchange = λ h a b o p v e f. v;
+  over_append = λ h o v. v;
+}
+
 -- how names of one memory stand for names of the other, through one cycle
 pub record Simulation {H K : Type 0} (M : ObjectMemory H) (N : ObjectMemory K) : Type 1 where
   pub live : ℕ → Type 0
@@ -60,9 +82,7 @@ pub record Simulation {H K : Type 0} (M : ObjectMemory H) (N : ObjectMemory K) :
   pub limits : Head → Type 0
   -- steps may make objects
   pub makes : Type 0
-  -- the first is beyond the capacities, where the second may be bounded
-  pub over : H → Type 0
-  pub lax : Type 0
+  pub beyond : Beyond M live
   pub injective : (m n : ℕ) → live m → live n → name m ≡ name n → m ≡ n
   pub read : (h : H) (k : K) (n : ℕ) → heaps h k → live n → OptionSame live name (M.read h n) (N.read k (name n))
   pub read_there : (h : H) (k : K) (n : ℕ) (o : Object) → heaps h k → M.read h n ≡ Some o → there h n × IsLiveObject (there h) o
@@ -81,29 +101,14 @@ pub record Simulation {H K : Type 0} (M : ObjectMemory H) (N : ObjectMemory K) :
   pub used : (h : H) (k : K) → heaps h k → used N k ≡ used M h
   -- and_parts have room for a new object, or neither has; or only the first has, and is beyond the capacities then
   pub rooms : (h : H) (k : K) (a b : Head) (o : Object) → makes → heaps h k → limits a → b ≡ renamed_head name a
-      → (has_room N b k (renamed_object name o) ≡ has_room M a h o) ⊎ ((has_room M a h o ≡ true) × over (M.append h o))
+      → (has_room N b k (renamed_object name o) ≡ has_room M a h o) ⊎ ((has_room M a h o ≡ true) × beyond.over (M.append h o))
   pub there_replace : (h : H) (n m : ℕ) (o p : Object) → M.read h n ≡ Some o → there h m → there (M.replace h n p) m
   pub there_exchange : (h : H) (a b m : ℕ) (o p : Object) → M.read h a ≡ Some o → M.read h b ≡ Some p → there h m → there (M.exchange h a b) m
   pub there_append : (h : H) (m : ℕ) (o : Object) → there h m → there (M.append h o) m
-  pub over_lax : (h : H) → over h → lax
-  pub over_live : (h : H) (n : ℕ) → over h → live n
-  pub over_replace : (h : H) (n : ℕ) (o p : Object) → over h → M.read h n ≡ Some o → words_of p ≡ words_of o → over (M.replace h n p)
-  pub over_exchange : (h : H) (a b : ℕ) (o p : Object) → over h → M.read h a ≡ Some o → M.read h b ≡ Some p → over (M.exchange h a b)
-  pub over_append : (h : H) (o : Object) → over h → over (M.append h o)
 
 -- the same names where nothing is made: then the first is never beyond the capacities
 abbrev pub strict : {H K : Type 0} {M : ObjectMemory H} {N : ObjectMemory K} → Simulation M N → Simulation M N
-strict sim = record sim {
-  makes = ⊥;
-  over = λ h. ⊥;
-  lax = ⊥;
-  rooms = λ h k a b o m s l e. absurd m;
-  over_lax = λ h o. o;
-  over_live = λ h n o. absurd o;
-  over_replace = λ h n o p v e f. v;
-  over_exchange = λ h a b o p v e f. v;
-  over_append = λ h o v. v;
-}
+strict {M = M} sim = record sim { makes = ⊥; beyond = never_beyond M sim.live; rooms = λ h k a b o m s l e. absurd m }
 
 pub record StateSame {H K : Type 0} {M : ObjectMemory H} {N : ObjectMemory K} (sim : Simulation M N) (s : State H) (t : State K) : Type 0 where
   pub memory : sim.heaps s.memory t.memory
@@ -116,25 +121,25 @@ pub record StateSame {H K : Type 0} {M : ObjectMemory H} {N : ObjectMemory K} (s
 
 abbrev pub TransitionSame : {H K A B : Type 0} {M : ObjectMemory H} {N : ObjectMemory K} (sim : Simulation M N)
     → (A → Type 0) → (A → B) → Transition (State H) A → Transition (State K) B → Type 0
-TransitionSame sim P r (Died a) (Died b) = (b ≡ a) ⊎ sim.lax
-TransitionSame sim P r (Died a) (Went b t) = sim.lax
-TransitionSame sim P r (Went a s) (Died b) = P a × sim.over s.memory
-TransitionSame sim P r (Went a s) (Went b t) = (P a × sim.over s.memory) ⊎ (P a × (b ≡ r a) × StateSame sim s t)
+TransitionSame sim P r (Died a) (Died b) = (b ≡ a) ⊎ sim.beyond.lax
+TransitionSame sim P r (Died a) (Went b t) = sim.beyond.lax
+TransitionSame sim P r (Went a s) (Died b) = P a × sim.beyond.over s.memory
+TransitionSame sim P r (Went a s) (Went b t) = (P a × sim.beyond.over s.memory) ⊎ (P a × (b ≡ r a) × StateSame sim s t)
 
 -- the first goes on beyond the capacities, if it goes on
 abbrev pub StaysOver : {H K A : Type 0} {M : ObjectMemory H} {N : ObjectMemory K} (sim : Simulation M N) → (A → Type 0) → Transition (State H) A → Type 0
 StaysOver sim P (Died a) = Unit {0}
-StaysOver sim P (Went a s) = P a × sim.over s.memory
+StaysOver sim P (Went a s) = P a × sim.beyond.over s.memory
 
 -- from states that are the same, and_parts steps die of one cause, or answer the same and leave states that are the same
 pub record Same {H K A B : Type 0} {M : ObjectMemory H} {N : ObjectMemory K} (sim : Simulation M N)
     (P : A → Type 0) (r : A → B) (m : Step H A) (n : Step K B) : Type 0 where
   pub go : (s : State H) (t : State K) → StateSame sim s t → TransitionSame sim P r (m.run s) (n.run t)
-  pub stay : (s : State H) → sim.over s.memory → StaysOver sim P (m.run s)
+  pub stay : (s : State H) → sim.beyond.over s.memory → StaysOver sim P (m.run s)
 
 -- nothing is said of the second
 over-same : {H K A B : Type 0} {M : ObjectMemory H} {N : ObjectMemory K} (sim : Simulation M N)
-    (P : A → Type 0) (r : A → B) (o : Transition (State H) A) (q : Transition (State K) B) → sim.lax → StaysOver sim P o → TransitionSame sim P r o q
+    (P : A → Type 0) (r : A → B) (o : Transition (State H) A) (q : Transition (State K) B) → sim.beyond.lax → StaysOver sim P o → TransitionSame sim P r o q
 over-same sim P r (Died a) (Died b) l h = inr l
 over-same sim P r (Died a) (Went b t) l h = l
 over-same sim P r (Went a s) (Died b) l h = h
@@ -148,8 +153,8 @@ after-same : {H K A B A' B' : Type 0} {M : ObjectMemory H} {N : ObjectMemory K} 
 unfolding after
 after-same sim P r Q q (Died a) (Died b) f g h k = h
 after-same sim P r Q q (Died a) (Went b t) f g h k = over-same sim Q q (Died a) ((g b).run t) h tt
-after-same sim P r Q q (Went a s) (Died b) f g h k = over-same sim Q q ((f a).run s) (Died b) (sim.over_lax s.memory h.1) ((k a h.0).stay s h.1)
-after-same sim P r Q q (Went a s) (Went b t) f g (inl h) k = over-same sim Q q ((f a).run s) ((g b).run t) (sim.over_lax s.memory h.1) ((k a h.0).stay s h.1)
+after-same sim P r Q q (Went a s) (Died b) f g h k = over-same sim Q q ((f a).run s) (Died b) (sim.beyond.over_lax s.memory h.1) ((k a h.0).stay s h.1)
+after-same sim P r Q q (Went a s) (Went b t) f g (inl h) k = over-same sim Q q ((f a).run s) ((g b).run t) (sim.beyond.over_lax s.memory h.1) ((k a h.0).stay s h.1)
 after-same sim P r Q q (Went a s) (Went b t) f g (inr h) k = rw h.1 ((k a h.0).go s t h.2)
 
 after-stay : {H K A B A' B' : Type 0} {M : ObjectMemory H} {N : ObjectMemory K} (sim : Simulation M N)
@@ -366,62 +371,62 @@ all_there-renamed sim h k [] s l = refl
 all_there-renamed sim h k (v ∷ vs) s l = rw (is_there-renamed sim h k v s l.0, all_there-renamed sim h k vs s l.1) refl
 
 -- where the first is beyond the capacities, all names live
-module _ {H K : Type 0} {M : ObjectMemory H} {N : ObjectMemory K} (sim : Simulation M N) (h : H) (o : sim.over h) where
+module _ {H K : Type 0} {M : ObjectMemory H} {N : ObjectMemory K} (sim : Simulation M N) (h : H) (o : sim.beyond.over h) where
   pub over_value : (v : Value) → IsLive sim.live v
   over_value (Small n) = tt
-  over_value (Ref n) = sim.over_live h n o
+  over_value (Ref n) = sim.beyond.over_live h n o
 
   pub over_values : (vs : List Value) → AllLive sim.live vs
   over_values [] = tt
   over_values (v ∷ vs) = (over_value v, over_values vs)
 
   pub over_object : (a : Object) → IsLiveObject sim.live a
-  over_object a = record { class = sim.over_live h a.class o; fields = over_values a.fields }
+  over_object a = record { class = sim.beyond.over_live h a.class o; fields = over_values a.fields }
 
-pub get-renamed : {H K : Type 0} {M : ObjectMemory H} {N : ObjectMemory K} (sim : Simulation M N) (vs : List Value) (i : ℕ) → slice_get (renamed_all sim.name vs) i ≡ renamed_option sim.name (slice_get vs i)
-get-renamed sim [] i = refl
-get-renamed sim (v ∷ vs) zero = refl
-get-renamed sim (v ∷ vs) (suc i) = get-renamed sim vs i
+pub get-renamed : (f : ℕ → ℕ) (vs : List Value) (i : ℕ) → slice_get (renamed_all f vs) i ≡ renamed_option f (slice_get vs i)
+get-renamed f [] i = refl
+get-renamed f (v ∷ vs) zero = refl
+get-renamed f (v ∷ vs) (suc i) = get-renamed f vs i
 
-pub get_is_live : {H K : Type 0} {M : ObjectMemory H} {N : ObjectMemory K} (sim : Simulation M N) (vs : List Value) (i : ℕ) → AllLive sim.live vs → IsLiveOption sim.live (slice_get vs i)
-get_is_live sim [] i h = tt
-get_is_live sim (v ∷ vs) zero h = h.0
-get_is_live sim (v ∷ vs) (suc i) h = get_is_live sim vs i h.1
+pub get_is_live : (live : ℕ → Type 0) (vs : List Value) (i : ℕ) → AllLive live vs → IsLiveOption live (slice_get vs i)
+get_is_live live [] i h = tt
+get_is_live live (v ∷ vs) zero h = h.0
+get_is_live live (v ∷ vs) (suc i) h = get_is_live live vs i h.1
 
-module _ {H K : Type 0} {M : ObjectMemory H} {N : ObjectMemory K} (sim : Simulation M N) where
-  -- what stands for one another
+-- what stands for one another
+module _ (live : ℕ → Type 0) (f : ℕ → ℕ) where
+  pub small-named : (n : ℕ) → ValueNamed live f (Small n) (Small n)
+  small-named n = record { live = tt; is = refl }
 
-  pub small-same : (n : ℕ) → ValueSame sim (Small n) (Small n)
-  small-same n = record { live = tt; is = refl }
+  pub small_integer-named : (n : ℤ) → ValueNamed live f (small_integer n) (small_integer n)
+  small_integer-named (pos n) = record { live = tt; is = refl }
+  small_integer-named (negsuc n) = record { live = tt; is = refl }
 
-  pub small_integer-same : (n : ℤ) → ValueSame sim (small_integer n) (small_integer n)
-  small_integer-same (pos n) = record { live = tt; is = refl }
-  small_integer-same (negsuc n) = record { live = tt; is = refl }
+  pub no_values-named : ValuesNamed live f [] []
+  no_values-named = record { live = tt; is = refl }
 
-  pub class-same : (o : Object) → IsLiveObject sim.live o → ValueSame sim (Ref o.class) (Ref (sim.name o.class))
-  class-same o h = record { live = h.class; is = refl }
+  pub values-named : (v w : Value) (vs ws : List Value) → ValueNamed live f v w → ValuesNamed live f vs ws → ValuesNamed live f (v ∷ vs) (w ∷ ws)
+  values-named v w vs ws h k = record { live = (h.live, k.live); is = λ i. h.is i ∷ k.is i }
 
-  pub no_values-same : ValuesSame sim [] []
-  no_values-same = record { live = tt; is = refl }
+  pub none-named : OptionNamed live f None None
+  none-named = record { live = tt; is = refl }
 
-  pub values-same : (v w : Value) (vs ws : List Value) → ValueSame sim v w → ValuesSame sim vs ws → ValuesSame sim (v ∷ vs) (w ∷ ws)
-  values-same v w vs ws h k = record { live = (h.live, k.live); is = λ i. h.is i ∷ k.is i }
+  pub some-named : (v w : Value) → ValueNamed live f v w → OptionNamed live f (Some v) (Some w)
+  some-named v w h = record { live = h.live; is = λ i. Some (h.is i) }
 
-  pub none-same : OptionalSame sim None None
-  none-same = record { live = tt; is = refl }
+  pub field-named : (o : Object) (i : ℕ) → IsLiveObject live o → OptionNamed live f (slice_get o.fields i) (slice_get (renamed_all f o.fields) i)
+  field-named o i h = record { live = get_is_live live o.fields i h.fields; is = get-renamed f o.fields i }
 
-  pub some-same : (v w : Value) → ValueSame sim v w → OptionalSame sim (Some v) (Some w)
-  some-same v w h = record { live = h.live; is = λ i. Some (h.is i) }
-
-  pub field-same : (o : Object) (i : ℕ) → IsLiveObject sim.live o → OptionalSame sim (slice_get o.fields i) (slice_get (renamed_all sim.name o.fields) i)
-  field-same o i h = record { live = get_is_live sim o.fields i h.fields; is = get-renamed sim o.fields i }
-
-  pub registers-same : (a h m r a' h' m' r' : Value) (ip : ℤ) (sp : ℕ) → ValueSame sim a a' → ValueSame sim h h' → ValueSame sim m m' → ValueSame sim r r'
-      → RegistersSame sim (record { active = a; home = h; method = m; receiver = r; ip = ip; sp = sp }) (record { active = a'; home = h'; method = m'; receiver = r'; ip = ip; sp = sp })
-  registers-same a h m r a' h' m' r' ip sp x y z w = record {
+  pub registers-named : (a h m r a' h' m' r' : Value) (ip : ℤ) (sp : ℕ) → ValueNamed live f a a' → ValueNamed live f h h' → ValueNamed live f m m' → ValueNamed live f r r'
+      → RegistersNamed live f (record { active = a; home = h; method = m; receiver = r; ip = ip; sp = sp }) (record { active = a'; home = h'; method = m'; receiver = r'; ip = ip; sp = sp })
+  registers-named a h m r a' h' m' r' ip sp x y z w = record {
     live = (x.live, y.live, z.live, w.live);
     is = λ i. record { active = x.is i; home = y.is i; method = z.is i; receiver = w.is i; ip = ip; sp = sp };
   }
+
+module _ {H K : Type 0} {M : ObjectMemory H} {N : ObjectMemory K} (sim : Simulation M N) where
+  pub class-same : (o : Object) → IsLiveObject sim.live o → ValueSame sim (Ref o.class) (Ref (sim.name o.class))
+  class-same o h = record { live = h.class; is = refl }
 
   -- changes of the world
 
@@ -518,7 +523,7 @@ module _ {H K : Type 0} {M : ObjectMemory H} {N : ObjectMemory K} (sim : Simulat
         let n = h.2 in
         inr (k.0, ap (λ x. Some x) h.1 ∙ k.1, record { memory = n.memory; limits = n.limits; there = n.there; roots = n.roots; registers = n.registers; world = n.world; head = n.head })
 
-    left_over : (s : State H) (o : Transition (State H) A) → sim.over s.memory → StaysOver sim P o → StaysOver sim Q (or_left s o)
+    left_over : (s : State H) (o : Transition (State H) A) → sim.beyond.over s.memory → StaysOver sim P o → StaysOver sim Q (or_left s o)
     left_over s (Died a) o h = (none.0, o)
     left_over s (Went a t) o h = ((some a h.0).0, h.1)
 
@@ -536,4 +541,4 @@ module _ {H K : Type 0} {M : ObjectMemory H} {N : ObjectMemory K} (sim : Simulat
   tried_itself-same m n h k = tried-same _ _ _ _ (tt, refl) (λ a l. (tt, refl)) m n h k
 
 -- what a search of steps that do the same goes by
-pub ruleset steps_same = (then_value-same, then_values-same, then_object-same, then_answer-same, then_option-same, then_registers-same, then_call-same, then_any_call-same, then_unit-same, if-same, tried_value-same, tried_itself-same, die-same, answer_value-same, answer_values-same, answer_option-same, answer_registers-same, answer_object-same, answer_itself-same, answer_call-same, answer_some_call-same, answer_no_call-same, went-same, say_value-same, same_value-same, small-same, small_integer-same, class-same, no_values-same, values-same, none-same, some-same, field-same, registers-same, hold-same, add_signal-same, take_signal-same, set_due-same, set_low-same, move_mouse-same, add_word-same, take_word-same, second_clock-same, millisecond_clock-same, length-renamed, code_byte-renamed)
+pub ruleset steps_same = (then_value-same, then_values-same, then_object-same, then_answer-same, then_option-same, then_registers-same, then_call-same, then_any_call-same, then_unit-same, if-same, tried_value-same, tried_itself-same, die-same, answer_value-same, answer_values-same, answer_option-same, answer_registers-same, answer_object-same, answer_itself-same, answer_call-same, answer_some_call-same, answer_no_call-same, went-same, say_value-same, same_value-same, small-named, small_integer-named, class-same, no_values-named, values-named, none-named, some-named, field-named, registers-named, hold-same, add_signal-same, take_signal-same, set_due-same, set_low-same, move_mouse-same, add_word-same, take_word-same, second_clock-same, millisecond_clock-same, length-renamed, code_byte-renamed)

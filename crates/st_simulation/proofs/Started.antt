@@ -3,12 +3,13 @@ use Rattle.std.proofs.Common.{◌≡◌, ℕ, ◌+◌, ◌-◌, ◌<◌, ◌≤�
 use Rattle.std.specs.Prelude.{if◌then◌else◌}
 use Rattle.std.proofs.lemmas.Bool.Decides.{nat_tests}
 use Rattle.st_model.specs.Objects.{place_of, renamed_object}
-use Rattle.st_model.specs.Machine.{State, roots_of}
-use Rattle.st_model.specs.Births.{Births, object_born, bearer, borne}
+use Rattle.st_model.specs.Values.{AllLive}
+use Rattle.st_model.specs.Machine.{ObjectMemory, State, roots_of}
+use Rattle.st_model.specs.Births.{Births, births, object_born, bearer, borne}
 use Rattle.st_model.specs.Table.{Table, entry}
 use Rattle.st_model.specs.Births.{pointer_of}
 use Rattle.st_model.specs.Show.{IsKept, IsUsed, Shows}
-use Rattle.st_simulation.proofs.Same.{OptionSame, StateSame}
+use Rattle.st_simulation.proofs.Same.{OptionSame, Simulation, StateSame}
 use Rattle.st_model.proofs.TableLemmas.{shape, to_come, to_come-strict, to_come-none}
 use Rattle.st_model.proofs.BirthLemmas.{borne_before, pointer_of-borne, object_there, object_past}
 use Rattle.st_model.proofs.Names.{any_values, map_all, map_object, same_object, same_registers, same_head, same_world}
@@ -104,13 +105,18 @@ module _ (c : State Table) (s : State Births) (w : Shows c s) where
         (borne_before s.memory b (place_of q) e, inl (place_of q, e), sym (named-kept s.memory c.memory b (place_of q) e));
   }
 
-  pub states_start : StateSame (cycle_simulation naming) s c
-  states_start = record {
-    memory = heaps_start;
-    limits = tt;
-    there = any_values (roots_of s);
-    roots = map_all (IsKept s.memory) (lives s.memory) now_live (roots_of s) w.roots;
-    registers = w.registers ∙ same_registers (IsKept s.memory) (pointer_of s.memory) (named s.memory c.memory) pointer_named s.registers s.head s.world w.roots;
-    world = w.world ∙ same_world (IsKept s.memory) (pointer_of s.memory) (named s.memory c.memory) pointer_named s.registers s.head s.world w.roots;
-    head = w.head ∙ same_head (IsKept s.memory) (pointer_of s.memory) (named s.memory c.memory) pointer_named s.registers s.head s.world w.roots;
+  -- where what is kept lives, and has its pointer for a name
+  pub shown_states : {N : ObjectMemory Table} (sim : Simulation births N) → sim.heaps s.memory c.memory → sim.limits s.head → AllLive (sim.there s.memory) (roots_of s)
+      → ((n : ℕ) → IsKept s.memory n → sim.live n) → ((n : ℕ) → IsKept s.memory n → pointer_of s.memory n ≡ sim.name n) → StateSame sim s c
+  shown_states sim memory limits there kept_lives kept_named = record {
+    memory = memory;
+    limits = limits;
+    there = there;
+    roots = map_all (IsKept s.memory) sim.live kept_lives (roots_of s) w.roots;
+    registers = w.registers ∙ same_registers (IsKept s.memory) (pointer_of s.memory) sim.name kept_named s.registers s.head s.world w.roots;
+    world = w.world ∙ same_world (IsKept s.memory) (pointer_of s.memory) sim.name kept_named s.registers s.head s.world w.roots;
+    head = w.head ∙ same_head (IsKept s.memory) (pointer_of s.memory) sim.name kept_named s.registers s.head s.world w.roots;
   }
+
+  pub states_start : StateSame (cycle_simulation naming) s c
+  states_start = shown_states (cycle_simulation naming) heaps_start tt (any_values (roots_of s)) now_live pointer_named

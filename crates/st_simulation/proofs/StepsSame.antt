@@ -78,7 +78,7 @@ module _ {H K : Type 0} {M : ObjectMemory H} {N : ObjectMemory K} (sim : Simulat
   found-same None b h = rw h (search steps_same)
   found-same (Some a) b h = rw h.1 (search steps_same)
 
-  found_over : (a : Option Object) (s : State H) → sim.over s.memory → StaysOver sim (IsLiveObject sim.live) ((found a).run s)
+  found_over : (a : Option Object) (s : State H) → sim.beyond.over s.memory → StaysOver sim (IsLiveObject sim.live) ((found a).run s)
   unfolding found answer die
   found_over None s o = tt
   found_over (Some a) s o = (over_object sim s.memory o a, o)
@@ -126,11 +126,11 @@ module _ {H K : Type 0} {M : ObjectMemory H} {N : ObjectMemory K} (sim : Simulat
         (stored_is_live (sim.there s.memory) o i x (sim.read_there s.memory t.memory n o st.memory e).1 (value_there sim s.memory t.memory x st.memory f)),
   ))
 
-  stored_over : (n i : ℕ) (x : Value) (s : State H) (a : Option Object) (c : Bool) → M.read s.memory n ≡ a → sim.over s.memory → StaysOver sim Anything (stored_at M n i x s a c)
+  stored_over : (n i : ℕ) (x : Value) (s : State H) (a : Option Object) (c : Bool) → M.read s.memory n ≡ a → sim.beyond.over s.memory → StaysOver sim Anything (stored_at M n i x s a c)
   unfolding stored_at
   stored_over n i x s None c e o = tt
   stored_over n i x s (Some a) false e o = tt
-  stored_over n i x s (Some a) true e o = (tt, sim.over_replace s.memory n a (with_field a i x) o e (words-with_field a i x))
+  stored_over n i x s (Some a) true e o = (tt, sim.beyond.over_replace s.memory n a (with_field a i x) o e (words-with_field a i x))
 
   store_at-same : (n i : ℕ) (x : Value) → sim.live n → IsLive sim.live x → SameAnswer sim (store_at M n i x) (store_at N (sim.name n) i (renamed sim.name x))
   unfolding store_at
@@ -174,14 +174,14 @@ module _ {H K : Type 0} {M : ObjectMemory H} {N : ObjectMemory K} (sim : Simulat
       let p = some_object (M.read s.memory b) h.1 in
       inr (tt, refl, exchanged-same a b s t o.0 p.0 l k st o.1 p.1)
 
-  exchanged_over : (a b : ℕ) (s : State H) (x : Bool) → (is_there M s.memory (Ref a) && is_there M s.memory (Ref b)) ≡ x → sim.over s.memory → StaysOver sim Anything (exchanged_there M a b s x)
+  exchanged_over : (a b : ℕ) (s : State H) (x : Bool) → (is_there M s.memory (Ref a) && is_there M s.memory (Ref b)) ≡ x → sim.beyond.over s.memory → StaysOver sim Anything (exchanged_there M a b s x)
   unfolding exchanged_there
   exchanged_over a b s false e v = tt
   exchanged_over a b s true e v =
       let h = and_parts (is_there M s.memory (Ref a)) (is_there M s.memory (Ref b)) e in
       let o = some_object (M.read s.memory a) h.0 in
       let p = some_object (M.read s.memory b) h.1 in
-      (tt, sim.over_exchange s.memory a b o.0 p.0 v o.1 p.1)
+      (tt, sim.beyond.over_exchange s.memory a b o.0 p.0 v o.1 p.1)
 
   exchange_named-same : (a b : ℕ) → sim.live a → sim.live b → SameAnswer sim (exchange_named M a b) (exchange_named N (sim.name a) (sim.name b))
   unfolding exchange_named
@@ -216,11 +216,11 @@ module _ {H K : Type 0} {M : ObjectMemory H} {N : ObjectMemory K} (sim : Simulat
   words-with_units : (o : Object) (us : List ℕ) → (length us == length o.units) ≡ true → words_of (with_units o us) ≡ words_of o
   words-with_units o us f = let e : length us ≡ length o.units = grind (arith, nat_tests) in rw e refl
 
-  units_over : (n : ℕ) (us : List ℕ) (s : State H) (a : Option Object) (fit : Bool) → M.read s.memory n ≡ a → fit_units us a ≡ fit → sim.over s.memory → StaysOver sim Anything (units_set M n us s a fit)
+  units_over : (n : ℕ) (us : List ℕ) (s : State H) (a : Option Object) (fit : Bool) → M.read s.memory n ≡ a → fit_units us a ≡ fit → sim.beyond.over s.memory → StaysOver sim Anything (units_set M n us s a fit)
   unfolding units_set
   units_over n us s None fit e f v = tt
   units_over n us s (Some o) false e f v = tt
-  units_over n us s (Some o) true e f v = (tt, sim.over_replace s.memory n o (with_units o us) v e (words-with_units o us f))
+  units_over n us s (Some o) true e f v = (tt, sim.beyond.over_replace s.memory n o (with_units o us) v e (words-with_units o us f))
 
   pub set_units-same : (v w : Value) (us : List ℕ) → ValueSame sim v w → SameAnswer sim (set_units M v us) (set_units N w us)
   unfolding set_units set_units_at
@@ -252,7 +252,7 @@ module _ {H K : Type 0} {M : ObjectMemory H} {N : ObjectMemory K} (sim : Simulat
     nil s t st = sim.named_live s.memory t.memory NilObject st.memory
 
     made-same : (s : State H) (t : State K) (there room room' : Bool) → sim.live c → StateSame sim s t → is_there M s.memory (Ref c) ≡ there
-        → has_room M s.head s.memory (new_of M s.memory c kind size literals) ≡ room → (room' ≡ room) ⊎ ((room ≡ true) × sim.over (M.append s.memory (new_of M s.memory c kind size literals)))
+        → has_room M s.head s.memory (new_of M s.memory c kind size literals) ≡ room → (room' ≡ room) ⊎ ((room ≡ true) × sim.beyond.over (M.append s.memory (new_of M s.memory c kind size literals)))
         → TransitionSame sim (IsLive sim.live) (renamed sim.name) (made M (new_of M s.memory c kind size literals) s there room)
         (made N (renamed_object sim.name (new_of M s.memory c kind size literals)) t there room')
     unfolding made
@@ -277,11 +277,11 @@ module _ {H K : Type 0} {M : ObjectMemory H} {N : ObjectMemory K} (sim : Simulat
     made-same s t true false true l st e g (inr r) = let q = r.0 in absurd (cc)
     made-same s t true false false l st e g r = inr ((nil s t st).0, ap Ref (sim.named s.memory t.memory NilObject st.memory), st)
 
-    made_over : (s : State H) (there room : Bool) → sim.over s.memory → StaysOver sim (IsLive sim.live) (made M (new_of M s.memory c kind size literals) s there room)
+    made_over : (s : State H) (there room : Bool) → sim.beyond.over s.memory → StaysOver sim (IsLive sim.live) (made M (new_of M s.memory c kind size literals) s there room)
     unfolding made
     made_over s false room o = tt
-    made_over s true true o = (sim.over_live s.memory (M.next s.memory) o, sim.over_append s.memory (new_of M s.memory c kind size literals) o)
-    made_over s true false o = (sim.over_live s.memory (M.named s.memory NilObject) o, o)
+    made_over s true true o = (sim.beyond.over_live s.memory (M.next s.memory) o, sim.beyond.over_append s.memory (new_of M s.memory c kind size literals) o)
+    made_over s true false o = (sim.beyond.over_live s.memory (M.named s.memory NilObject) o, o)
 
     make_named-same : sim.makes → sim.live c → SameValue sim (make_named M c kind size literals) (make_named N (sim.name c) kind size literals)
     unfolding make_named
@@ -335,7 +335,7 @@ module _ {H K : Type 0} {M : ObjectMemory H} {N : ObjectMemory K} (sim : Simulat
     },
   )
 
-  registers_set_over : (r : Registers) (s : State H) (there : Bool) → sim.over s.memory → StaysOver sim Anything (registers_set r s there)
+  registers_set_over : (r : Registers) (s : State H) (there : Bool) → sim.beyond.over s.memory → StaysOver sim Anything (registers_set r s there)
   unfolding registers_set
   registers_set_over r s false o = tt
   registers_set_over r s true o = (tt, o)
@@ -367,11 +367,11 @@ module _ {H K : Type 0} {M : ObjectMemory H} {N : ObjectMemory K} (sim : Simulat
   unfolding newest_signal
   newest_signal-same = record {
     go = λ s t st. inr (
-      get_is_live sim s.world.devices.pending (length s.world.devices.pending - 1) (device_part _ (head_roots s.head) _ st.roots.1.1.1.1).1.1.1.1.1.1,
+      get_is_live sim.live s.world.devices.pending (length s.world.devices.pending - 1) (device_part _ (head_roots s.head) _ st.roots.1.1.1.1).1.1.1.1.1.1,
       ap (λ w. newest_of w.devices.pending) st.world ∙ newest-renamed sim s.world.devices.pending,
       st,
     );
-    stay = λ s o. (get_is_live sim s.world.devices.pending (length s.world.devices.pending - 1) (over_values sim s.memory o s.world.devices.pending), o);
+    stay = λ s o. (get_is_live sim.live s.world.devices.pending (length s.world.devices.pending - 1) (over_values sim s.memory o s.world.devices.pending), o);
   }
 
   pub count_signals-same : SameAnswer sim count_signals count_signals
@@ -429,7 +429,7 @@ module _ {H K : Type 0} {M : ObjectMemory H} {N : ObjectMemory K} (sim : Simulat
         },
       )
 
-  changed_over : (c : Change) (s : State H) (b : Bool) → sim.over s.memory → StaysOver sim Anything (world_changed c s b)
+  changed_over : (c : Change) (s : State H) (b : Bool) → sim.beyond.over s.memory → StaysOver sim Anything (world_changed c s b)
   unfolding world_changed
   changed_over c s false o = tt
   changed_over c s true o = (tt, o)
@@ -458,10 +458,10 @@ module _ {H K : Type 0} {M : ObjectMemory H} {N : ObjectMemory K} (sim : Simulat
   named_or_not-same None b h e = rw e (tt, refl)
   named_or_not-same (Some n) b h e = rw e (h n refl, refl)
 
-  named_or_not_over : (a : Option ℕ) (s : State H) → sim.over s.memory → IsLiveOption sim.live (named_or_not a)
+  named_or_not_over : (a : Option ℕ) (s : State H) → sim.beyond.over s.memory → IsLiveOption sim.live (named_or_not a)
   unfolding named_or_not
   named_or_not_over None s o = tt
-  named_or_not_over (Some n) s o = sim.over_live s.memory n o
+  named_or_not_over (Some n) s o = sim.beyond.over_live s.memory n o
 
   pub object_at-same : (k : ℕ) → SameOption sim (object_at M k) (object_at N k)
   unfolding object_at
@@ -514,7 +514,7 @@ module _ {H K : Type 0} {M : ObjectMemory H} {N : ObjectMemory K} (sim : Simulat
   unfolding of_page
   of_page-same p = record {
     go = λ s t st. inr ((sim.named_live s.memory t.memory p st.memory).0, ap Ref (sim.named s.memory t.memory p st.memory), st);
-    stay = λ s o. (sim.over_live s.memory (M.named s.memory p) o, o);
+    stay = λ s o. (sim.beyond.over_live s.memory (M.named s.memory p) o, o);
   }
 
   pub check-same : (cause : Dead) (b c : Bool) → c ≡ b → SameAnswer sim (check cause b) (check cause c)

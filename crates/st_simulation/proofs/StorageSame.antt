@@ -161,13 +161,9 @@ module _ {H K : Type 0} {M : ObjectMemory H} {N : ObjectMemory K} (sim : Simulat
   unfolding is_at_end
   is_at_end-same v w h = search (numbers_same, has_characters-same) depth 32 fits 4000
 
-  place_in_method-same : (v w x y : Value) → ValueSame sim v w → ValueSame sim x y → SameAnswer sim (place_in_method M v x) (place_in_method N w y)
-  unfolding place_in_method method_place
-  place_in_method-same v w x y h k = search (numbers_same, count_literals-same) depth 32 fits 4000
-
   header_or_literal-same : (v w x y : Value) → ValueSame sim v w → ValueSame sim x y → SameValue sim (header_or_literal M v x) (header_or_literal N w y)
-  unfolding header_or_literal
-  header_or_literal-same v w x y h k = search (numbers_same, place_in_method-same) depth 24 fits 4000
+  unfolding header_or_literal place_in_method method_place
+  header_or_literal-same v w x y h k = search (numbers_same, count_literals-same) depth 40 fits 4000
 
   check_header-same : (v w x y : Value) → ValueSame sim v w → ValueSame sim x y → SameAnswer sim (check_header M v x) (check_header N w y)
   unfolding check_header
@@ -179,20 +175,16 @@ module _ {H K : Type 0} {M : ObjectMemory H} {N : ObjectMemory K} (sim : Simulat
   check_method_field-same v w x y false h k = search steps_same
 
   place_to_store-same : (r s a b x y : Value) → ValueSame sim r s → ValueSame sim a b → ValueSame sim x y → SameAnswer sim (place_to_store M r a x) (place_to_store N s b y)
-  unfolding place_to_store
-  place_to_store-same r s a b x y h k l = search (numbers_same, place_in_method-same, check_method_field-same) depth 24 fits 4000
-
-  check_not_method_class-same : (v w : Value) → ValueSame sim v w → SameAnswer sim (check_not_method_class M v) (check_not_method_class N w)
-  unfolding check_not_method_class
-  check_not_method_class-same v w h = search (numbers_same, not-same) depth 24 fits 4000
+  unfolding place_to_store place_in_method method_place
+  place_to_store-same r s a b x y h k l = search (numbers_same, count_literals-same, check_method_field-same) depth 40 fits 4000
 
   fixed_specification-same : (v w : Value) → ValueSame sim v w → SameAnswer sim (fixed_specification M v) (fixed_specification N w)
-  unfolding fixed_specification
-  fixed_specification-same v w h = search (numbers_same, check_not_method_class-same) depth 24 fits 4000
+  unfolding fixed_specification check_not_method_class
+  fixed_specification-same v w h = search (numbers_same, not-same) depth 32 fits 4000
 
   indexed_shape-same : (v w x y : Value) → ValueSame sim v w → ValueSame sim x y → SameAnswer sim (indexed_shape M v x) (indexed_shape N w y)
-  unfolding indexed_shape checked_shape
-  indexed_shape-same v w x y h k = search (numbers_same, check_not_method_class-same) depth 32 fits 4000
+  unfolding indexed_shape checked_shape check_not_method_class
+  indexed_shape-same v w x y h k = search (numbers_same, not-same) depth 40 fits 4000
 
   check_objects-same : (v w x y : Value) → ValueSame sim v w → ValueSame sim x y → SameAnswer sim (check_objects M v x) (check_objects N w y)
   unfolding check_objects check_object

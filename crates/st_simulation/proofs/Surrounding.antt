@@ -105,4 +105,4 @@ module _ (f : ℕ → ℕ) where
 
 pub newest-renamed : {H K : Type 0} {M : ObjectMemory H} {N : ObjectMemory K} (sim : Simulation M N) (vs : List Value)
     → newest_of (renamed_all sim.name vs) ≡ renamed_option sim.name (newest_of vs)
-newest-renamed sim vs = ap (λ n. slice_get (renamed_all sim.name vs) (n - 1)) (length-renamed sim.name vs) ∙ get-renamed sim vs (length vs - 1)
+newest-renamed sim vs = ap (λ n. slice_get (renamed_all sim.name vs) (n - 1)) (length-renamed sim.name vs) ∙ get-renamed sim.name vs (length vs - 1)

@@ -1,6 +1,6 @@
 -- A primitive that is called by its number, over a memory: what it leaves, and what is there then.
 use Rattle.std.proofs.Common.{◌≡◌, ◌<◌, ◌≤◌, ◌+◌, ℕ, Bool, true, false, Option, Some, None, refl, sym, ap, subst, ◌∙◌, arith}
-use Rattle.std.specs.Prelude.{◌-◌, ◌&&◌, Ok}
+use Rattle.std.specs.Prelude.{◌&&◌, Ok}
 use Rattle.st_model.specs.declared.dead.Dead.{Dead}
 use Rattle.st_model.specs.declared.dead.Dead.TheVariants as dead
 use Rattle.st_model.specs.declared.deed.Deed.{Deed}
@@ -22,6 +22,7 @@ use Rattle.st_frames.specs.Shown.{shown, registers_of}
 use Rattle.st_step.specs.declared.tried.Tried.{Tried}
 use Rattle.st_step.specs.Trying.{tried_number, is_said_there, names_what_is_there, try_primitive, end_if_any, deed_if_any, outcome_of_trial}
 use Rattle.st_step.proofs.Failing.{failed_still}
+use Rattle.st_step.proofs.Stepped.{from_row}
 
 -- the same is there, whether the table is bounded or not
 bounded_there : (t : Table) (v : Value) → is_there bounded_table t v ≡ is_there table t v
@@ -106,8 +107,9 @@ unfolding try_primitive tried_number look_at_words under get_sp ◌>>=◌ ◌>>�
 too_many p n s few many = rw (check-not_below dead.Sp (5 + n) s.registers.sp s (omega arith)) refl
 
 -- a row that begins with the number that was passed, and with what a memory shows
-pub row_as : (p q n : ℕ) → q ≡ p → (a s : State Table) → a ≡ s → (x : Transition (State Table) (Option Outcome)) → (tried_number bounded_table q n).run a ≡ x → (tried_number bounded_table p n).run s ≡ x
-row_as p q n e a s f x h = subst (λ k. (tried_number bounded_table k n).run s ≡ x) e (subst (λ z. (tried_number bounded_table q n).run z ≡ x) f h)
+pub row_as : (p q n : ℕ) → q ≡ p → (v : View) (f : Frame) (w : World) (r : Words) → registers_in r ≡ registers_of f → r.world.now ≡ w → (x : Transition (State Table) (Option Outcome))
+    → (tried_number bounded_table q n).run (row_state v.objects v.head r) ≡ x → (tried_number bounded_table p n).run (shown v f w) ≡ x
+row_as p q n e v f w r same world x does = subst (λ k. (tried_number bounded_table k n).run (shown v f w) ≡ x) e (from_row (tried_number bounded_table q n) v f w r x same world does)
 
 -- where it failed, the memory is as it was
 module _ (p n : ℕ) (u v : View) (f : Frame) (w : World) (x : Option StepEnd) (r : Words) (none : x ≡ None)

@@ -3,17 +3,19 @@ use Rattle.std.proofs.Common.{◌≡◌, ◌≢◌, ◌<◌, ◌≤◌, ◌+◌,
 use Rattle.std.specs.Prelude.{◌-◌}
 use Rattle.st_model.specs.declared.dead.Dead.{Dead}
 use Rattle.st_model.specs.declared.dead.Dead.TheVariants as dead
-use Rattle.st_model.specs.Values.{Value}
+use Rattle.st_model.specs.Values.{Value, word}
 use Rattle.st_model.specs.declared.page.PageObject.TheVariants.{ArrayClass}
 use Rattle.st_model.specs.Outcomes.{Outcome}
-use Rattle.st_model.specs.Machine.{ObjectMemory, State, Transition, Died, Went, answer, after, ◌>>=◌, ◌>>◌}
-use Rattle.st_model.specs.Steps.{count_fields, get_active, get_sp, top, under}
+use Rattle.st_model.specs.Machine.{ObjectMemory, Head, State, Transition, Died, Went, answer, after, ◌>>=◌, ◌>>◌}
+use Rattle.st_model.specs.Steps.{count_fields, top, under}
 use Rattle.st_model.specs.Primitives.{check_class}
 use Rattle.st_model.specs.Executing.{spread_array, spreading}
 use Rattle.st_model.specs.Table.{Table}
 use Rattle.st_step.specs.Trying.{performs, performs_first, performs_selector, performs_spread, performs_with}
 use Rattle.st_model.proofs.Runs.{check-below, check-not_below, run-tried_went, run-tried_died}
-use Rattle.st_frames.proofs.Doing.{rows}
+use Rattle.st_frames.specs.declared.registers.Registers.{Registers as Words}
+use Rattle.st_frames.specs.Rows.{row_state}
+use Rattle.st_frames.proofs.Doing.{rows, row-memory, row-active, row-sp}
 
 -- 83 that is tried
 pub performs-none : (m : ObjectMemory Table) (n : ℕ) (s : State Table) → n ≡ 0 → (performs_selector m n).run s ≡ Went None s
@@ -40,12 +42,14 @@ module _ (m : ObjectMemory Table) (v w b : Value) (s : State Table)
   spread-fails k e = rw (receiver, selector, array, run-tried_died (spreading m b) s k e) refl
 
 -- the fields of an Array that the active context has room for, or hasn't
-module _ (m : ObjectMemory Table) (b c : Value) (n f sp : ℕ) (s : State Table) (class : (check_class m b ArrayClass).run s ≡ Went tt s) (count : (count_fields m b).run s ≡ Went n s)
-    (active : get_active.run s ≡ Went c s) (fields : (count_fields m c).run s ≡ Went f s) (at : get_sp.run s ≡ Went sp s) where
-  pub spread-fits : sp - 2 + n < f → (spreading m b).run s ≡ Went n s
+module _ (m : ObjectMemory Table) (b : Value) (n f : ℕ) (t : Table) (a : Head) (r : Words) (class : (check_class m b ArrayClass).run (row_state t a r) ≡ Went tt (row_state t a r))
+    (count : (s : State Table) → s.memory ≡ t → (count_fields m b).run s ≡ Went n s) (fields : (s : State Table) → s.memory ≡ t → (count_fields m (word r.active)).run s ≡ Went f s) where
+  pub spread-fits : r.sp - 2 + n < f → (spreading m b).run (row_state t a r) ≡ Went n (row_state t a r)
   unfolding spreading ◌>>=◌ ◌>>◌ after answer
-  spread-fits l = rw (class, count, active, fields, at, check-below dead.Sp (sp - 2 + n) f s l) refl
+  spread-fits l =
+      rw (class, count (row_state t a r) (row-memory t a r), row-active t a r, fields (row_state t a r) (row-memory t a r), row-sp t a r, check-below dead.Sp (r.sp - 2 + n) f (row_state t a r) l) refl
 
-  pub spread-over : f ≤ sp - 2 + n → (spreading m b).run s ≡ Died dead.Sp
+  pub spread-over : f ≤ r.sp - 2 + n → (spreading m b).run (row_state t a r) ≡ Died dead.Sp
   unfolding spreading ◌>>=◌ ◌>>◌ after answer
-  spread-over l = rw (class, count, active, fields, at, check-not_below dead.Sp (sp - 2 + n) f s l) refl
+  spread-over l =
+      rw (class, count (row_state t a r) (row-memory t a r), row-active t a r, fields (row_state t a r) (row-memory t a r), row-sp t a r, check-not_below dead.Sp (r.sp - 2 + n) f (row_state t a r) l) refl

@@ -1,6 +1,6 @@
 -- A row over a memory and its registers: what it begins with, and what it leaves.
-use Rattle.std.proofs.Common.{◌≡◌, ◌<◌, ℕ, true, Ok, Err, refl, sym, ap, subst, ◌∙◌}
-use Rattle.std.specs.Prelude.{if◌then◌else◌, ◌/◌, ◌%◌, ◌==◌, ◌&&◌, Result, ◌+◌, length}
+use Rattle.std.proofs.Common.{◌≡◌, true, Ok, Err, refl, sym, ap, subst, ◌∙◌}
+use Rattle.std.specs.Prelude.{Result, ◌+◌, length}
 use Rattle.st_model.specs.declared.dead.Dead.{Dead}
 use Rattle.st_model.specs.declared.demand.Demand.{Demand}
 use Rattle.st_model.specs.declared.deed.Deed.{Deed}
@@ -10,7 +10,7 @@ use Rattle.st_model.specs.declared.word.Word.{Word}
 use Rattle.st_model.specs.Values.{word, IsLive}
 use Rattle.st_model.specs.Objects.{one, words_of}
 use Rattle.st_model.specs.Outcomes.{Outcome, end_of}
-use Rattle.st_model.specs.Machine.{World, Head, State, Transition, Died, Went, is_there, used}
+use Rattle.st_model.specs.Machine.{World, Head, State, Step, Transition, Died, Went, is_there, used}
 use Rattle.st_model.specs.Births.{Births, births}
 use Rattle.st_model.specs.Steps.{are_there}
 use Rattle.st_model.specs.Table.{Table, table, apart, bounded_table, total_used}
@@ -19,7 +19,7 @@ use Rattle.st_model.specs.Deeds.{deed_of_end, deed_done, world_done}
 use Rattle.st_model.specs.Bytecodes.{step}
 use Rattle.st_model.specs.Show.{IsUsed}
 use Rattle.st_model.specs.Foreseen.{Foretells}
-use Rattle.st_model.specs.View.{View, Held, IsWhole}
+use Rattle.st_model.specs.View.{View, IsWhole}
 use Rattle.st_simulation.proofs.HeapsSame.{same_used}
 use Rattle.st_simulation.proofs.Started.{naming, heaps_start}
 use Rattle.st_simulation.proofs.CyclesShown.{foretells}
@@ -29,11 +29,16 @@ use Rattle.st_frames.specs.declared.frame.Frame.{Frame}
 use Rattle.st_frames.specs.declared.registers.Registers.{Registers as Words}
 use Rattle.st_frames.specs.Narrow.{IsNarrow}
 use Rattle.st_frames.specs.Rows.{row_state, registers_in, with_left}
-use Rattle.st_frames.specs.Shown.{shown, registers_of, IsFrame, IsReady}
-use Rattle.st_frames.specs.Naming as world
+use Rattle.st_frames.specs.Shown.{shown, registers_of, IsReady}
 use Rattle.st_frames.proofs.Closed.{is_closed}
+use Rattle.st_frames.proofs.Stored.{loaded}
 use Rattle.st_step.specs.Planned.{PlansOver, Plans, PlansBirths, plus}
 use Rattle.st_frames.proofs.There.{word_there, all_four}
+
+-- a row that begins with what a memory shows
+pub from_row : {A : Type 0} (m : Step Table A) (v : View) (f : Frame) (w : World) (r : Words) (x : Transition (State Table) A) → registers_in r ≡ registers_of f → r.world.now ≡ w
+    → m.run (row_state v.objects v.head r) ≡ x → m.run (shown v f w) ≡ x
+from_row m v f w r x same world does = ap (λ (s : State Table). m.run s) (sym (loaded v f w r same world)) ∙ does
 
 -- what a plan says
 
@@ -99,22 +104,6 @@ done_after u h z f w x r end d e same world objects head done head_done changed 
     let o : z.objects ≡ deed_done (deed_of_end end) u.objects = done ∙ (λ i. deed_done (e i) (objects i)) in
     let c : x ≡ world_done (deed_of_end end) u.objects r.world.now = changed ∙ (λ i. world_done (e i) (objects i) (sym world i)) in
     λ i. record { memory = sym o i; registers = sym same i; world = sym c i; head = sym (head_done ∙ head) i }
-
--- the registers are held as before, and what the world names is held again
-pub ready_after : (h z : View) (f : Frame) (x : World) → IsFrame h f → z.held ≡ world.naming h.held x → IsReady z f x
-ready_after h z f x frame e = record {
-  frame = record {
-    active = frame.active ∙ sym (ap (λ (y : Held). y.active) e);
-    home = frame.home ∙ sym (ap (λ (y : Held). y.home) e);
-    method = frame.method ∙ sym (ap (λ (y : Held). y.method) e);
-    receiver = frame.receiver ∙ sym (ap (λ (y : Held). y.receiver) e);
-    ip_low = frame.ip_low;
-    ip_high = frame.ip_high;
-    sp_low = frame.sp_low;
-    sp_high = frame.sp_high;
-  };
-  devices = ap (λ (y : Held). y.devices) e;
-}
 
 pub there_after : (v : View) (f : Frame) (world : World) (t : Table) (a : Head) (r : Words) (end : StepEnd) → IsWhole v → IsReady v f world
     → (step bounded_table).run (shown v f world) ≡ Went (end_of end) (with_left deed_of_end (Ok end) (row_state t a r)) → are_there table t (registers_in r) ≡ true

@@ -1,12 +1,12 @@
 -- What a plan of the next bytecode says, and how a step of it ends.
-use Rattle.std.specs.Prelude.{◌≡◌, ◌+◌, Result, Ok, Err, false}
+use Rattle.std.specs.Prelude.{◌≡◌, ◌+◌, Result, Ok, Err}
 use Rattle.st_model.specs.declared.dead.Dead.{Dead}
 use Rattle.st_model.specs.declared.demand.Demand.{Demand}
 use Rattle.st_model.specs.declared.outcome.Outcome.{Outcome as CodeOutcome}
 use Rattle.st_model.specs.Values.{Value}
 use Rattle.st_model.specs.Outcomes.{Outcome, outcome_of}
 use Rattle.st_model.specs.Outcomes as outcome
-use Rattle.st_model.specs.Machine.{ObjectMemory, World, State, Transition, Died, Went, used, is_over}
+use Rattle.st_model.specs.Machine.{ObjectMemory, World, State, Transition, Died, Went, used}
 use Rattle.st_model.specs.Steps.{top}
 use Rattle.st_model.specs.Births.{Births, births}
 use Rattle.st_model.specs.Table.{Table, apart, bounded_table}

@@ -26,7 +26,8 @@ fn are_there<M: Memory>(m: &M, r: &Registers) -> bool
 fn trial_of<M: Memory>(m: &M, ended: Option<StepEnd>) -> Result<Tried, Dead>
     ensures same { IfOk result (λ t. outcome_of_trial t ≡ end_if_any ended) }
     ensures there { IfOk result (λ t. is_said_there table (M.view m.now).objects (end_if_any ended) ≡ true) }
-    ensures gone { IfErr result (λ k. is_said_there table (M.view m.now).objects (end_if_any ended) ≡ false) }
+    ensures gone { IfErr result
+        (λ k. is_said_there table (M.view m.now).objects (end_if_any ended) ≡ false) }
     ensures cause { IfErr result (λ k. k ≡ Kind) }
 {
     match ended {

@@ -3,16 +3,16 @@ ghost use Rattle.st_model.specs.{Outcomes.end_of, Deeds.deed_of_end, Sends.{call
 ghost use Rattle.st_model.specs.Executing.{execute, execute_if_any};
 ghost use Rattle.st_frames.specs.Rows.{RowLeaves, Takes, execution_changes};
 
-use crate::flags::by_flag;
-use crate::respond::respond_or_perform;
-use st_control::method_primitive;
+use crate::flags::{activated, by_flag};
+use crate::numbers::by_number;
+use st_control::{Called, method_primitive};
 use st_frames::Registers;
 use st_memory::Objects;
 use st_method::Header;
 use st_model::{Call, Dead, Deed, StepEnd};
 
 /// Executes the method that was called.
-#[tactic(auto, using(st_frames::proofs::Doing::rows), unfolding(st_model::specs::Executing::execute, st_model::specs::Executing::execute_by, st_model::specs::Executing::respond_by_extension, crate::specs::Responding::by_flag))]
+#[tactic(auto, using(crate::proofs::Executes::responses), unfolding(st_model::specs::Executing::execute, st_model::specs::Executing::execute_by, st_model::specs::Executing::respond_by_extension, crate::specs::Responding::by_flag, crate::specs::Trying::or_activated))]
 pub fn execute<O: Objects>(m: &mut O, r: &mut Registers, call: Call) -> Result<StepEnd, Dead>
     requires room { execution_changes ≤ O.room m.old }
     ensures does { RowLeaves O.Objects.own (execute O.names (call_of call))
@@ -20,12 +20,14 @@ pub fn execute<O: Objects>(m: &mut O, r: &mut Registers, call: Call) -> Result<S
     ensures takes { Takes O.Objects.own execution_changes m.old m.new }
 {
     let header = Header(m.method_header(call.method)?);
-    let flag = header.flag();
-    if flag == 7 {
-        let primitive = method_primitive(m, r, call.method)?;
-        respond_or_perform(m, r, call, header, primitive)
-    } else {
-        by_flag(m, r, call, header, flag)
+    let called = Called { call, header };
+    if header.flag() != 7 {
+        return by_flag(m, r, called);
+    }
+    let primitive = method_primitive(m, r, call.method)?;
+    match by_number(m, r, primitive, call.arguments)? {
+        Some(end) => Ok(end),
+        None => activated(m, r, called),
     }
 }
 

@@ -9,7 +9,6 @@ mod jump;
 mod laws;
 mod numbers;
 mod perform;
-mod respond;
 mod returns;
 mod rows;
 mod send;

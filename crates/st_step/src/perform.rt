@@ -1,16 +1,17 @@
 ghost use Rattle.std.specs.Prelude.{◌≡◌, ◌<◌, ◌≤◌, ◌+◌, IfOk};
-ghost use Rattle.st_model.specs.{Values.word, Outcomes.end_of, Deeds.deed_of_end};
-ghost use Rattle.st_model.specs.Executing.{takes, execute_found, drop_selector, spread_array, spreading};
+ghost use Rattle.st_model.specs.{Values.word, Outcomes.end_of, Deeds.deed_of_end, Sends.call_of};
+ghost use Rattle.st_model.specs.Executing.{takes, execute_performed, execute_found, drop_selector, spread_array, spreading};
 ghost use Rattle.st_model.specs.Calls.{itself};
 ghost use Rattle.st_step.specs.Trying.{performs, performs_selector, performs_with, end_if_any, deed_if_any, number_changes};
 ghost use Rattle.st_lookup.specs.Places.{found_word};
 ghost use Rattle.st_frames.specs.Rows.{RowReads, RowDoes, RowLeaves, Takes, send_changes, response_changes, execution_changes};
 
-use crate::flags::execute_performed;
-use st_control::{find_method, not_understood};
+use crate::flags::{activated, by_flag};
+use crate::numbers::number_that_responds;
+use st_control::{Called, Sent, find_method, method_primitive, not_understood};
 use st_frames::{Registers, check_class, drop_words, set_stack_pointer, top, under};
 use st_memory::Objects;
-use st_method::method_arguments;
+use st_method::{Header, method_arguments};
 use st_model::{Call, Dead, PageObject, StepEnd, Word};
 
 /// Whether the method takes n arguments, where one was found; where none was, whatever is given is taken.
@@ -27,20 +28,37 @@ fn takes<O: Objects>(m: &O, r: &Registers, n: u32, found: Option<Word>) -> Resul
     }
 }
 
+/// Executes the method that primitive 83 or 84 performs: of its primitives these two fail.
+#[tactic(auto, using(crate::proofs::Executes::responses), unfolding(st_model::specs::Executing::execute_performed, st_model::specs::Executing::execute_by, st_model::specs::Executing::respond_by_extension, crate::specs::Responding::by_flag, crate::specs::Trying::or_activated))]
+fn execute_performed<O: Objects>(m: &mut O, r: &mut Registers, call: Call) -> Result<StepEnd, Dead>
+    requires room { response_changes ≤ O.room m.old }
+    ensures does { RowLeaves O.Objects.own (execute_performed O.names (call_of call))
+        end_of deed_of_end m.old r.old result m.new r.new }
+    ensures takes { Takes O.Objects.own response_changes m.old m.new }
+{
+    let header = Header(m.method_header(call.method)?);
+    let called = Called { call, header };
+    if header.flag() != 7 {
+        return by_flag(m, r, called);
+    }
+    let primitive = method_primitive(m, r, call.method)?;
+    match number_that_responds(m, r, primitive, call.arguments)? {
+        Some(end) => Ok(end),
+        None => activated(m, r, called),
+    }
+}
+
 /// Executes the method with the n arguments at the top, or tells that the selector isn't understood.
 #[tactic(auto, using(st_frames::proofs::Doing::rows), unfolding(st_model::specs::Executing::execute_found))]
 fn execute_found<O: Objects>(
     m: &mut O,
     r: &mut Registers,
-    class: Word,
-    selector: Word,
-    n: u32,
+    sent: Sent,
     found: Option<Word>,
 ) -> Result<StepEnd, Dead>
-    requires few { n < 16384 }
     requires room { send_changes + response_changes ≤ O.room m.old }
     ensures does { RowLeaves O.Objects.own
-        (execute_found O.names (word class) (word selector) n (found_word found))
+        (execute_found O.names (word sent.class) (word sent.selector) sent.arguments (found_word found))
         end_of deed_of_end m.old r.old result m.new r.new }
     ensures takes { Takes O.Objects.own (send_changes + response_changes) m.old m.new }
 {
@@ -50,11 +68,11 @@ fn execute_found<O: Objects>(
             r,
             Call {
                 method,
-                arguments: n,
+                arguments: sent.arguments,
             },
         ),
         None => {
-            let call = not_understood(m, r, class, selector, n)?;
+            let call = not_understood(m, r, sent)?;
             execute_performed(m, r, call)
         }
     }
@@ -131,7 +149,12 @@ fn performs_above<O: Objects>(
         return Ok(None);
     }
     drop_selector(m, r, n)?;
-    let end = execute_found(m, r, class, selector, n, found)?;
+    let sent = Sent {
+        class,
+        selector,
+        arguments: n,
+    };
+    let end = execute_found(m, r, sent, found)?;
     Ok(Some(end))
 }
 
@@ -182,7 +205,12 @@ fn performs_fields<O: Objects>(
         return Ok(None);
     }
     spread_array(m, r, array, n)?;
-    let end = execute_found(m, r, class, selector, n, found)?;
+    let sent = Sent {
+        class,
+        selector,
+        arguments: n,
+    };
+    let end = execute_found(m, r, sent, found)?;
     Ok(Some(end))
 }
 

@@ -1,40 +1,23 @@
 ghost use Rattle.std.specs.Prelude.{◌≡◌, ◌≤◌, ◌+◌};
 ghost use Rattle.st_model.specs.{Values.word, Outcomes.end_of, Deeds.deed_of_end, Executing.executed_if_any};
-ghost use Rattle.st_model.specs.Bytecodes.{return_receiver, return_constant, return_top_to_sender, return_top_to_caller};
+ghost use Rattle.st_model.specs.{Bytecodes.{return_top_to_sender, return_top_to_caller}, Returns.return_to_sender};
 ghost use Rattle.st_frames.specs.Rows.{RowLeaves, Takes, executed_return_changes};
 
 use crate::execute::execute_if_any;
-use st_control::{constant_value, return_to_caller, return_to_sender};
+use st_control::return_past;
 use st_frames::{Registers, pop};
 use st_memory::Objects;
-use st_model::{Constant, Dead, StepEnd};
+use st_model::{Dead, StepEnd, Word};
 
-/// Returns the receiver to the sender.
-#[tactic(auto, using(st_frames::proofs::Doing::rows), unfolding(st_model::specs::Bytecodes::return_receiver, st_model::specs::Executing::executed_if_any))]
-pub fn return_receiver<O: Objects>(m: &mut O, r: &mut Registers) -> Result<StepEnd, Dead>
+/// Returns a word to the sender, and executes what is called.
+#[tactic(auto, using(st_control::proofs::Returning::returning), unfolding(st_model::specs::Executing::executed_if_any))]
+pub fn return_word<O: Objects>(m: &mut O, r: &mut Registers, x: Word) -> Result<StepEnd, Dead>
     requires room { executed_return_changes ≤ O.room m.old }
-    ensures does { RowLeaves O.Objects.own (executed_if_any O.names (return_receiver O.names))
+    ensures does { RowLeaves O.Objects.own (executed_if_any O.names (return_to_sender O.names (word x)))
         end_of deed_of_end m.old r.old result m.new r.new }
     ensures takes { Takes O.Objects.own executed_return_changes m.old m.new }
 {
-    let call = return_to_sender(m, r, r.receiver)?;
-    execute_if_any(m, r, call)
-}
-
-/// Returns a constant to the sender.
-#[tactic(auto, using(st_frames::proofs::Doing::rows), unfolding(st_model::specs::Bytecodes::return_constant, st_model::specs::Executing::executed_if_any))]
-pub fn return_constant<O: Objects>(
-    m: &mut O,
-    r: &mut Registers,
-    constant: Constant,
-) -> Result<StepEnd, Dead>
-    requires room { executed_return_changes ≤ O.room m.old }
-    ensures does { RowLeaves O.Objects.own (executed_if_any O.names (return_constant O.names constant))
-        end_of deed_of_end m.old r.old result m.new r.new }
-    ensures takes { Takes O.Objects.own executed_return_changes m.old m.new }
-{
-    let x = constant_value(m, r, constant);
-    let call = return_to_sender(m, r, x)?;
+    let call = return_past(m, r, r.home, x)?;
     execute_if_any(m, r, call)
 }
 
@@ -47,12 +30,11 @@ pub fn return_top_to_sender<O: Objects>(m: &mut O, r: &mut Registers) -> Result<
     ensures takes { Takes O.Objects.own executed_return_changes m.old m.new }
 {
     let x = pop(m, r)?;
-    let call = return_to_sender(m, r, x)?;
-    execute_if_any(m, r, call)
+    return_word(m, r, x)
 }
 
 /// Pops, and returns the word to the caller.
-#[tactic(auto, using(st_frames::proofs::Doing::rows), unfolding(st_model::specs::Bytecodes::return_top_to_caller, st_model::specs::Executing::executed_if_any))]
+#[tactic(auto, using(st_control::proofs::Returning::returning), unfolding(st_model::specs::Bytecodes::return_top_to_caller, st_model::specs::Executing::executed_if_any))]
 pub fn return_top_to_caller<O: Objects>(m: &mut O, r: &mut Registers) -> Result<StepEnd, Dead>
     requires room { executed_return_changes ≤ O.room m.old }
     ensures does { RowLeaves O.Objects.own (executed_if_any O.names (return_top_to_caller O.names))
@@ -60,6 +42,6 @@ pub fn return_top_to_caller<O: Objects>(m: &mut O, r: &mut Registers) -> Result<
     ensures takes { Takes O.Objects.own executed_return_changes m.old m.new }
 {
     let x = pop(m, r)?;
-    let call = return_to_caller(m, r, x)?;
+    let call = return_past(m, r, r.active, x)?;
     execute_if_any(m, r, call)
 }

@@ -4,24 +4,22 @@ ghost use Rattle.st_model.specs.Bytecodes.{bytecode, step};
 ghost use Rattle.st_frames.specs.Rows.{RowLeaves, Takes, bytecode_changes};
 
 use crate::jump::{long_conditional_jump, short_jump_on_false};
-use crate::returns::{
-    return_constant, return_receiver, return_top_to_caller, return_top_to_sender,
-};
+use crate::returns::{return_top_to_caller, return_top_to_sender, return_word};
 use crate::send::{
     arithmetic_send, double_extended_send, double_extended_super_send, extended_send,
     extended_super_send, primitive_send, send_literal_selector, send_special_selector,
 };
 use st_control::{
-    duplicate_top, extended_push, extended_store, extended_store_and_pop, long_unconditional_jump,
-    pop_stack, push_active_context, push_constant, push_operand, push_receiver,
-    short_unconditional_jump, store_and_pop,
+    constant_value, duplicate_top, extended_push, extended_store, extended_store_and_pop,
+    long_unconditional_jump, pop_stack, push_active_context, push_constant, push_operand,
+    push_receiver, short_unconditional_jump, store_and_pop,
 };
 use st_frames::{Registers, next_byte};
 use st_memory::Objects;
 use st_model::{Bytecode, Dead, Deed, PageObject, StepEnd, decode};
 
 /// Does the row of a bytecode.
-#[tactic(auto, using(st_frames::proofs::Doing::rows), unfolding(st_model::specs::Bytecodes::bytecode, st_model::specs::Bytecodes::long_jump_on_true, st_model::specs::Bytecodes::long_jump_on_false, crate::specs::Jumping::long_conditional_jump, st_model::specs::Executing::goes_on))]
+#[tactic(auto, using(st_frames::proofs::Doing::rows), unfolding(st_model::specs::Bytecodes::bytecode, st_model::specs::Bytecodes::long_jump_on_true, st_model::specs::Bytecodes::long_jump_on_false, crate::specs::Jumping::long_conditional_jump, st_model::specs::Executing::goes_on, st_model::specs::Bytecodes::return_receiver, st_model::specs::Bytecodes::return_constant, st_model::specs::Executing::executed_if_any))]
 fn bytecode<O: Objects>(m: &mut O, r: &mut Registers, code: Bytecode) -> Result<StepEnd, Dead>
     requires numbered { IsNumbered code }
     requires room { bytecode_changes ≤ O.room m.old }
@@ -34,8 +32,11 @@ fn bytecode<O: Objects>(m: &mut O, r: &mut Registers, code: Bytecode) -> Result<
         Bytecode::StoreAndPop(operand) => store_and_pop(m, r, operand)?,
         Bytecode::PushReceiver => push_receiver(m, r)?,
         Bytecode::PushConstant(constant) => push_constant(m, r, constant)?,
-        Bytecode::ReturnReceiver => return return_receiver(m, r),
-        Bytecode::ReturnConstant(constant) => return return_constant(m, r, constant),
+        Bytecode::ReturnReceiver => return return_word(m, r, r.receiver),
+        Bytecode::ReturnConstant(constant) => {
+            let x = constant_value(m, r, constant);
+            return return_word(m, r, x);
+        }
         Bytecode::ReturnTopToSender => return return_top_to_sender(m, r),
         Bytecode::ReturnTopToCaller => return return_top_to_caller(m, r),
         Bytecode::Unused => return Err(Dead::Code),

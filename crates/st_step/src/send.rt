@@ -1,7 +1,7 @@
 ghost use Rattle.std.specs.Prelude.{◌≡◌, ◌<◌, ◌≤◌, ◌+◌};
 ghost use Rattle.st_model.specs.{Values.word, Outcomes.end_of, Deeds.deed_of_end};
 ghost use Rattle.st_model.specs.{Sends.{call_of, special_send}, Executing.executed};
-ghost use Rattle.st_model.specs.Bytecodes.{send_literal, send_literal_to_super, extended_send, double_extended_send, extended_super_send, double_extended_super_send, or_send, arithmetic_by, arithmetic_send, primitive_send};
+ghost use Rattle.st_model.specs.Bytecodes.{send_literal, extended_send, double_extended_send, extended_super_send, double_extended_super_send, or_send, arithmetic_by, arithmetic_send, primitive_send};
 ghost use Rattle.st_model.specs.{Arithmetic.arithmetic, Blocks.{primitive_block_copy, primitive_value}};
 ghost use Rattle.st_frames.specs.Rows.{RowDoes, RowLeaves, Takes, send_changes, executed_send_changes};
 
@@ -24,24 +24,6 @@ fn send_literal<O: Objects>(m: &mut O, r: &mut Registers, i: u32, n: u32) -> Res
 {
     let selector = fetch_literal_constant(m, r, i)?;
     send(m, r, selector, n)
-}
-
-/// Sends literal i with n arguments to super.
-#[tactic(auto, using(st_frames::proofs::Doing::rows), unfolding(st_model::specs::Bytecodes::send_literal_to_super))]
-fn send_literal_to_super<O: Objects>(
-    m: &mut O,
-    r: &mut Registers,
-    i: u32,
-    n: u32,
-) -> Result<Call, Dead>
-    requires few { n < 256 }
-    requires room { send_changes ≤ O.room m.old }
-    ensures does { RowDoes O.Objects.own (send_literal_to_super O.names i n) call_of m.old r.old
-        result m.new r.new }
-    ensures takes { Takes O.Objects.own send_changes m.old m.new }
-{
-    let selector = fetch_literal_constant(m, r, i)?;
-    send_to_super(m, r, selector, n)
 }
 
 /// Sends the literal that the next byte names, with as many arguments as it says.
@@ -72,7 +54,7 @@ pub fn double_extended_send<O: Objects>(m: &mut O, r: &mut Registers) -> Result<
 }
 
 /// Sends the literal that the next byte names to super, with as many arguments as it says.
-#[tactic(auto, using(st_frames::proofs::Doing::rows), unfolding(st_model::specs::Bytecodes::extended_super_send, st_model::specs::Executing::executed))]
+#[tactic(auto, using(st_frames::proofs::Doing::rows), unfolding(st_model::specs::Bytecodes::extended_super_send, st_model::specs::Bytecodes::send_literal_to_super, st_model::specs::Executing::executed))]
 pub fn extended_super_send<O: Objects>(m: &mut O, r: &mut Registers) -> Result<StepEnd, Dead>
     requires room { executed_send_changes ≤ O.room m.old }
     ensures does { RowLeaves O.Objects.own (executed O.names (extended_super_send O.names))
@@ -80,12 +62,13 @@ pub fn extended_super_send<O: Objects>(m: &mut O, r: &mut Registers) -> Result<S
     ensures takes { Takes O.Objects.own executed_send_changes m.old m.new }
 {
     let byte = next_byte(m, r)?;
-    let call = send_literal_to_super(m, r, u32::from(byte % 32), u32::from(byte / 32))?;
+    let selector = fetch_literal_constant(m, r, u32::from(byte % 32))?;
+    let call = send_to_super(m, r, selector, u32::from(byte / 32))?;
     execute(m, r, call)
 }
 
 /// Sends the literal of the second byte to super, with as many arguments as the first says.
-#[tactic(auto, using(st_frames::proofs::Doing::rows), unfolding(st_model::specs::Bytecodes::double_extended_super_send, st_model::specs::Executing::executed))]
+#[tactic(auto, using(st_frames::proofs::Doing::rows), unfolding(st_model::specs::Bytecodes::double_extended_super_send, st_model::specs::Bytecodes::send_literal_to_super, st_model::specs::Executing::executed))]
 pub fn double_extended_super_send<O: Objects>(m: &mut O, r: &mut Registers) -> Result<StepEnd, Dead>
     requires room { executed_send_changes ≤ O.room m.old }
     ensures does { RowLeaves O.Objects.own (executed O.names (double_extended_super_send O.names))
@@ -94,7 +77,8 @@ pub fn double_extended_super_send<O: Objects>(m: &mut O, r: &mut Registers) -> R
 {
     let arguments = next_byte(m, r)?;
     let literal = next_byte(m, r)?;
-    let call = send_literal_to_super(m, r, u32::from(literal), u32::from(arguments))?;
+    let selector = fetch_literal_constant(m, r, u32::from(literal))?;
+    let call = send_to_super(m, r, selector, u32::from(arguments))?;
     execute(m, r, call)
 }
 

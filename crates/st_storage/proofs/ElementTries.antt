@@ -1,13 +1,16 @@
 -- Primitives that read and store elements, whose conditions hold.
 use Rattle.std.proofs.Common.{◌≡◌, ℕ, Bool}
 use Rattle.std.specs.Prelude.{ℤ}
+use Rattle.st_model.specs.declared.dead.Dead.{Dead}
 use Rattle.st_model.specs.Values.{Value}
-use Rattle.st_model.specs.Machine.{ObjectMemory, State, Transition, Went, after, ◌>>=◌}
+use Rattle.st_model.specs.Machine.{ObjectMemory, State, Transition, Died, Went, after, ◌>>=◌}
 use Rattle.st_model.specs.Table.{Table}
 use Rattle.st_model.specs.Steps.{top, under}
-use Rattle.st_model.specs.Primitives.{number_of}
+use Rattle.st_model.specs.Primitives.{primitive, number_of}
 use Rattle.st_model.specs.Storage.{count_elements, fetch_element, place_at, place_behind_fixed, store_and_answer, storing_behind_fixed, storing_by_index, storing_character, primitive_at, primitive_at_put, primitive_instance_variable_at, primitive_instance_variable_at_put, primitive_size, primitive_string_at_put, Storing}
 use Rattle.st_frames.specs.Answering.{succeed_by}
+use Rattle.st_storage.specs.Storing.{put_operands}
+use Rattle.st_storage.proofs.PutTries.{ungiven}
 use Rattle.st_frames.proofs.Tries.{primitive-done}
 
 pub tried-at : (m : ObjectMemory Table) (v w : Value) (a : ℕ) (s : State Table) (y : Transition (State Table) Bool) → (under m 1).run s ≡ Went v s → (top m).run s ≡ Went w s
@@ -45,3 +48,15 @@ pub tried-string_at_put : (m : ObjectMemory Table) (v w x : Value) (a : Storing)
     → (primitive_string_at_put m).run s ≡ y
 unfolding primitive_string_at_put ◌>>=◌ after
 tried-string_at_put m v w x a s y e0 e1 e2 h k = rw (e0, e1, e2) (primitive-done m 2 (storing_character m v w x) (λ (a : Storing). store_and_answer m v x a) s a y h k)
+
+pub died-at_put : (m : ObjectMemory Table) (k : Dead) (s : State Table) → (put_operands m).run s ≡ Died k → (primitive_at_put m).run s ≡ Died k
+unfolding primitive_at_put
+died-at_put m k s e = ungiven m (λ v w x. primitive m 2 (storing_behind_fixed m v w x) (λ a. store_and_answer m v x a)) k s e
+
+pub died-instance_variable_at_put : (m : ObjectMemory Table) (k : Dead) (s : State Table) → (put_operands m).run s ≡ Died k → (primitive_instance_variable_at_put m).run s ≡ Died k
+unfolding primitive_instance_variable_at_put
+died-instance_variable_at_put m k s e = ungiven m (λ v w x. primitive m 2 (storing_by_index m v w x) (λ a. store_and_answer m v x a)) k s e
+
+pub died-string_at_put : (m : ObjectMemory Table) (k : Dead) (s : State Table) → (put_operands m).run s ≡ Died k → (primitive_string_at_put m).run s ≡ Died k
+unfolding primitive_string_at_put
+died-string_at_put m k s e = ungiven m (λ v w x. primitive m 2 (storing_character m v w x) (λ a. store_and_answer m v x a)) k s e

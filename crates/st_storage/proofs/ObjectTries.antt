@@ -13,7 +13,7 @@ use Rattle.st_frames.specs.declared.registers.Registers.{Registers as Words}
 use Rattle.st_frames.specs.Rows.{row_state}
 use Rattle.st_frames.proofs.Doing.{row-memory, row-head, row-stored}
 use Rattle.st_frames.specs.Answering.{succeed_by, succeed_with}
-use Rattle.st_frames.proofs.Tries.{primitive-failed, primitive-done, primitive-small}
+use Rattle.st_frames.proofs.Tries.{primitive-failed, primitive-died, primitive-done, primitive-held, primitive-small}
 
 pub tried-new : (m : ObjectMemory Table) (v : Value) (a : ℕ) (s : State Table) (y : Transition (State Table) Bool) → (top m).run s ≡ Went v s
     → (fixed_specification m v).run s ≡ Went a s → (succeed_by m 0 (make m v (kind_of_fixed a) (fixed_count a) 0)).run s ≡ y
@@ -50,11 +50,16 @@ unfolding primitive_oops_left
 tried-oops_left m d s y h k = primitive-done m 0 (get_free m) (λ (a : Demand). number m a.entries) s d y h k
 
 -- bytes that are replaced
-pub tried-replace : (m : ObjectMemory Table) (v w x u z : Value) (a : Replacing) (s : State Table) (y : Transition (State Table) Bool) → (under m 4).run s ≡ Went v s → (under m 3).run s ≡ Went w s
-    → (under m 2).run s ≡ Went x s → (under m 1).run s ≡ Went u s → (top m).run s ≡ Went z s → (replacing m v w x u z).run s ≡ Went a s → (succeed_by m 4 (replace_and_answer m v u a)).run s ≡ y
+pub tried-replace : (m : ObjectMemory Table) (v w x u z o : Value) (a : Replacing) (s t : State Table) (y : Transition (State Table) Bool) → (under m 4).run s ≡ Went v s → (under m 3).run s ≡ Went w s
+    → (under m 2).run s ≡ Went x s → (under m 1).run s ≡ Went u s → (top m).run s ≡ Went z s → (replacing m v w x u z).run s ≡ Went a s → (replace_and_answer m v u a).run s ≡ Went o t → (succeed_with m 4 o).run t ≡ y
     → (primitive_replace m).run s ≡ y
 unfolding primitive_replace ◌>>=◌ after
-tried-replace m v w x u z a s y e f g i j h k = rw (e, f, g, i, j) (primitive-done m 4 (replacing m v w x u z) (λ (a : Replacing). replace_and_answer m v u a) s a y h k)
+tried-replace m v w x u z o a s t y e f g i j h d k = rw (e, f, g, i, j) (primitive-held m 4 (replacing m v w x u z) (λ (a : Replacing). replace_and_answer m v u a) s a o t y h d k)
+
+pub lost-replace : (m : ObjectMemory Table) (v w x u z : Value) (a : Replacing) (s : State Table) (c : Dead) → (under m 4).run s ≡ Went v s → (under m 3).run s ≡ Went w s → (under m 2).run s ≡ Went x s
+    → (under m 1).run s ≡ Went u s → (top m).run s ≡ Went z s → (replacing m v w x u z).run s ≡ Went a s → (replace_and_answer m v u a).run s ≡ Died c → (primitive_replace m).run s ≡ Died c
+unfolding primitive_replace ◌>>=◌ after
+lost-replace m v w x u z a s c e f g i j h d = rw (e, f, g, i, j) (primitive-died m 4 (replacing m v w x u z) (λ (a : Replacing). replace_and_answer m v u a) s a c h d)
 
 pub died-replace : (m : ObjectMemory Table) (v w x u : Value) (s : State Table) (c : Dead) → (under m 4).run s ≡ Went v s → (under m 3).run s ≡ Went w s → (under m 2).run s ≡ Went x s
     → (under m 1).run s ≡ Went u s → (top m).run s ≡ Died c → (primitive_replace m).run s ≡ Died c

@@ -5,6 +5,7 @@ ghost use Rattle.st_model.specs.Storage.{count_literals, first_place, place_of_e
 ghost use Rattle.st_frames.specs.Rows.{RowReads};
 
 use crate::numbers::fixed_fields;
+use crate::shapes::Indexed;
 use st_frames::{Registers, bits_or_die, positive_small};
 use st_memory::Objects;
 use st_model::{Dead, Word};
@@ -64,34 +65,23 @@ pub fn place_of_element<O: Objects>(
 
 /// The place that an index names.
 #[tactic(auto, using(st_frames::proofs::Doing::rows), unfolding(st_model::specs::Storage::place_at))]
-pub fn place_at<O: Objects>(
-    m: &O,
-    r: &Registers,
-    v: Word,
-    fixed: u32,
-    index: Word,
-) -> Result<u32, Dead>
+pub fn place_at<O: Objects>(m: &O, r: &Registers, x: Indexed, fixed: u32) -> Result<u32, Dead>
     requires fixed { fixed < 2048 }
-    ensures does { RowReads O.Objects.own (place_at O.names (word v) fixed (word index))
+    ensures does { RowReads O.Objects.own (place_at O.names (word x.object) fixed (word x.index))
         itself m.now r.now result }
 {
-    let i = positive_small(m, r, index)?;
-    place_of_element(m, r, v, fixed, i)
+    let i = positive_small(m, r, x.index)?;
+    place_of_element(m, r, x.object, fixed, i)
 }
 
 /// The place that an index names behind the fixed fields.
 #[tactic(auto, using(st_frames::proofs::Doing::rows), unfolding(st_model::specs::Storage::place_behind_fixed))]
-pub fn place_behind_fixed<O: Objects>(
-    m: &O,
-    r: &Registers,
-    v: Word,
-    index: Word,
-) -> Result<u32, Dead>
-    ensures does { RowReads O.Objects.own (place_behind_fixed O.names (word v) (word index))
+pub fn place_behind_fixed<O: Objects>(m: &O, r: &Registers, x: Indexed) -> Result<u32, Dead>
+    ensures does { RowReads O.Objects.own (place_behind_fixed O.names (word x.object) (word x.index))
         itself m.now r.now result }
 {
-    let fixed = fixed_fields(m, r, v)?;
-    place_at(m, r, v, fixed, index)
+    let fixed = fixed_fields(m, r, x.object)?;
+    place_at(m, r, x, fixed)
 }
 
 /// How many elements an object has; below 0 where it has fewer fields than its class says.

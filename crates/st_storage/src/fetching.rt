@@ -7,36 +7,33 @@ ghost use Rattle.st_frames.specs.Rows.{RowLeaves, Takes};
 
 use crate::elements::{count_elements, place_at, place_behind_fixed};
 use crate::large::answer_integer;
+use crate::shapes::{Indexed, Placed};
 use st_frames::{Answer, Registers, number, small, succeed_leaving, top, under};
 use st_memory::Objects;
 use st_model::{Dead, Deed, Kind, Tried, Word};
 
 /// The element at a place: a field, or the number of a word or byte.
 #[tactic(auto, using(st_frames::proofs::Doing::rows), unfolding(st_model::specs::Storage::fetch_element, st_model::specs::Storage::element_by, st_model::specs::Storage::word_number, st_model::specs::Storage::byte_number))]
-pub fn fetch_element<O: Objects>(
-    m: &mut O,
-    r: &Registers,
-    v: Word,
-    place: u32,
-) -> Result<Answer, Dead>
+pub fn fetch_element<O: Objects>(m: &mut O, r: &Registers, x: Placed) -> Result<Answer, Dead>
     requires room { 1 ≤ O.room m.old }
-    ensures does { RowLeaves O.Objects.own (fetch_element O.names (word v) place)
+    ensures does { RowLeaves O.Objects.own (fetch_element O.names (word x.object) x.place)
         answer_word answer_deed m.old r.now result m.new r.now }
     ensures takes { Takes O.Objects.own 1 m.old m.new }
     ensures plain { IfOk result (λ a. copies_pixels a.deed ≡ false) }
 {
     let deed = Deed::Nothing;
-    match m.fetch_kind(v)? {
+    let Placed { object, place } = x;
+    match m.fetch_kind(object)? {
         Kind::Pointers => {
-            let word = m.fetch_field(v, place)?;
+            let word = m.fetch_field(object, place)?;
             Ok(Answer { word, deed })
         }
         Kind::Words => {
-            let found = m.fetch_word(v, place)?;
+            let found = m.fetch_word(object, place)?;
             number(m, r, u128::from(found))
         }
         Kind::Bytes | Kind::Method => {
-            let byte = m.fetch_byte(v, place)?;
+            let byte = m.fetch_byte(object, place)?;
             let word = small(u32::from(byte));
             Ok(Answer { word, deed })
         }
@@ -48,17 +45,17 @@ pub fn fetch_element<O: Objects>(
 fn answer_element<O: Objects>(
     m: &mut O,
     r: &mut Registers,
-    v: Word,
+    object: Word,
     place: u32,
 ) -> Result<Tried, Dead>
     requires room { 2 ≤ O.room m.old }
     ensures does { RowLeaves O.Objects.own
-        (succeed_by O.names 1 (fetch_element O.names (word v) place))
+        (succeed_by O.names 1 (fetch_element O.names (word object) place))
         is_done deed_of_trial m.old r.old result m.new r.new }
     ensures done { IfOk result (λ t. is_done t ≡ true) }
     ensures takes { Takes O.Objects.own 2 m.old m.new }
 {
-    let answer = fetch_element(m, r, v, place)?;
+    let answer = fetch_element(m, r, Placed { object, place })?;
     succeed_leaving(m, r, 1, answer)
 }
 
@@ -71,10 +68,10 @@ pub fn primitive_at<O: Objects>(m: &mut O, r: &mut Registers) -> Result<Tried, D
     ensures takes { Takes O.Objects.own 2 m.old m.new }
     ensures still { IfOk result (λ t. is_done t ≡ false → m.new ≡ m.old) }
 {
-    let receiver = under(m, r, 1)?;
+    let object = under(m, r, 1)?;
     let index = top(m, r)?;
-    match place_behind_fixed(m, r, receiver, index) {
-        Ok(place) => answer_element(m, r, receiver, place),
+    match place_behind_fixed(m, r, Indexed { object, index }) {
+        Ok(place) => answer_element(m, r, object, place),
         Err(_) => Ok(Tried::Failed),
     }
 }
@@ -90,10 +87,10 @@ pub fn primitive_instance_variable_at<O: Objects>(
         is_done deed_of_trial m.old r.old result m.new r.new }
     ensures takes { Takes O.Objects.own 2 m.old m.new }
 {
-    let receiver = under(m, r, 1)?;
+    let object = under(m, r, 1)?;
     let index = top(m, r)?;
-    match place_at(m, r, receiver, 0, index) {
-        Ok(place) => answer_element(m, r, receiver, place),
+    match place_at(m, r, Indexed { object, index }, 0) {
+        Ok(place) => answer_element(m, r, object, place),
         Err(_) => Ok(Tried::Failed),
     }
 }

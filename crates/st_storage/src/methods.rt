@@ -13,7 +13,8 @@ ghost use Rattle.st_frames.specs.Rows.{RowReads, RowLeaves, Takes};
 
 use crate::elements::count_literals;
 use crate::numbers::small_word;
-use crate::shapes::MethodShape;
+use crate::shapes::{Indexed, MethodShape, Put};
+use crate::storing::put_operands;
 use st_frames::{
     Answer, Registers, bits_or_die, page, positive_small, succeed_leaving, succeed_with, top, under,
 };
@@ -38,27 +39,22 @@ fn method_place<O: Objects>(m: &O, r: &Registers, method: Word, i: u32) -> Resul
 
 /// The field that a word names in a Method.
 #[tactic(auto, using(st_frames::proofs::Doing::rows), unfolding(st_model::specs::Storage::place_in_method))]
-fn place_in_method<O: Objects>(m: &O, r: &Registers, method: Word, index: Word) -> Result<u32, Dead>
-    ensures does { RowReads O.Objects.own (place_in_method O.names (word method) (word index))
+fn place_in_method<O: Objects>(m: &O, r: &Registers, x: Indexed) -> Result<u32, Dead>
+    ensures does { RowReads O.Objects.own (place_in_method O.names (word x.object) (word x.index))
         itself m.now r.now result }
 {
-    let i = positive_small(m, r, index)?;
-    method_place(m, r, method, i)
+    let i = positive_small(m, r, x.index)?;
+    method_place(m, r, x.object, i)
 }
 
 /// The header or literal that a word names in a Method.
 #[tactic(auto, using(st_frames::proofs::Doing::rows), unfolding(st_model::specs::Storage::header_or_literal))]
-fn header_or_literal<O: Objects>(
-    m: &O,
-    r: &Registers,
-    method: Word,
-    index: Word,
-) -> Result<Word, Dead>
-    ensures does { RowReads O.Objects.own (header_or_literal O.names (word method) (word index))
+fn header_or_literal<O: Objects>(m: &O, r: &Registers, x: Indexed) -> Result<Word, Dead>
+    ensures does { RowReads O.Objects.own (header_or_literal O.names (word x.object) (word x.index))
         word m.now r.now result }
 {
-    let place = place_in_method(m, r, method, index)?;
-    m.fetch_method_field(method, place)
+    let place = place_in_method(m, r, x)?;
+    m.fetch_method_field(x.object, place)
 }
 
 /// Primitive 68: the header of the receiver, a Method, or the literal that the argument numbers.
@@ -69,10 +65,10 @@ pub fn primitive_object_at<O: Objects>(m: &mut O, r: &mut Registers) -> Result<T
         is_done deed_of_trial m.old r.old result m.new r.new }
     ensures takes { Takes O.Objects.own 1 m.old m.new }
 {
-    let receiver = under(m, r, 1)?;
+    let object = under(m, r, 1)?;
     let index = top(m, r)?;
-    match header_or_literal(m, r, receiver, index) {
-        Ok(answer) => { succeed_with(m, r, 1, answer) }
+    match header_or_literal(m, r, Indexed { object, index }) {
+        Ok(answer) => succeed_with(m, r, 1, answer),
         Err(_) => Ok(Tried::Failed),
     }
 }
@@ -99,21 +95,16 @@ pub fn check_header<O: Objects>(
 
 /// The field that an index names in a Method, where a value may be stored there.
 #[tactic(auto, using(st_frames::proofs::Doing::rows), unfolding(st_model::specs::Storage::place_to_store, st_model::specs::Storage::check_method_field))]
-fn place_to_store<O: Objects>(
-    m: &O,
-    r: &Registers,
-    method: Word,
-    index: Word,
-    value: Word,
-) -> Result<u32, Dead>
+fn place_to_store<O: Objects>(m: &O, r: &Registers, put: Put) -> Result<u32, Dead>
     ensures does { RowReads O.Objects.own
-        (place_to_store O.names (word method) (word index) (word value)) itself m.now r.now result }
+        (place_to_store O.names (word put.indexed.object) (word put.indexed.index) (word put.value))
+        itself m.now r.now result }
     ensures header { IfOk result (λ i. i ≡ 0 → RowReads O.Objects.own
-        (check_header O.names (word method) (word value)) itself m.now r.now (Ok tt)) }
+        (check_header O.names (word put.indexed.object) (word put.value)) itself m.now r.now (Ok tt)) }
 {
-    let place = place_in_method(m, r, method, index)?;
+    let place = place_in_method(m, r, put.indexed)?;
     if place == 0 {
-        check_header(m, r, method, value)?;
+        check_header(m, r, put.indexed.object, put.value)?;
         Ok(0)
     } else {
         Ok(place)
@@ -156,22 +147,17 @@ fn store_method_field<O: Objects>(
 
 /// A value that is stored in a Method, as an answer.
 #[tactic(auto, using(st_frames::proofs::Doing::rows), unfolding(st_model::specs::Storage::store_in_method))]
-fn store_in_method<O: Objects>(
-    m: &O,
-    r: &Registers,
-    method: Word,
-    value: Word,
-    i: u32,
-) -> Result<Answer, Dead>
+fn store_in_method<O: Objects>(m: &O, r: &Registers, put: Put, i: u32) -> Result<Answer, Dead>
     requires header { i ≡ 0 → RowReads O.Objects.own
-        (check_header O.names (word method) (word value)) itself m.now r.now (Ok tt) }
+        (check_header O.names (word put.indexed.object) (word put.value)) itself m.now r.now (Ok tt) }
     ensures does { RowLeaves O.Objects.own
-        (store_in_method O.names (word method) (word value) i)
+        (store_in_method O.names (word put.indexed.object) (word put.value) i)
         answer_word answer_deed m.now r.now result m.now r.now }
     ensures plain { IfOk result (λ a. copies_pixels a.deed ≡ false) }
 {
-    let deed = store_method_field(m, r, method, i, value)?;
-    Ok(Answer { word: value, deed })
+    let word = put.value;
+    let deed = store_method_field(m, r, put.indexed.object, i, word)?;
+    Ok(Answer { word, deed })
 }
 
 /// Stores a value in a Method, and answers it.
@@ -179,19 +165,18 @@ fn store_in_method<O: Objects>(
 fn answer_in_method<O: Objects>(
     m: &mut O,
     r: &mut Registers,
-    method: Word,
-    value: Word,
+    put: Put,
     i: u32,
 ) -> Result<Tried, Dead>
     requires header { i ≡ 0 → RowReads O.Objects.own
-        (check_header O.names (word method) (word value)) itself m.old r.old (Ok tt) }
+        (check_header O.names (word put.indexed.object) (word put.value)) itself m.old r.old (Ok tt) }
     requires room { 1 ≤ O.room m.old }
     ensures does { RowLeaves O.Objects.own
-        (succeed_by O.names 2 (store_in_method O.names (word method) (word value) i))
+        (succeed_by O.names 2 (store_in_method O.names (word put.indexed.object) (word put.value) i))
         is_done deed_of_trial m.old r.old result m.new r.new }
     ensures takes { Takes O.Objects.own 1 m.old m.new }
 {
-    let answer = store_in_method(m, r, method, value, i)?;
+    let answer = store_in_method(m, r, put, i)?;
     succeed_leaving(m, r, 2, answer)
 }
 
@@ -203,11 +188,9 @@ pub fn primitive_object_at_put<O: Objects>(m: &mut O, r: &mut Registers) -> Resu
         is_done deed_of_trial m.old r.old result m.new r.new }
     ensures takes { Takes O.Objects.own 1 m.old m.new }
 {
-    let receiver = under(m, r, 2)?;
-    let index = under(m, r, 1)?;
-    let value = top(m, r)?;
-    match place_to_store(m, r, receiver, index, value) {
-        Ok(place) => answer_in_method(m, r, receiver, value, place),
+    let put = put_operands(m, r)?;
+    match place_to_store(m, r, put) {
+        Ok(place) => answer_in_method(m, r, put, place),
         Err(_) => Ok(Tried::Failed),
     }
 }
@@ -233,7 +216,7 @@ fn method_shape<O: Objects>(
     ensures does { RowReads O.Objects.own
         (method_shape O.names (word class) (word count) (word header))
         method_shape_in m.now r.now result }
-    ensures class { IfOk result (λ s. word class ≡ Ref (place_of MethodClass)) }
+    ensures class { IfOk result (λ s. s.class ≡ class) }
 {
     let methods = page(m, PageObject::MethodClass);
     if !class.same(methods) {
@@ -244,28 +227,26 @@ fn method_shape<O: Objects>(
     if 65533 < method_words(header % 64, bytes) {
         return Err(Dead::Field);
     }
-    Ok(MethodShape { header, bytes })
+    Ok(MethodShape {
+        class,
+        header,
+        bytes,
+    })
 }
 
 /// A new Method, whose header is left to be stored. Where there is no room for it, nil is no Method of so many literals, or
 /// becomes one with this header.
 #[tactic(auto, using(st_frames::proofs::Doing::rows, st_frames::proofs::Tries::counts, crate::proofs::Makeable::methods), unfolding(st_model::specs::Storage::new_method))]
-fn new_method<O: Objects>(
-    m: &mut O,
-    r: &Registers,
-    class: Word,
-    shape: MethodShape,
-) -> Result<Answer, Dead>
-    requires class { word class ≡ Ref (place_of MethodClass) }
+fn new_method<O: Objects>(m: &mut O, r: &Registers, shape: MethodShape) -> Result<Answer, Dead>
     requires room { 1 ≤ O.room m.old }
-    ensures does { RowLeaves O.Objects.own (new_method O.names (word class) (method_shape_in shape))
+    ensures does { RowLeaves O.Objects.own (new_method O.names (word shape.class) (method_shape_in shape))
         answer_word answer_deed m.old r.now result m.new r.now }
     ensures takes { Takes O.Objects.own 1 m.old m.new }
     ensures plain { IfOk result (λ a. copies_pixels a.deed ≡ false) }
 {
     let literals = shape.header % 64;
     let word = m.make(
-        class,
+        shape.class,
         Kind::Method,
         2 * literals + 2 + shape.bytes,
         literals,
@@ -274,25 +255,6 @@ fn new_method<O: Objects>(
     check_header(m, r, word, header)?;
     let deed = store_method_field(m, r, word, 0, header)?;
     Ok(Answer { word, deed })
-}
-
-/// Answers a new Method.
-#[tactic(auto, using(st_frames::proofs::Doing::rows), unfolding(st_frames::specs::Answering::succeed_by))]
-fn answer_method<O: Objects>(
-    m: &mut O,
-    r: &mut Registers,
-    class: Word,
-    shape: MethodShape,
-) -> Result<Tried, Dead>
-    requires class { word class ≡ Ref (place_of MethodClass) }
-    requires room { 2 ≤ O.room m.old }
-    ensures does { RowLeaves O.Objects.own
-        (succeed_by O.names 2 (new_method O.names (word class) (method_shape_in shape)))
-        is_done deed_of_trial m.old r.old result m.new r.new }
-    ensures takes { Takes O.Objects.own 2 m.old m.new }
-{
-    let answer = new_method(m, r, class, shape)?;
-    succeed_leaving(m, r, 2, answer)
 }
 
 /// Primitive 79: a new Method with the header that the second argument says, and as many bytes as the first.
@@ -307,7 +269,10 @@ pub fn primitive_new_method<O: Objects>(m: &mut O, r: &mut Registers) -> Result<
     let count = under(m, r, 1)?;
     let header = top(m, r)?;
     match method_shape(m, r, receiver, count, header) {
-        Ok(shape) => answer_method(m, r, receiver, shape),
+        Ok(shape) => {
+            let answer = new_method(m, r, shape)?;
+            succeed_leaving(m, r, 2, answer)
+        }
         Err(_) => Ok(Tried::Failed),
     }
 }

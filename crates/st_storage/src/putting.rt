@@ -9,9 +9,9 @@ ghost use Rattle.st_storage.specs.Storing.{storing_in};
 ghost use Rattle.st_frames.specs.Rows.{RowLeaves, Takes};
 
 use crate::shapes::Storing;
-use crate::storing::{storing_behind_fixed, storing_by_index};
+use crate::storing::{put_operands, storing_behind_fixed, storing_by_index};
 use crate::strings::storing_character;
-use st_frames::{Answer, Registers, succeed_leaving, top, under};
+use st_frames::{Answer, Registers, succeed_leaving};
 use st_memory::Objects;
 use st_model::{Dead, Deed, Kind, Tried, Word};
 
@@ -51,71 +51,53 @@ fn store_byte<O: Objects>(m: &O, r: &Registers, v: Word, place: u32, byte: u8) -
 
 /// Stores a value as an element, or leaves its word or byte to be stored.
 #[tactic(auto, using(st_frames::proofs::Doing::rows), unfolding(st_model::specs::Storage::store_element, st_model::specs::Storage::store_by))]
-pub fn store_element<O: Objects>(
-    m: &mut O,
-    r: &Registers,
-    v: Word,
-    x: Word,
-    storing: Storing,
-) -> Result<Deed, Dead>
-    requires kind { IsOfKind O.Objects.own m.old v storing.kind }
+pub fn store_element<O: Objects>(m: &mut O, r: &Registers, s: Storing) -> Result<Deed, Dead>
+    requires kind { IsOfKind O.Objects.own m.old s.object s.kind }
     requires room { 1 ≤ O.room m.old }
     ensures does { RowLeaves O.Objects.own
-        (store_element O.names (word v) storing.place (word x) storing.unit)
+        (store_element O.names (word s.object) s.place (word s.value) s.unit)
         no_word itself m.old r.now result m.new r.now }
     ensures takes { Takes O.Objects.own 1 m.old m.new }
     ensures plain { IfOk result (λ d. copies_pixels d ≡ false) }
 {
-    let Storing { place, kind, unit } = storing;
-    match kind {
+    match s.kind {
         Kind::Pointers => {
-            m.store_field(v, place, x)?;
+            m.store_field(s.object, s.place, s.value)?;
             Ok(Deed::Nothing)
         }
-        Kind::Words => store_word(m, r, v, place, unit),
-        Kind::Bytes | Kind::Method => store_byte(m, r, v, place, unit as u8),
+        Kind::Words => store_word(m, r, s.object, s.place, s.unit),
+        Kind::Bytes | Kind::Method => store_byte(m, r, s.object, s.place, s.unit as u8),
     }
 }
 
 /// Stores a value as an element, and answers it.
 #[tactic(auto, using(st_frames::proofs::Doing::rows), unfolding(st_model::specs::Storage::store_and_answer))]
-fn store_and_answer<O: Objects>(
-    m: &mut O,
-    r: &Registers,
-    v: Word,
-    x: Word,
-    storing: Storing,
-) -> Result<Answer, Dead>
-    requires kind { IsOfKind O.Objects.own m.old v storing.kind }
+fn store_and_answer<O: Objects>(m: &mut O, r: &Registers, s: Storing) -> Result<Answer, Dead>
+    requires kind { IsOfKind O.Objects.own m.old s.object s.kind }
     requires room { 1 ≤ O.room m.old }
     ensures does { RowLeaves O.Objects.own
-        (store_and_answer O.names (word v) (word x) (storing_in storing))
+        (store_and_answer O.names (word s.object) (word s.value) (storing_in s))
         answer_word answer_deed m.old r.now result m.new r.now }
     ensures takes { Takes O.Objects.own 1 m.old m.new }
     ensures plain { IfOk result (λ a. copies_pixels a.deed ≡ false) }
 {
-    let deed = store_element(m, r, v, x, storing)?;
-    Ok(Answer { word: x, deed })
+    let word = s.value;
+    let deed = store_element(m, r, s)?;
+    Ok(Answer { word, deed })
 }
 
 /// Stores a value as an element, and answers it to a primitive of two arguments.
 #[tactic(auto, using(st_frames::proofs::Doing::rows), unfolding(st_frames::specs::Answering::succeed_by))]
-fn answer_stored<O: Objects>(
-    m: &mut O,
-    r: &mut Registers,
-    v: Word,
-    x: Word,
-    storing: Storing,
-) -> Result<Tried, Dead>
-    requires kind { IsOfKind O.Objects.own m.old v storing.kind }
+fn answer_stored<O: Objects>(m: &mut O, r: &mut Registers, s: Storing) -> Result<Tried, Dead>
+    requires kind { IsOfKind O.Objects.own m.old s.object s.kind }
     requires room { 2 ≤ O.room m.old }
     ensures does { RowLeaves O.Objects.own
-        (succeed_by O.names 2 (store_and_answer O.names (word v) (word x) (storing_in storing)))
+        (succeed_by O.names 2 (store_and_answer O.names (word s.object) (word s.value) (storing_in s)))
         is_done deed_of_trial m.old r.old result m.new r.new }
     ensures done { IfOk result (λ t. is_done t ≡ true) }
     ensures takes { Takes O.Objects.own 2 m.old m.new }
 {
-    let answer = store_and_answer(m, r, v, x, storing)?;
+    let answer = store_and_answer(m, r, s)?;
     succeed_leaving(m, r, 2, answer)
 }
 
@@ -129,11 +111,9 @@ pub fn primitive_at_put<O: Objects>(m: &mut O, r: &mut Registers) -> Result<Trie
     ensures takes { Takes O.Objects.own 2 m.old m.new }
     ensures still { IfOk result (λ t. is_done t ≡ false → m.new ≡ m.old) }
 {
-    let receiver = under(m, r, 2)?;
-    let index = under(m, r, 1)?;
-    let value = top(m, r)?;
-    match storing_behind_fixed(m, r, receiver, index, value) {
-        Ok(storing) => answer_stored(m, r, receiver, value, storing),
+    let put = put_operands(m, r)?;
+    match storing_behind_fixed(m, r, put) {
+        Ok(storing) => answer_stored(m, r, storing),
         Err(_) => Ok(Tried::Failed),
     }
 }
@@ -149,11 +129,9 @@ pub fn primitive_instance_variable_at_put<O: Objects>(
         is_done deed_of_trial m.old r.old result m.new r.new }
     ensures takes { Takes O.Objects.own 2 m.old m.new }
 {
-    let receiver = under(m, r, 2)?;
-    let index = under(m, r, 1)?;
-    let value = top(m, r)?;
-    match storing_by_index(m, r, receiver, index, value) {
-        Ok(storing) => answer_stored(m, r, receiver, value, storing),
+    let put = put_operands(m, r)?;
+    match storing_by_index(m, r, put) {
+        Ok(storing) => answer_stored(m, r, storing),
         Err(_) => Ok(Tried::Failed),
     }
 }
@@ -166,11 +144,9 @@ pub fn primitive_string_at_put<O: Objects>(m: &mut O, r: &mut Registers) -> Resu
         is_done deed_of_trial m.old r.old result m.new r.new }
     ensures takes { Takes O.Objects.own 2 m.old m.new }
 {
-    let receiver = under(m, r, 2)?;
-    let index = under(m, r, 1)?;
-    let value = top(m, r)?;
-    match storing_character(m, r, receiver, index, value) {
-        Ok(storing) => answer_stored(m, r, receiver, value, storing),
+    let put = put_operands(m, r)?;
+    match storing_character(m, r, put) {
+        Ok(storing) => answer_stored(m, r, storing),
         Err(_) => Ok(Tried::Failed),
     }
 }

@@ -133,28 +133,6 @@ fn replace_and_answer<O: Objects>(
     })
 }
 
-/// Replaces bytes of an object of kind Bytes, and answers it.
-#[tactic(auto, using(st_frames::proofs::Doing::rows), unfolding(st_frames::specs::Answering::succeed_by))]
-fn answer_replaced<O: Objects>(
-    m: &mut O,
-    r: &mut Registers,
-    target: Word,
-    source: Word,
-    p: Replacing,
-) -> Result<Tried, Dead>
-    requires target { IsOfKind O.Objects.own m.old target Bytes }
-    requires source { IsOfKind O.Objects.own m.old source Bytes }
-    requires few { IsFewBytes p }
-    requires room { 1 ≤ O.room m.old }
-    ensures does { RowLeaves O.Objects.own
-        (succeed_by O.names 4 (replace_and_answer O.names (word target) (word source) (replacing_in p)))
-        is_done deed_of_trial m.old r.old result m.new r.new }
-    ensures takes { Takes O.Objects.own 1 m.old m.new }
-{
-    let answer = replace_and_answer(m, r, target, source, p)?;
-    succeed_leaving(m, r, 4, answer)
-}
-
 /// Primitive 105: bytes of the receiver, from the first argument to the second, become those of the third from the fourth on.
 #[tactic(auto, using(st_frames::proofs::Tries::effects), unfolding(st_model::specs::Storage::primitive_replace))]
 pub fn primitive_replace<O: Objects>(m: &mut O, r: &mut Registers) -> Result<Tried, Dead>
@@ -169,7 +147,10 @@ pub fn primitive_replace<O: Objects>(m: &mut O, r: &mut Registers) -> Result<Tri
     let source = under(m, r, 1)?;
     let from = top(m, r)?;
     match replacing(m, r, receiver, first, last, source, from) {
-        Ok(p) => answer_replaced(m, r, receiver, source, p),
+        Ok(p) => {
+            let answer = replace_and_answer(m, r, receiver, source, p)?;
+            succeed_leaving(m, r, 4, answer)
+        }
         Err(_) => Ok(Tried::Failed),
     }
 }

@@ -1,11 +1,40 @@
 //! What conditions find, for the effects that follow.
 
 ghost use Rattle.std.specs.Prelude.{◌≡◌, ◌<◌, ◌≤◌, ◌+◌, ◌%◌, ◌^◌, false};
-ghost use Rattle.st_model.specs.Objects.{is_method};
+ghost use Rattle.st_model.specs.Objects.{is_method, place_of};
+ghost use Rattle.st_model.specs.Values.{Ref, word};
+ghost use Rattle.st_model.specs.declared.page.PageObject.TheVariants.{MethodClass};
 ghost use Rattle.st_model.specs.Formed.{unit_limit};
 ghost use Rattle.st_model.specs.Storage.{body_words, method_words};
 
 use st_model::{Kind, Word};
+
+/// An object, and the index of one of its elements.
+#[derive(Clone, Copy)]
+pub struct Indexed {
+    /// The object.
+    pub object: Word,
+    /// The index.
+    pub index: Word,
+}
+
+/// An object, and the place of one of its elements.
+#[derive(Clone, Copy)]
+pub struct Placed {
+    /// The object.
+    pub object: Word,
+    /// The place, counted from 0.
+    pub place: u32,
+}
+
+/// A value, and where it is put.
+#[derive(Clone, Copy)]
+pub struct Put {
+    /// Where it is put.
+    pub indexed: Indexed,
+    /// The value.
+    pub value: Word,
+}
 
 /// What a value is as an element of an object.
 #[derive(Clone, Copy)]
@@ -17,9 +46,13 @@ pub struct Element {
     pub ghost fits: { unit < unit_limit kind },
 }
 
-/// Where an element is stored in an object, and what it is.
+/// Where a value is stored in an object, and what it is as an element of that.
 #[derive(Clone, Copy)]
 pub struct Storing {
+    /// The object.
+    pub object: Word,
+    /// The value.
+    pub value: Word,
     /// The place, counted from 0.
     pub place: u32,
     /// The kind of the object.
@@ -43,10 +76,13 @@ pub struct Shape {
 /// The header of a new Method, and how many bytes it has.
 #[derive(Clone, Copy)]
 pub struct MethodShape {
+    /// Its class, CompiledMethod.
+    pub class: Word,
     /// The bits of the header.
     pub header: u32,
     /// How many bytes it has behind its literals; with a body of at most 65533 words.
     pub bytes: u32,
+    pub ghost methods: { word class ≡ Ref (place_of MethodClass) },
     pub ghost bits: { header < 2 ^ 31 },
     pub ghost few: { bytes < 16384 },
     pub ghost body: { method_words (header % 64) bytes ≤ 65533 },
@@ -64,6 +100,8 @@ pub enum Elements {
 /// Where a stream stands.
 #[derive(Clone, Copy)]
 pub struct Standing {
+    /// The stream.
+    pub stream: Word,
     /// Its collection.
     pub collection: Word,
     /// How many elements were passed; below 16383.
@@ -80,6 +118,8 @@ pub struct Standing {
 pub struct Putting {
     /// Where it stands.
     pub standing: Standing,
+    /// The value that is stored.
+    pub value: Word,
     /// The kind of its collection.
     pub kind: Kind,
     /// The word or byte that is stored; 0 for a field.

@@ -14,7 +14,7 @@ use crate::elements::place_of_element;
 use crate::fetching::fetch_element;
 use crate::numbers::fixed_fields;
 use crate::putting::store_element;
-use crate::shapes::{Element, Elements, Putting, Standing, Storing};
+use crate::shapes::{Element, Elements, Placed, Putting, Standing, Storing};
 use crate::storing::unit_of_element;
 use crate::strings::{character_byte, fetch_character};
 use st_frames::{
@@ -154,13 +154,15 @@ fn position_below<O: Objects>(m: &O, r: &Registers, stream: Word, i: u32) -> Res
 fn stream_standing<O: Objects>(m: &O, r: &Registers, stream: Word, i: u32) -> Result<Standing, Dead>
     ensures does { RowReads O.Objects.own (stream_standing O.names (word stream) i)
         standing_in m.now r.now result }
-    ensures stands { IfOk result (StandsIn O.Objects.own m.now stream) }
+    ensures of { IfOk result (λ s. s.stream ≡ stream) }
+    ensures stands { IfOk result (StandsIn O.Objects.own m.now) }
 {
     let collection = m.fetch_field(stream, 0)?;
     let elements = has_characters(m, r, collection)?;
     let position = position_below(m, r, stream, i)?;
     let place = stream_place(m, r, collection, position + 1, elements)?;
     Ok(Standing {
+        stream,
         collection,
         position,
         place,
@@ -170,24 +172,22 @@ fn stream_standing<O: Objects>(m: &O, r: &Registers, stream: Word, i: u32) -> Re
 
 /// The element of a stream's collection at a place.
 #[tactic(auto, using(st_frames::proofs::Doing::rows), unfolding(st_model::specs::Storage::stream_element))]
-fn stream_element<O: Objects>(
-    m: &mut O,
-    r: &Registers,
-    v: Word,
-    place: u32,
-    elements: Elements,
-) -> Result<Answer, Dead>
+fn stream_element<O: Objects>(m: &mut O, r: &Registers, s: Standing) -> Result<Answer, Dead>
     requires room { 1 ≤ O.room m.old }
     ensures does { RowLeaves O.Objects.own
-        (stream_element O.names (word v) place (are_characters elements))
+        (stream_element O.names (word s.collection) s.place (are_characters s.elements))
         answer_word answer_deed m.old r.now result m.new r.now }
     ensures takes { Takes O.Objects.own 1 m.old m.new }
     ensures plain { IfOk result (λ a. copies_pixels a.deed ≡ false) }
 {
-    match elements {
-        Elements::Objects => fetch_element(m, r, v, place),
+    match s.elements {
+        Elements::Objects => {
+            let object = s.collection;
+            let place = s.place;
+            fetch_element(m, r, Placed { object, place })
+        }
         Elements::Characters => {
-            let word = fetch_character(m, r, v, place)?;
+            let word = fetch_character(m, r, s.collection, s.place)?;
             Ok(Answer {
                 word,
                 deed: Deed::Nothing,
@@ -198,60 +198,29 @@ fn stream_element<O: Objects>(
 
 /// Stores the position of a stream that passes one element more.
 #[tactic(auto, using(st_frames::proofs::Doing::rows))]
-fn store_position<O: Objects>(
-    m: &mut O,
-    r: &Registers,
-    stream: Word,
-    position: u32,
-) -> Result<(), Dead>
-    requires low { position < 16383 }
+fn store_position<O: Objects>(m: &mut O, r: &Registers, s: Standing) -> Result<(), Dead>
     requires room { 1 ≤ O.room m.old }
     ensures does { RowDoes O.Objects.own
-        (store_field O.names (word stream) 1 (Small (position + 1)))
+        (store_field O.names (word s.stream) 1 (Small (s.position + 1)))
         itself m.old r.now result m.new r.now }
     ensures takes { Takes O.Objects.own 1 m.old m.new }
 {
-    m.store_field(stream, 1, small(position + 1))
+    m.store_field(s.stream, 1, small(s.position + 1))
 }
 
 /// The next element of a stream, whose position rises by 1.
 #[tactic(auto, using(st_frames::proofs::Doing::rows), unfolding(st_model::specs::Storage::take_next))]
-fn take_next<O: Objects>(
-    m: &mut O,
-    r: &Registers,
-    stream: Word,
-    standing: Standing,
-) -> Result<Answer, Dead>
-    requires stands { StandsIn O.Objects.own m.old stream standing }
+fn take_next<O: Objects>(m: &mut O, r: &Registers, s: Standing) -> Result<Answer, Dead>
+    requires stands { StandsIn O.Objects.own m.old s }
     requires room { 2 ≤ O.room m.old }
-    ensures does { RowLeaves O.Objects.own
-        (take_next O.names (word stream) (standing_in standing))
+    ensures does { RowLeaves O.Objects.own (take_next O.names (word s.stream) (standing_in s))
         answer_word answer_deed m.old r.now result m.new r.now }
     ensures takes { Takes O.Objects.own 2 m.old m.new }
     ensures plain { IfOk result (λ a. copies_pixels a.deed ≡ false) }
 {
-    let answer = stream_element(m, r, standing.collection, standing.place, standing.elements)?;
-    store_position(m, r, stream, standing.position)?;
+    let answer = stream_element(m, r, s)?;
+    store_position(m, r, s)?;
     Ok(answer)
-}
-
-/// Answers the next element of a stream.
-#[tactic(auto, using(st_frames::proofs::Doing::rows), unfolding(st_frames::specs::Answering::succeed_by))]
-fn answer_next<O: Objects>(
-    m: &mut O,
-    r: &mut Registers,
-    stream: Word,
-    standing: Standing,
-) -> Result<Tried, Dead>
-    requires stands { StandsIn O.Objects.own m.old stream standing }
-    requires room { 3 ≤ O.room m.old }
-    ensures does { RowLeaves O.Objects.own
-        (succeed_by O.names 0 (take_next O.names (word stream) (standing_in standing)))
-        is_done deed_of_trial m.old r.old result m.new r.new }
-    ensures takes { Takes O.Objects.own 3 m.old m.new }
-{
-    let answer = take_next(m, r, stream, standing)?;
-    succeed_leaving(m, r, 0, answer)
 }
 
 /// Primitive 65: the next element of the receiver, a stream, whose position rises by 1.
@@ -264,7 +233,10 @@ pub fn primitive_next<O: Objects>(m: &mut O, r: &mut Registers) -> Result<Tried,
 {
     let receiver = top(m, r)?;
     match stream_standing(m, r, receiver, 2) {
-        Ok(standing) => answer_next(m, r, receiver, standing),
+        Ok(standing) => {
+            let answer = take_next(m, r, standing)?;
+            succeed_leaving(m, r, 0, answer)
+        }
         Err(_) => Ok(Tried::Failed),
     }
 }
@@ -302,13 +274,16 @@ fn stream_unit<O: Objects>(
 fn stream_putting<O: Objects>(m: &O, r: &Registers, stream: Word, x: Word) -> Result<Putting, Dead>
     ensures does { RowReads O.Objects.own (stream_putting O.names (word stream) (word x))
         putting_in m.now r.now result }
-    ensures stands { IfOk result (λ p. StandsIn O.Objects.own m.now stream p.standing) }
+    ensures of { IfOk result (λ p. p.standing.stream ≡ stream) }
+    ensures value { IfOk result (λ p. p.value ≡ x) }
+    ensures stands { IfOk result (λ p. StandsIn O.Objects.own m.now p.standing) }
     ensures kind { IfOk result (λ p. IsOfKind O.Objects.own m.now p.standing.collection p.kind) }
 {
     let standing = stream_standing(m, r, stream, 3)?;
     let element = stream_unit(m, r, standing.collection, x, standing.elements)?;
     Ok(Putting {
         standing,
+        value: x,
         kind: element.kind,
         unit: element.unit,
     })
@@ -316,56 +291,43 @@ fn stream_putting<O: Objects>(m: &O, r: &Registers, stream: Word, x: Word) -> Re
 
 /// Stores the next element of a stream, whose position rises by 1 from what it was.
 #[tactic(auto, using(st_frames::proofs::Doing::rows), unfolding(st_model::specs::Storage::put_next))]
-fn put_next<O: Objects>(
-    m: &mut O,
-    r: &Registers,
-    stream: Word,
-    x: Word,
-    putting: Putting,
-) -> Result<Answer, Dead>
-    requires stands { StandsIn O.Objects.own m.old stream putting.standing }
-    requires kind { IsOfKind O.Objects.own m.old putting.standing.collection putting.kind }
+fn put_next<O: Objects>(m: &mut O, r: &Registers, p: Putting) -> Result<Answer, Dead>
+    requires stands { StandsIn O.Objects.own m.old p.standing }
+    requires kind { IsOfKind O.Objects.own m.old p.standing.collection p.kind }
     requires room { 2 ≤ O.room m.old }
     ensures does { RowLeaves O.Objects.own
-        (put_next O.names (word stream) (word x) (putting_in putting))
+        (put_next O.names (word p.standing.stream) (word p.value) (putting_in p))
         answer_word answer_deed m.old r.now result m.new r.now }
     ensures takes { Takes O.Objects.own 2 m.old m.new }
     ensures plain { IfOk result (λ a. copies_pixels a.deed ≡ false) }
 {
-    let Standing {
-        collection,
-        position,
-        place,
-        ..
-    } = putting.standing;
     let storing = Storing {
-        place,
-        kind: putting.kind,
-        unit: putting.unit,
+        object: p.standing.collection,
+        value: p.value,
+        place: p.standing.place,
+        kind: p.kind,
+        unit: p.unit,
     };
-    let deed = store_element(m, r, collection, x, storing)?;
-    store_position(m, r, stream, position)?;
-    Ok(Answer { word: x, deed })
+    let deed = store_element(m, r, storing)?;
+    store_position(m, r, p.standing)?;
+    Ok(Answer {
+        word: p.value,
+        deed,
+    })
 }
 
 /// Stores the next element of a stream, and answers it.
 #[tactic(auto, using(st_frames::proofs::Doing::rows), unfolding(st_frames::specs::Answering::succeed_by))]
-fn answer_put<O: Objects>(
-    m: &mut O,
-    r: &mut Registers,
-    stream: Word,
-    x: Word,
-    putting: Putting,
-) -> Result<Tried, Dead>
-    requires stands { StandsIn O.Objects.own m.old stream putting.standing }
-    requires kind { IsOfKind O.Objects.own m.old putting.standing.collection putting.kind }
+fn answer_put<O: Objects>(m: &mut O, r: &mut Registers, p: Putting) -> Result<Tried, Dead>
+    requires stands { StandsIn O.Objects.own m.old p.standing }
+    requires kind { IsOfKind O.Objects.own m.old p.standing.collection p.kind }
     requires room { 3 ≤ O.room m.old }
     ensures does { RowLeaves O.Objects.own
-        (succeed_by O.names 1 (put_next O.names (word stream) (word x) (putting_in putting)))
+        (succeed_by O.names 1 (put_next O.names (word p.standing.stream) (word p.value) (putting_in p)))
         is_done deed_of_trial m.old r.old result m.new r.new }
     ensures takes { Takes O.Objects.own 3 m.old m.new }
 {
-    let answer = put_next(m, r, stream, x, putting)?;
+    let answer = put_next(m, r, p)?;
     succeed_leaving(m, r, 1, answer)
 }
 
@@ -380,7 +342,7 @@ pub fn primitive_next_put<O: Objects>(m: &mut O, r: &mut Registers) -> Result<Tr
     let receiver = under(m, r, 1)?;
     let argument = top(m, r)?;
     match stream_putting(m, r, receiver, argument) {
-        Ok(putting) => answer_put(m, r, receiver, argument, putting),
+        Ok(putting) => answer_put(m, r, putting),
         Err(_) => Ok(Tried::Failed),
     }
 }

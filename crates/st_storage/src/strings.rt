@@ -4,13 +4,13 @@ ghost use Rattle.st_model.specs.Values.{word};
 ghost use Rattle.st_model.specs.Calls.{itself};
 ghost use Rattle.st_model.specs.Storage.{fetch_character, place_in_bytes, character_at, primitive_string_at, character_byte, character_storing_at, storing_character};
 ghost use Rattle.st_frames.specs.Answering.{IsOfKind};
-ghost use Rattle.st_storage.specs.Storing.{storing_in};
+ghost use Rattle.st_storage.specs.Storing.{storing_in, IsStoringOf};
 ghost use Rattle.st_model.specs.Deeds.{is_done, deed_of_trial};
 ghost use Rattle.st_frames.specs.Rows.{RowReads, RowLeaves, Takes};
 
 use crate::elements::place_at;
 use crate::numbers::byte_or_die;
-use crate::shapes::Storing;
+use crate::shapes::{Indexed, Put, Storing};
 use st_frames::{Registers, check_bytes, check_class, page, succeed_with, top, under};
 use st_memory::Objects;
 use st_model::{Dead, Kind, PageObject, Tried, Word};
@@ -27,23 +27,23 @@ pub fn fetch_character<O: Objects>(m: &O, r: &Registers, v: Word, i: u32) -> Res
 
 /// The place that an index names in an object of kind Bytes.
 #[tactic(auto, using(st_frames::proofs::Doing::rows), unfolding(st_model::specs::Storage::place_in_bytes))]
-fn place_in_bytes<O: Objects>(m: &O, r: &Registers, v: Word, index: Word) -> Result<u32, Dead>
-    ensures does { RowReads O.Objects.own (place_in_bytes O.names (word v) (word index))
+fn place_in_bytes<O: Objects>(m: &O, r: &Registers, x: Indexed) -> Result<u32, Dead>
+    ensures does { RowReads O.Objects.own (place_in_bytes O.names (word x.object) (word x.index))
         itself m.now r.now result }
-    ensures bytes { IfOk result (λ i. IsOfKind O.Objects.own m.now v Bytes) }
+    ensures bytes { IfOk result (λ i. IsOfKind O.Objects.own m.now x.object Bytes) }
 {
-    check_bytes(m, r, v)?;
-    place_at(m, r, v, 0, index)
+    check_bytes(m, r, x.object)?;
+    place_at(m, r, x, 0)
 }
 
 /// The Character that an index names.
 #[tactic(auto, using(st_frames::proofs::Doing::rows), unfolding(st_model::specs::Storage::character_at))]
-fn character_at<O: Objects>(m: &O, r: &Registers, string: Word, index: Word) -> Result<Word, Dead>
-    ensures does { RowReads O.Objects.own (character_at O.names (word string) (word index))
+fn character_at<O: Objects>(m: &O, r: &Registers, x: Indexed) -> Result<Word, Dead>
+    ensures does { RowReads O.Objects.own (character_at O.names (word x.object) (word x.index))
         word m.now r.now result }
 {
-    let place = place_in_bytes(m, r, string, index)?;
-    fetch_character(m, r, string, place)
+    let place = place_in_bytes(m, r, x)?;
+    fetch_character(m, r, x.object, place)
 }
 
 /// Primitive 63: the Character that the argument numbers in the receiver.
@@ -54,10 +54,10 @@ pub fn primitive_string_at<O: Objects>(m: &mut O, r: &mut Registers) -> Result<T
         is_done deed_of_trial m.old r.old result m.new r.new }
     ensures takes { Takes O.Objects.own 1 m.old m.new }
 {
-    let receiver = under(m, r, 1)?;
+    let object = under(m, r, 1)?;
     let index = top(m, r)?;
-    match character_at(m, r, receiver, index) {
-        Ok(answer) => { succeed_with(m, r, 1, answer) }
+    match character_at(m, r, Indexed { object, index }) {
+        Ok(answer) => succeed_with(m, r, 1, answer),
         Err(_) => Ok(Tried::Failed),
     }
 }
@@ -74,22 +74,19 @@ pub fn character_byte<O: Objects>(m: &O, r: &Registers, x: Word) -> Result<u8, D
 
 /// A Character, to be stored at the place that an index names in an object of kind Bytes.
 #[tactic(auto, using(st_frames::proofs::Doing::rows), unfolding(st_model::specs::Storage::storing_character, st_model::specs::Storage::character_storing_at))]
-pub fn storing_character<O: Objects>(
-    m: &O,
-    r: &Registers,
-    string: Word,
-    index: Word,
-    x: Word,
-) -> Result<Storing, Dead>
+pub fn storing_character<O: Objects>(m: &O, r: &Registers, put: Put) -> Result<Storing, Dead>
     ensures does { RowReads O.Objects.own
-        (storing_character O.names (word string) (word index) (word x))
+        (storing_character O.names (word put.indexed.object) (word put.indexed.index) (word put.value))
         storing_in m.now r.now result }
-    ensures kind { IfOk result (λ s. IsOfKind O.Objects.own m.now string s.kind) }
+    ensures of { IfOk result (IsStoringOf put) }
+    ensures kind { IfOk result (λ s. IsOfKind O.Objects.own m.now s.object s.kind) }
 {
-    let place = place_in_bytes(m, r, string, index)?;
-    let byte = character_byte(m, r, x)?;
+    let place = place_in_bytes(m, r, put.indexed)?;
+    let byte = character_byte(m, r, put.value)?;
     let unit = u16::from(byte);
     Ok(Storing {
+        object: put.indexed.object,
+        value: put.value,
         place,
         kind: Kind::Bytes,
         unit,

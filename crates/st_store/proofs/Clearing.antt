@@ -1,42 +1,18 @@
 -- What a stop leaves while a name is cleared.
-use Rattle.std.proofs.Common.{◌≡◌, ◌≢◌, ◌⊎◌, inl, inr, ⊎_elim, ℕ, zero, suc, ◌+◌, ◌<◌, ◌≤◌, List, [], ◌∷◌, length, take, drop, slice_index, codes, Option, Bool, true, false, IsTrue, refl, sym, subst, ◌∙◌, ap, arith, length-take}
-use Rattle.std.specs.Prelude.{◌↔◌, Some, None, MatchOption, is_some, not}
-use Rattle.std.proofs.lemmas.List.{get_or-take, get_or-drop, get_or_past}
+use Rattle.std.proofs.Common.{◌≡◌, ◌≢◌, ◌⊎◌, inl, inr, ⊎_elim, ℕ, zero, suc, ◌+◌, ◌<◌, ◌≤◌, List, [], ◌∷◌, length, slice_index, codes, Option, Bool, true, false, true≢false, IsTrue, refl, sym, subst, ◌∙◌, ap, arith}
+use Rattle.std.specs.Prelude.{◌↔◌, Some, None}
+use Rattle.std.proofs.lemmas.List.{get_or_past}
 use Rattle.std.proofs.lemmas.Bool.{cases_lt, cases_eq}
-use Rattle.st_host.specs.Files.{Files, bytes_of, IsRead, IsCut}
+use Rattle.st_host.specs.Files.{bytes_of, IsCut}
 use Rattle.st_host.specs.Stops.{TornByCut, Here}
-use Rattle.st_host.specs.Runs.{LeavesOnly, Narrows, Changes, Elsewhere, ReadsAlike, Touched, Cuts, IsSynced}
+use Rattle.st_host.specs.Runs.{LeavesOnly, Narrows, Changes, ReadsAlike, Touched, Cuts, IsSynced}
 use Rattle.st_host.specs.declared.host.Host.{Ghosts}
 use Rattle.st_host.proofs.Joining.{weaker, moments_join}
 use Rattle.st_host.proofs.Touching.{cut_changes, changes_join}
 use Rattle.st_store.specs.Names.{roots_file}
 use Rattle.st_store.specs.Roots.{HasLetters}
-use Rattle.st_store.specs.Refusals.{IsWrongLetter}
 use Rattle.st_store.specs.Founding.{IsNoStore, IsCleared}
 use Rattle.st_store.proofs.Turning.{came}
-
-module _ (file : List ℕ) (k : ℕ) (into : List ℕ) (long : length into ≡ 8) (read : IsRead file 0 k into) where
-  same : (i : ℕ) → i < 8 → slice_index (take k into) i ≡ slice_index file i
-  same i low = ⊎_elim
-      (λ within.
-      let there : 0 + i ≡ i = omega arith in
-      ap (λ (x : List ℕ). slice_index x i) read.bytes ∙ get_or-take k (drop 0 file) i 0 within ∙ get_or-drop 0 file i 0 ∙ ap (λ (j : ℕ). slice_index file j) there)
-      (λ past. get_or_past (take k into) i 0 (omega (arith, length-take k into, read.count)) ∙ sym (get_or_past file i 0 (omega (arith, read.count))))
-      (cases_lt i k)
-
-  letters_read : HasLetters (take k into) → HasLetters file
-  letters_read letters i low = sym (same i low) ∙ letters i low
-
-  wrong_read : (at : ℕ) → IsWrongLetter (take k into) at → HasLetters file → ⊥
-  wrong_read at wrong letters = wrong.wrong (same at wrong.below ∙ letters at wrong.below)
-
-  -- whether the file has the letters, as the bytes read tell
-  pub letters_found : (wrong : Option ℕ) (there : Bool) → MatchOption wrong (HasLetters (take k into)) (IsWrongLetter (take k into)) → is_some wrong ≡ not there
-      → IsTrue there ↔ HasLetters file
-  letters_found None true letters is = (λ so. letters_read letters, λ has. refl)
-  letters_found None false letters is = (λ so. cc, λ has. cc)
-  letters_found (Some at) true wrong is = (λ so. cc, λ has. refl)
-  letters_found (Some at) false wrong is = (λ so. cc, λ has. absurd (wrong_read at wrong has))
 
 -- no letter is 0
 pub letter_is : (i : ℕ) → i < 8 → 0 ≢ slice_index (codes "ST80ROOT") i
@@ -107,20 +83,24 @@ module _ {D : Type 0} (host : Ghosts D) (name : List ℕ) where
       → (x : Option (List ℕ)) → host.may_leave c (roots_file name) x → bytes_of x ≡ []
   emptied b c told cut synced x can = ap bytes_of (synced.is told x can) ∙ empty_of (host.files c (roots_file name)) (host.files b (roots_file name)) cut
 
-  pub only_cut : (a b c : D) → Changes host (roots_file name) a b → Cuts host (roots_file name) 0 b c → Changes host (roots_file name) a c
-  only_cut a b c looked cuts = changes_join host (roots_file name) a b c looked (cut_changes host (roots_file name) 0 b c cuts)
+  -- A run that looked whether the roots file has the letters, and cut it where it has none.
+  pub record Clears (a d : D) : Type 0 where
+    pub moments : IsTrue host.is_told → LeavesOnly host a d (λ f s. (s ≡ host.said a) × IsCleared host name a f)
+    pub only : Changes host (roots_file name) a d
 
-  -- no call
-  pub changes_none : (a : D) → (IsTrue host.is_told → (f : Files) (s : List ℕ) → host.left_since a (host.moment a) f s → Here (host.may_leave a) (host.said a) f s) → Changes host (roots_file name) a a
-  changes_none a only_now = record {
-    disk = omega arith;
-    say = refl;
-    others = λ told. record { files = λ n other. refl; fewer = λ n c other can. can; more = λ n c other could. could };
-    quiet = λ told. refl;
-    moments = λ told. weaker host a a (Elsewhere host (roots_file name) a) (Here (host.may_leave a) (host.said a))
-        (record { later = omega arith; each = only_now told; before = λ t f s le left. inl left }) (λ f s here. (here.1, λ n other. here.0 n));
-  }
+  -- the same, with the file by the names that the code has
+  pub clears : (a b d : D) (n r s : List ℕ) (there : Bool) → n ≡ name → r ≡ roots_file n → s ≡ roots_file n → Narrows host a b → ReadsAlike host a b → IsSynced host r b → Changes host r a b
+      → (IsTrue host.is_told → IsTrue there ↔ HasLetters (bytes_of (host.files a r))) → there ≡ false → Cuts host s 0 b d → Clears a d
+  clears a b d n r s there is looked_at cut_at narrows alike synced looked found none cuts =
+      let roots : r ≡ roots_file name = looked_at ∙ ap roots_file is in
+      let here = subst (λ (x : List ℕ). Cuts host x 0 b d) (cut_at ∙ ap roots_file is) cuts in
+      let not_there : IsTrue host.is_told → HasLetters (bytes_of (host.files a (roots_file name))) → ⊥ =
+      λ told letters. true≢false (sym ((found told).1 (subst (λ (x : List ℕ). HasLetters (bytes_of (host.files a x))) (sym roots) letters)) ∙ none) in
+      record {
+        moments = λ told. while_cut a b d told narrows alike (subst (λ (x : List ℕ). IsSynced host x b) roots synced) (not_there told) here;
+        only = changes_join host (roots_file name) a b d (subst (λ (x : List ℕ). Changes host x a b) roots looked) (cut_changes host (roots_file name) 0 b d here);
+      }
 
--- the same by the name that the code has
+-- a cut, by the name that the code has
 pub cuts_as : {D : Type 0} (host : Ghosts D) (n m : List ℕ) (len : ℕ) (a b : D) → n ≡ m → Cuts host n len a b → Cuts host m len a b
 cuts_as host n m len a b is cuts = subst (λ (x : List ℕ). Cuts host x len a b) is cuts

@@ -1,14 +1,14 @@
 -- What a stop leaves while the first roots file is written.
 use Rattle.std.proofs.Common.{◌≡◌, ◌≢◌, ◌⊎◌, inl, inr, ⊎_elim, ℕ, ◌+◌, ◌-◌, ◌%◌, ◌<◌, ◌≤◌, List, [], ◌∷◌, ◌++◌, length, take, slice_index, codes, Option, IsTrue, refl, sym, subst, ◌∙◌, ap, arith, lit<, lit≤}
-use Rattle.std.specs.Prelude.{Some, None, Result, OnOk, replicate}
+use Rattle.std.specs.Prelude.{Some, None, Result, Ok, OnOk, replicate}
 use Rattle.std.proofs.lemmas.List.{get_or_append_left, get_or-append_right, get_or_past}
 use Rattle.std.proofs.lemmas.Bool.{cases_lt}
 use Rattle.std.proofs.lemmas.Grind.{same_number_lists}
 use Rattle.st_host.specs.Files.{bytes_of, IsWritten}
 use Rattle.st_host.specs.Stops.{TornByWrite, TornByCut}
-use Rattle.st_host.specs.Runs.{Touched, Writes, Cuts, ChangesBoth, IsAtRest, Makes}
+use Rattle.st_host.specs.Runs.{Touched, Writes, Cuts, ChangesBoth, IsSynced, IsAtRest, Makes}
 use Rattle.st_host.specs.declared.host.Host.{Ghosts}
-use Rattle.st_host.proofs.Joining.{weaker}
+use Rattle.st_host.proofs.Joining.{weaker, makes_then}
 use Rattle.st_store.specs.Names.{roots_file, changes_file, image_file}
 use Rattle.st_store.specs.Roots.{root_at, root_bytes, Fits, Chooses}
 use Rattle.st_store.specs.Stored.{Stored, Begins, Leaves, IsFirm}
@@ -16,7 +16,7 @@ use Rattle.st_store.specs.Founding.{IsNoStore, OpensMaybe, IsBlank, first_bytes,
 use Rattle.st_store.specs.declared.root.Root.{Root}
 use Rattle.st_store.proofs.Bytes.{root_same, root_inside}
 use Rattle.st_store.proofs.Others.{changes_roots, image_roots, image_changes}
-use Rattle.st_store.proofs.Turning.{came, opens_as, write_makes}
+use Rattle.st_store.proofs.Turning.{came, opens_as, firm_on, write_makes, writes_as, written_as, synced_as}
 use Rattle.st_store.proofs.Clearing.{letter_is, letters_or_none}
 
 -- the roots file without its letters
@@ -164,6 +164,47 @@ module _ {D R E : Type 0} (host : Ghosts D) (name : List ℕ) (a b : D) (result 
         (λ d could torn. letters_torn c.root (host.files a (roots_file name)) d (f (roots_file name)) (inscribed (host.files a (roots_file name)) reads) (inscribed d could) torn) own))
         after
 
+-- The changes file is emptied, and then one zero byte written.
+pub prepare_makes : {D R E : Type 0} (host : Ghosts D) (name : List ℕ) (a b d : D) → IsTrue host.is_told → Leaves host a (roots_file name) (λ x. bytes_of x ≡ [])
+    → Cuts host (changes_file name 0) 0 a b → host.may_leave b (roots_file name) (host.files b (roots_file name)) → Writes host (roots_file name) 0 1 b d
+    → (result : Result R E) → OnOk result (IsAtRest {C = Option Stored} host (OpensMaybe name) None d) → Makes {C = Option Stored} host (OpensMaybe name) None None a d result
+prepare_makes {E = E} host name a b d told empty cuts reads writes result after =
+    let first : Result Unit E = Ok tt in
+    let still = still_empty host name a b first told cuts empty in
+    makes_then host (OpensMaybe name) None None a b d first result
+    (cut_makes host name a b first told cuts empty (record { opens_as = λ f can. empty_none (f (roots_file name)) (still (f (roots_file name)) (can (roots_file name))) }))
+    (blank_makes host name b d result told reads writes still after)
+
+-- the roots file behind its letters was written and synced
+pub record Behind {D : Type 0} (host : Ghosts D) (name : List ℕ) (root : Root) (a b : D) : Type 0 where
+  pub writes : Writes host (roots_file name) 8 72 a b
+  pub inscribed : Leaves host b (roots_file name) (Inscribed root)
+
+module _ {D : Type 0} (host : Ghosts D) (name : List ℕ) (a b : D) (told : IsTrue host.is_told) (reads : host.may_leave a (roots_file name) (host.files a (roots_file name)))
+    (blank : Leaves host a (roots_file name) IsBlank) where
+  -- as the code names the file and its bytes
+  pub behind : (n bytes : List ℕ) (these root : Root) → n ≡ roots_file name → bytes ≡ first_bytes these → Fits these → root ≡ these
+      → Writes host n 8 (length bytes) a b → IsWritten 8 bytes (host.files a n) (host.files b n) → IsSynced host n b → Behind host name root a b
+  behind n bytes these root is are fits same writes written synced =
+      let roots = roots_file name in
+      let there = rest_written root (host.files a roots) (host.files b roots) (subst Fits (sym same) fits) (blank (host.files a roots) reads)
+      (written_as host name n 8 bytes (first_bytes root) a b is (are ∙ ap first_bytes (sym same)) written) in
+      record {
+        writes = writes_as host name n 8 (length bytes) 72 a b is (ap length are) writes;
+        inscribed = λ y can. subst (Inscribed root) (sym (synced_as host name n b is told synced y can)) there;
+      }
+
+  -- and then the letters
+  pub first_makes : {R E : Type 0} (c : Stored) (d : D) (result : Result R E) → Behind host name c.root a b → IsFirm host a name c
+      → host.may_leave b (roots_file name) (host.files b (roots_file name)) → Writes host (roots_file name) 0 8 b d → OnOk result (IsAtRest {C = Option Stored} host (OpensMaybe name) (Some c) d)
+      → Makes {C = Option Stored} host (OpensMaybe name) None (Some c) a d result
+  first_makes {E = E} c d result w firm reads_now letters after =
+      let first : Result Unit E = Ok tt in
+      makes_then host (OpensMaybe name) None (Some c) a b d first result
+      (rest_makes host name a b first told reads c.root w.writes blank
+      (record { opens_as = λ f can. inscribed_none c.root (f (roots_file name)) (w.inscribed (f (roots_file name)) (can (roots_file name))) }))
+      (letters_make host name b d result told reads_now c letters w.inscribed (firm_on host name a b c firm (w.writes.run.others told).fewer) after)
+
 -- what a new root names is firm where its image is
 pub first_firm : {D : Type 0} (host : Ghosts D) (name : List ℕ) (a m : D) (n : ℕ) (image : List ℕ) → IsTrue host.is_told → ChangesBoth host (changes_file name 0) (roots_file name) a m
     → Leaves host a (image_file name 0) (Begins n image) → IsFirm host m name (first_stored n image)
@@ -179,3 +220,12 @@ first_firm host name a m n image told changes firm = record {
 pub maybe_as : {D R E : Type 0} (host : Ghosts D) (m n : List ℕ) (c : Stored) (a b : D) (result : Result R E) → m ≡ n → Makes {C = Option Stored} host (OpensMaybe m) None (Some c) a b result
     → Makes {C = Option Stored} host (OpensMaybe n) None (Some c) a b result
 maybe_as {R = R} {E = E} host m n c a b result same makes = subst (λ (x : List ℕ). Makes {C = Option Stored} {R = R} {E = E} host (OpensMaybe x) None (Some c) a b result) same makes
+
+-- what stands before a store is made, by the name that the code has
+pub before_as : {D : Type 0} (host : Ghosts D) (m n : List ℕ) (a : D) (long : ℕ) (image : List ℕ) → m ≡ n
+    → Leaves host a (roots_file n) (λ file. bytes_of file ≡ []) → Leaves host a (image_file n 0) (Begins long image)
+    → Leaves host a (roots_file m) (λ file. bytes_of file ≡ []) × Leaves host a (image_file m 0) (Begins long image)
+before_as host m n a long image same empty firm = (
+  subst (λ (y : List ℕ). Leaves host a (roots_file y) (λ file. bytes_of file ≡ [])) (sym same) empty,
+  subst (λ (y : List ℕ). Leaves host a (image_file y 0) (Begins long image)) (sym same) firm,
+)

@@ -1,9 +1,9 @@
 -- The first bytes of a roots file tell what the file chooses, or where it is wrong.
-use Rattle.std.proofs.Common.{◌≡◌, true, false, inl, inr, ⊎_elim, ℕ, ◌+◌, ◌%◌, ◌<◌, ◌≤◌, min, List, length, take, drop, slice_index, Option, Some, unwrap_or, refl, sym, subst, ◌∙◌, ap, arith, lit<, length-take}
+use Rattle.std.proofs.Common.{◌≡◌, inl, inr, ⊎_elim, ℕ, ◌+◌, ◌%◌, ◌<◌, ◌≤◌, min, List, length, take, drop, slice_index, Option, Some, refl, sym, subst, ◌∙◌, ap, arith, lit<, length-take}
 use Rattle.std.proofs.Math.Nat.{mod-lt}
 use Rattle.std.proofs.lemmas.List.{get_or-take, get_or-drop, get_or_past}
 use Rattle.std.proofs.lemmas.Bool.{cases_lt}
-use Rattle.std.specs.Prelude.{None, IsSome, is_some}
+use Rattle.std.specs.Prelude.{None, IsSome}
 use Rattle.st_host.specs.Files.{bytes_of, length_of, IsRead}
 use Rattle.st_store.specs.Roots.{place, root_at, chosen_number, Chooses}
 use Rattle.st_store.specs.Refusals.{IsWrongFront}
@@ -14,16 +14,6 @@ use Rattle.st_store.proofs.Bytes.{root_same}
 pub is_there : (l : Option ℕ) (file : Option (List ℕ)) → l ≡ length_of file → IsSome l → IsSome file
 is_there l None is some = subst IsSome is some
 is_there l (Some bytes) is some = refl
-
--- and one that has none is absent
-pub is_absent : (l : Option ℕ) (file : Option (List ℕ)) → l ≡ length_of file → is_some l ≡ false → file ≡ None
-is_absent l None is none = refl
-is_absent l (Some bytes) is none = let some : is_some l ≡ true = ap is_some is in cc
-
--- the length of a file, and 0 where it is absent
-pub length_read : (l : Option ℕ) (file : Option (List ℕ)) → l ≡ length_of file → unwrap_or l 0 ≡ length (bytes_of file)
-length_read l None is = ap (λ (x : Option ℕ). unwrap_or x 0) is
-length_read l (Some bytes) is = ap (λ (x : Option ℕ). unwrap_or x 0) is
 
 module _ (file : List ℕ) (k : ℕ) (into : List ℕ) (long : length into ≡ 80) (read : IsRead file 0 k into) where
   front_long : length (take k into) ≡ min 80 (length file)

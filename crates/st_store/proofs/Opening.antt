@@ -177,3 +177,9 @@ module _ {D : Type 0} (host : Ghosts D) (name : List ℕ) where
   -- and then the roots file is changed
   pub spared_on : (a m d : D) → Spares host (IsNoFileOf name) a m → Changes host (roots_file name) m d → Spares host (IsNoFileOf name) a d
   spared_on a m d spares changes = spares_join host (IsNoFileOf name) a m d spares (changes_spare host (roots_file name) (IsNoFileOf name) m d (λ n no. no.roots) changes)
+
+-- the same moments, where the code has the name
+pub opened_as : {D R E : Type 0} (host : Ghosts D) (n name : List ℕ) (a m d : D) (c : Stored) (k : ℕ) (result : Result R E) → n ≡ name → IsTrue host.is_told → Narrows host a m → ReadsAlike host a m
+    → ((j : List ℕ) → host.may_leave m j (host.files m j)) → IsChosen host m n k c → Makes host (Opens n) c c m d result → LeavesOnly host a d (λ f s. (s ≡ host.said a) × IsOpening host a name f)
+opened_as host n name a m d c k result same told narrows alike reads chosen makes =
+    subst (λ (y : List ℕ). LeavesOnly host a d (λ f s. (s ≡ host.said a) × IsOpening host a y f)) same (opened host n a m d c k result told narrows alike reads chosen makes)

@@ -2,10 +2,11 @@
 use Rattle.std.proofs.Common.{◌≡◌, inl, inr, ⊎_elim, ℕ, ◌≤◌, List, Option, IsTrue, refl, sym, subst, arith}
 use Rattle.std.specs.Prelude.{◌⊎◌, Result, Ok, Err, OnErr}
 use Rattle.st_host.specs.Files.{Files}
-use Rattle.st_host.specs.Stops.{Here, comes}
+use Rattle.st_host.specs.Stops.{Here}
 use Rattle.st_host.specs.Runs.{Narrows, Syncs, IsAtRest, Makes}
 use Rattle.st_host.specs.declared.host.Host.{Ghosts}
 use Rattle.st_host.proofs.Joining.{weaker, moments_join, narrows_join}
+use Rattle.st_host.proofs.Touching.{touches_none}
 use Rattle.st_store.specs.Names.{roots_file}
 use Rattle.st_store.specs.Roots.{Chooses}
 use Rattle.st_store.specs.Stored.{Stored, Opens, IsChosen, IsReady}
@@ -25,20 +26,7 @@ module _ {D : Type 0} (host : Ghosts D) where
 
   -- no call
   pub syncs_none : (file : List ℕ) (a : D) → (IsTrue host.is_told → (f : Files) (s : List ℕ) → host.left_since a (host.moment a) f s → Here (host.may_leave a) (host.said a) f s) → Syncs host file a a
-  syncs_none file a only_now = record {
-    run = record {
-      disk = omega arith;
-      say = refl;
-      others = λ told. record { files = λ n other. refl; fewer = λ n c other can. can; more = λ n c other could. could };
-      quiet = λ told. refl;
-      own = λ told c can. comes c can refl;
-      moments = λ told. record {
-        later = omega arith;
-        each = λ f s left. let here = only_now told f s left in record { others = λ n other. here.0 n; own = comes (f file) (here.0 file) refl; quiet = here.1 };
-        before = λ t f s le left. inl left;
-      };
-    };
-  }
+  syncs_none file a only_now = record { run = touches_none host file (λ x y. x ≡ y) a (λ x. refl) (λ f s told left. only_now told f s left) }
 
   -- reads and syncs behind it
   pub first_more : (file : List ℕ) (a m d : D) → SyncsFirst host file a m → Narrows host m d → SyncsFirst host file a d
@@ -103,3 +91,9 @@ module _ {D : Type 0} (host : Ghosts D) where
             rest = record { opens_as = λ f can. since.rest.opens_as f (λ n. more.fewer told n (f n) (can n)) };
           },
         )
+
+-- the same where the code has the name
+pub settles_as : {D R E : Type 0} (host : Ghosts D) (n name : List ℕ) (a m : D) (told : IsTrue host.is_told) (k : ℕ) (x : Stored) (d : D) (result : Result R E) → n ≡ name → IsReady host a name
+    → ((h : D) (j : List ℕ) → host.may_leave h j (host.files h j)) → SyncsFirst host (roots_file n) a m → IsChosen host m n k x → Makes host (Opens n) x x m d result → HasSettled host name a d
+settles_as host n name a m told k x d result same ready reads first chosen makes = subst (λ (y : List ℕ). HasSettled host y a d) same
+    (settles_on host n a m told k x d result (subst (λ (y : List ℕ). IsReady host a y) (sym same) ready) reads first chosen makes)

@@ -9,7 +9,7 @@ use Rattle.st_host.specs.declared.host.Host.{Ghosts}
 use Rattle.st_host.proofs.Joining.{weaker}
 use Rattle.st_store.specs.Names.{roots_file, changes_file, image_file}
 use Rattle.st_store.specs.Roots.{place, root_at, root_bytes, IsWhole, Chooses, Fits}
-use Rattle.st_store.specs.Stored.{Stored, Opens, Leaves, IsFirm, IsChosen, IsStaged}
+use Rattle.st_store.specs.Stored.{Stored, StoreState, Opens, Leaves, IsFirm, IsChosen, IsKept, IsStaged}
 use Rattle.st_store.specs.declared.root.Root.{Root}
 use Rattle.st_store.proofs.Bytes.{root_same, root_written}
 use Rattle.st_store.proofs.Others.{changes_roots, image_roots}
@@ -198,6 +198,13 @@ module _ {D : Type 0} (host : Ghosts D) (name : List ℕ) where
   pub synced_as : (n : List ℕ) (b : D) → n ≡ roots_file name → IsTrue host.is_told → IsSynced host n b → Leaves host b (roots_file name) (λ x. x ≡ host.files b (roots_file name))
   synced_as n b is told synced = subst (λ (x : List ℕ). Leaves host b x (λ c. c ≡ host.files b x)) is (synced.is told)
 
+  -- the gate was written and synced, as the code names the file
+  pub gate_turned : (n : List ℕ) (k : ℕ) (c d e : Stored) (a b : D) (j : ℕ) → n ≡ roots_file name → j ≤ 1 → IsTrue host.is_told → host.may_leave a (roots_file name) (host.files a (roots_file name))
+      → Writes host n 8 1 a b → IsWritten 8 (j ∷ []) (host.files a n) (host.files b n) → IsSynced host n b
+      → IsStaged host a name k c d → IsFirm host a name e → root_at (place j) (bytes_of (host.files a (roots_file name))) ≡ e.root → IsChosen host b name j e
+  gate_turned n k c d e a b j is one told reads writes written synced st firm there = turned k c d a b j e one st reads firm there
+      ((writes_as n 8 1 1 a b is refl writes).run.others told) (written_as n 8 (j ∷ []) (j ∷ []) a b is refl written) (synced_as n b is told synced)
+
   module _ {R E : Type 0} (c d : Stored) (a b : D) (result : Result R E) (told : IsTrue host.is_told) (reads : host.may_leave a (roots_file name) (host.files a (roots_file name))) where
     pub staging : (k : ℕ) → IsChosen host a name k c → Writes host (roots_file name) (place (1 - k)) 32 a b → OnOk result (IsAtRest host (Opens name) c b) → Makes host (Opens name) c c a b result
     staging k chosen writes after = write_makes (Opens name) c c (place (1 - k)) 32 a b result told writes
@@ -209,3 +216,11 @@ module _ {D : Type 0} (host : Ghosts D) (name : List ℕ) where
 
 pub makes_as : {D R E : Type 0} (host : Ghosts D) (m n : List ℕ) (c d : Stored) (a b : D) (result : Result R E) → m ≡ n → Makes host (Opens m) c d a b result → Makes host (Opens n) c d a b result
 makes_as {R = R} {E = E} host m n c d a b result same makes = subst (λ (x : List ℕ). Makes {R = R} {E = E} host (Opens x) c d a b result) same makes
+
+-- a store at rest and what a root names, as the code has the store
+pub viewed : {D : Type 0} (host : Ghosts D) (a : D) (s t : StoreState) (c d : Stored) → s ≡ t → IsKept host a t c → IsFirm host a t.name d
+    → IsChosen host a s.name s.chosen c × IsFirm host a s.name d
+viewed host a s t c d same kept firm = (
+  subst (λ (v : StoreState). IsChosen host a v.name v.chosen c) (sym same) kept.is,
+  subst (λ (v : StoreState). IsFirm host a v.name d) (sym same) firm,
+)

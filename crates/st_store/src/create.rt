@@ -43,6 +43,7 @@ impl NewStore {
 }
 
 /// Syncs the roots file, and tells whether it begins with the letters.
+#[tactic(auto, using(crate::proofs::Looking::looks))]
 fn find_store<H: Host>(host: &mut H, roots: &str) -> Result<bool, HostFault>
     ensures found { IfOk result (λ there. IsTrue H.is_told
         → IsTrue there ↔ HasLetters (bytes_of (H.files host.old roots.now))) }
@@ -100,6 +101,7 @@ fn first_bytes(root: &Root) -> [u8; 72]
 /// Empties the changes file, and puts one zero byte into the empty roots file, so that the letters can't stand there by
 /// chance before they are written. Where no state that a stop may leave of the roots file has a byte, the files are at each
 /// moment no store's.
+#[tactic(auto, using(crate::proofs::Looking::steps))]
 fn prepare<H: Host>(host: &mut H, names: &Names) -> Result<(), HostFault>
     ensures makes { let name = string_bytes names.now.name in IsTrue H.is_told
         → Leaves H.Host.own host.old (roots_file name) (λ file. bytes_of file ≡ [])
@@ -121,6 +123,7 @@ fn prepare<H: Host>(host: &mut H, names: &Names) -> Result<(), HostFault>
 
 /// Writes the roots file behind its letters, and the letters last. Where the roots file is one zero byte and what the root
 /// names is firm, the files are at each moment no store's, or open as the new one.
+#[tactic(auto, using(crate::proofs::Looking::steps))]
 fn inscribe<H: Host>(host: &mut H, names: &Names, root: &Root) -> Result<(), HostFault>
     ensures makes { let name = string_bytes names.now.name in (c : Stored) → IsTrue H.is_told
         → Leaves H.Host.own host.old (roots_file name) IsBlank → c.root ≡ root.now
@@ -146,6 +149,7 @@ fn inscribe<H: Host>(host: &mut H, names: &Names, root: &Root) -> Result<(), Hos
 
 /// Makes the store, whose image is in its file and synced. It is made whole, or not at all, where no state that a stop may
 /// leave of the roots file has a byte, and each one of the image file begins with the same bytes of this length.
+#[tactic(auto, using(crate::proofs::Looking::steps))]
 pub fn found<H: Host>(
     new_store: NewStore,
     host: &mut H,

@@ -1,11 +1,12 @@
 // Opening a store, in steps of a few calls.
-ghost use Rattle.std.specs.Prelude.{◌≡◌, ◌≢◌, ◌≤◌, ◌<◌, ◌+◌, ◌^◌, ◌⊎◌, IsTrue, IfOk, IfErr, OnOk, OnErr, MatchOption, length};
+ghost use Rattle.std.specs.Prelude.{◌≡◌, ◌≢◌, ◌≤◌, ◌<◌, ◌+◌, ◌^◌, ◌⊎◌, IsTrue, IfOk, IfErr, OnOk, OnErr, MatchOption, length, string_bytes};
+ghost use Rattle.st_host.specs.Counts.{HasCause};
 ghost use Rattle.st_host.specs.Files.{bytes_of};
-ghost use Rattle.st_host.specs.Runs.{LeavesOnly, ReadsAlike, Narrows, NarrowsBut, Changes, Spares, Syncs, IsSynced};
+ghost use Rattle.st_host.specs.Runs.{LeavesOnly, ReadsAlike, Narrows, NarrowsBut, Changes, Spares, Syncs, IsSynced, Makes};
 ghost use Rattle.st_store.specs.Names.{roots_file, IsNoFileOf};
 ghost use Rattle.st_store.specs.Roots.{Chooses, IsFresh};
 ghost use Rattle.st_store.specs.Refusals.{IsWrongNumber, Fit, RefusesFront, RefusesNumbers, Refuses, IsOfOpening, FaultHasCause};
-ghost use Rattle.st_store.specs.Stored.{Opens, IsSound, IsKept, IsReady, IsOpening, OpensAsOne, stored_in};
+ghost use Rattle.st_store.specs.Stored.{Stored, Opens, IsSound, IsChosen, IsKept, IsReady, IsOpening, OpensAsOne, stored_in};
 ghost use Rattle.st_store.specs.Faults.{SyncsFirst, HasSettled, Settles};
 ghost use Rattle.st_store.specs.declared.fault.StoreFault.TheVariants.{NotAStore, Disk};
 ghost use Rattle.st_store.specs.declared.fault.StorePlace.TheVariants.{Roots};
@@ -13,8 +14,8 @@ ghost use Rattle.st_store.specs.declared.fault.StorePlace.TheVariants.{Roots};
 use crate::front::{Chosen, choose};
 use crate::names::Names;
 use crate::steps::{stage, turn};
-use crate::{Store, StoreFault, StorePlace};
-use st_host::{Host, file_length, read_from, sync_file};
+use crate::{Root, Store, StoreFault, StorePlace};
+use st_host::{Host, HostFault, file_length, read_from, sync_file};
 use std::alloc::Global;
 
 fn damaged(at: u64) -> StoreFault
@@ -26,6 +27,7 @@ fn damaged(at: u64) -> StoreFault
 }
 
 /// Syncs the roots file, and reads the root that it chooses.
+#[tactic(auto, using(crate::proofs::Looking::looks))]
 fn look<H: Host>(host: &mut H, roots: &str) -> Result<Chosen, StoreFault>
     ensures number { IfOk result (λ r. r.number ≤ 1) }
     ensures slot { IfOk result (λ r. r.root.slot ≤ 3) }
@@ -76,6 +78,7 @@ fn find_wrong_number(chosen: &Chosen, image: u64, changes: u64) -> Option<u64>
 }
 
 /// Syncs the files that a root names, and tests it against their lengths.
+#[tactic(auto, using(crate::proofs::Looking::looks))]
 fn make_firm<H: Host>(
     host: &mut H,
     image: &str,
@@ -107,6 +110,53 @@ fn make_firm<H: Host>(
         Some(at) => Err(damaged(at)),
         None => Ok(()),
     }
+}
+
+/// Syncs the roots file and reads the root that it chooses, and then syncs and tests what this names.
+#[tactic(auto, using(crate::proofs::Looking::looks))]
+fn seek<H: Host>(host: &mut H, names: &Names) -> Result<Chosen, StoreFault>
+    ensures number { IfOk result (λ r. r.number ≤ 1) }
+    ensures sound { IfOk result (λ r. IsSound r.root) }
+    ensures chosen { IfOk result (λ r. let name = string_bytes names.now.name in IsTrue H.is_told
+        → IsChosen H.Host.own host.new name r.number (stored_in name (H.files host.old) r.root)) }
+    ensures refused { IfErr result (λ e. IsTrue H.is_told
+        → Refuses (string_bytes names.now.name) (H.files host.old) e) }
+    ensures kind { IfErr result IsOfOpening }
+    ensures first { OnOk result (SyncsFirst H.Host.own (roots_file (string_bytes names.now.name))
+        host.old host.new) }
+    ensures tried { OnErr result (let roots = roots_file (string_bytes names.now.name) in
+        Syncs H.Host.own roots host.old host.new ⊎ SyncsFirst H.Host.own roots host.old host.new) }
+    ensures alike { OnOk result (ReadsAlike H.Host.own host.old host.new) }
+    ensures narrows { Narrows H.Host.own host.old host.new }
+    ensures spares { Spares H.Host.own (IsNoFileOf (string_bytes names.now.name)) host.old host.new }
+    ensures cause { FaultHasCause (H.disk_faults host.old) (H.disk_faults host.new) result }
+{
+    let chosen = look(host, names.roots())?;
+    let slot = chosen.root.slot;
+    make_firm(host, names.image(slot), names.changes(slot), &chosen)?;
+    Ok(chosen)
+}
+
+/// Writes the root that isn't chosen as a copy of the chosen one, and the gate afresh. Where no stop leaves another root
+/// chosen and what this one names is firm, it stays so at each moment.
+#[tactic(auto, using(crate::proofs::Looking::looks))]
+fn freshen<H: Host>(host: &mut H, names: &Names, number: u64, root: &Root) -> Result<(), HostFault>
+    requires { number ≤ 1 }
+    ensures makes { let name = string_bytes names.now.name in (c : Stored) → IsTrue H.is_told
+        → IsChosen H.Host.own host.old name number c → c.root ≡ root.now
+        → Makes H.Host.own (Opens name) c c host.old host.new result }
+    ensures chosen { OnOk result (let name = string_bytes names.now.name in (c : Stored) → IsTrue H.is_told
+        → IsChosen H.Host.own host.old name number c → c.root ≡ root.now
+        → IsChosen H.Host.own host.new name number c) }
+    ensures fresh { OnOk result (let name = string_bytes names.now.name in (c : Stored) → IsTrue H.is_told
+        → IsChosen H.Host.own host.old name number c → c.root ≡ root.now
+        → IsFresh number root.now (H.files host.new (roots_file name))) }
+    ensures changes { Changes H.Host.own (roots_file (string_bytes names.now.name)) host.old host.new }
+    ensures cause { HasCause (H.disk_faults host.old) (H.disk_faults host.new) result }
+{
+    stage(host, names, number, root)?;
+    turn(host, names, number)?;
+    Ok(())
 }
 
 /// Opens the store of this name. It syncs what it reads before it tests it. Then it writes the root that isn't chosen as
@@ -142,16 +192,9 @@ pub fn open_store<H: Host>(alloc: Global, host: &mut H, name: &str) -> Result<St
     ensures cause { FaultHasCause (H.disk_faults host.old) (H.disk_faults host.new) result }
 {
     let names = Names::new(alloc, name)?;
-    let chosen = look(host, names.roots())?;
-    make_firm(
-        host,
-        names.image(chosen.root.slot),
-        names.changes(chosen.root.slot),
-        &chosen,
-    )?;
+    let chosen = seek(host, &names)?;
     let Chosen { number, root } = chosen;
-    stage(host, &names, number, &root)?;
-    turn(host, &names, number)?;
+    freshen(host, &names, number, &root)?;
     Ok(Store {
         names,
         chosen: number,

@@ -13,6 +13,7 @@ use st_host::{Host, HostFault, write_synced};
 
 /// Writes the root that isn't chosen, and syncs it. Where one root is chosen and what both name is firm, the chosen one stays
 /// at each moment.
+#[tactic(auto, using(crate::proofs::Looking::steps))]
 pub(crate) fn stage<H: Host>(
     host: &mut H,
     names: &Names,
@@ -35,6 +36,7 @@ pub(crate) fn stage<H: Host>(
 }
 
 /// Writes the gate, and syncs it. Where both roots stand and what they name is firm, one of them is chosen at each moment.
+#[tactic(auto, using(crate::proofs::Looking::steps))]
 pub(crate) fn turn<H: Host>(host: &mut H, names: &Names, gate: u64) -> Result<(), HostFault>
     requires { gate ≤ 1 }
     ensures written { OnOk result (let roots = roots_file (string_bytes names.now.name) in IsTrue H.is_told

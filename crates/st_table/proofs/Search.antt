@@ -57,9 +57,10 @@ all_taken ws fs k h full below =
     let sizes = h.sizes in
     full_bits ws k (h.set (k / 64) (omega (arith, below)) (full_bits fs (k / 64) (full (k / 64 / 64) (omega (arith, below, sizes)))))
 
--- the summary after a place was taken
-pub summary_full : (ws fs ws' fs' : List ℕ) (j : ℕ) → IsSummary ws fs → length ws' ≡ length ws → length fs' ≡ length fs → ((r : ℕ) → r ≢ j → get_or ws' r 0 ≡ get_or ws r 0) → get_or ws' j 0 ≡ 2 ^ 64 - 1 → bit fs' j ≡ 1 → ((r : ℕ) → r ≢ j → bit fs' r ≡ bit fs r) → IsSummary ws' fs'
-summary_full ws fs ws' fs' j h sw sf words full marked others =
+-- the summary after a word and its bit in the summary changed
+summary_changed : (ws fs ws' fs' : List ℕ) (j : ℕ) → IsSummary ws fs → length ws' ≡ length ws → length fs' ≡ length fs → ((r : ℕ) → r ≢ j → get_or ws' r 0 ≡ get_or ws r 0) → ((r : ℕ) → r ≢ j → bit fs' r ≡ bit fs r)
+    → (j < length ws → bit fs' j ≡ 1 → get_or ws' j 0 ≡ 2 ^ 64 - 1) → (bit fs' j ≡ 0 → get_or ws' j 0 + 1 < 2 ^ 64) → IsSummary ws' fs'
+summary_changed ws fs ws' fs' j h sw sf words others full room =
     let sizes = h.sizes in
     record {
       sizes = omega (arith, sizes, sw, sf);
@@ -68,31 +69,23 @@ summary_full ws fs ws' fs' j h sw sf words full marked others =
     }
   where
     set : (r : ℕ) → r < length ws → bit fs' r ≡ 1 → (b : Bool) → (r == j) ≡ b → get_or ws' r 0 ≡ 2 ^ 64 - 1
-    set r below e true q = let at : r ≡ j = grind (arith, q) in ap (λ y. get_or ws' y 0) at ∙ full
+    set r below e true q = let at : r ≡ j = grind (arith, q) in ap (λ y. get_or ws' y 0) at ∙ full (omega (arith, below, at)) (ap (bit fs') (sym at) ∙ e)
     set r below e false q = let ne : r ≢ j = λ z. grind (arith, q, z) in words r ne ∙ h.set r below (sym (others r ne) ∙ e)
 
     clear : (r : ℕ) → r < length ws → bit fs' r ≡ 0 → (b : Bool) → (r == j) ≡ b → get_or ws' r 0 + 1 < 2 ^ 64
-    clear r below e true q = let at : r ≡ j = grind (arith, q) in let no : 0 ≡ 1 = sym e ∙ ap (bit fs') at ∙ marked in absurd (omega (arith, no))
+    clear r below e true q = let at : r ≡ j = grind (arith, q) in subst (λ y. get_or ws' y 0 + 1 < 2 ^ 64) (sym at) (room (ap (bit fs') (sym at) ∙ e))
     clear r below e false q = let ne : r ≢ j = λ z. grind (arith, q, z) in subst (λ w. w + 1 < 2 ^ 64) (sym (words r ne)) (h.clear r below (sym (others r ne) ∙ e))
+
+-- the summary after a place was taken
+pub summary_full : (ws fs ws' fs' : List ℕ) (j : ℕ) → IsSummary ws fs → length ws' ≡ length ws → length fs' ≡ length fs → ((r : ℕ) → r ≢ j → get_or ws' r 0 ≡ get_or ws r 0) → get_or ws' j 0 ≡ 2 ^ 64 - 1 → bit fs' j ≡ 1 → ((r : ℕ) → r ≢ j → bit fs' r ≡ bit fs r) → IsSummary ws' fs'
+summary_full ws fs ws' fs' j h sw sf words full marked others =
+    summary_changed ws fs ws' fs' j h sw sf words others (λ below e. full) (λ e. let no : 0 ≡ 1 = sym e ∙ marked in absurd (omega (arith, no)))
 
 pub summary_same : (ws fs ws' : List ℕ) (j k : ℕ) → IsSummary ws fs → length ws' ≡ length ws → ((r : ℕ) → r ≢ j → get_or ws' r 0 ≡ get_or ws r 0) → j ≡ k / 64 → bit ws k ≡ 0 → get_or ws' j 0 + 1 < 2 ^ 64 → IsSummary ws' fs
 summary_same ws fs ws' j k h sw words at_k free room =
-    let sizes = h.sizes in
-    record {
-      sizes = omega (arith, sizes, sw);
-      set = λ r below e. set r (omega (arith, below, sw)) e (r == j) refl;
-      clear = λ r below e. clear r (omega (arith, below, sw)) e (r == j) refl;
-    }
-  where
-    set : (r : ℕ) → r < length ws → bit fs r ≡ 1 → (b : Bool) → (r == j) ≡ b → get_or ws' r 0 ≡ 2 ^ 64 - 1
-    set r below e true q =
-        let at : r ≡ j = grind (arith, q) in
-        let no : 1 ≡ 0 = sym (full_bits ws k (ap (λ y. get_or ws y 0) (sym at_k) ∙ ap (λ y. get_or ws y 0) (sym at) ∙ h.set r below e)) ∙ free in absurd (omega (arith, no))
-    set r below e false q = let ne : r ≢ j = λ z. grind (arith, q, z) in words r ne ∙ h.set r below e
-
-    clear : (r : ℕ) → r < length ws → bit fs r ≡ 0 → (b : Bool) → (r == j) ≡ b → get_or ws' r 0 + 1 < 2 ^ 64
-    clear r below e true q = let at : r ≡ j = grind (arith, q) in subst (λ y. get_or ws' y 0 + 1 < 2 ^ 64) (sym at) room
-    clear r below e false q = let ne : r ≢ j = λ z. grind (arith, q, z) in subst (λ w. w + 1 < 2 ^ 64) (sym (words r ne)) (h.clear r below e)
+    summary_changed ws fs ws' fs j h sw refl words (λ r ne. refl)
+    (λ below e. let no : 1 ≡ 0 = sym (full_bits ws k (ap (λ y. get_or ws y 0) (sym at_k) ∙ h.set j below e)) ∙ free in absurd (omega (arith, no)))
+    (λ e. room)
 
 -- one bit of one word
 pub marked_same : (ws : List ℕ) (k v b : ℕ) → k / 64 < length ws → bit_at v (k % 64) ≡ b → bit (set ws (k / 64) v) k ≡ b
@@ -119,20 +112,7 @@ read_any (x ∷ xs) (suc k) d e h = read_any xs k d e (omega arith)
 -- the summary after a place was freed
 pub summary_cleared : (ws fs ws' fs' : List ℕ) (j : ℕ) → IsSummary ws fs → length ws' ≡ length ws → length fs' ≡ length fs → ((r : ℕ) → r ≢ j → get_or ws' r 0 ≡ get_or ws r 0) → get_or ws' j 0 + 1 < 2 ^ 64 → bit fs' j ≡ 0 → ((r : ℕ) → r ≢ j → bit fs' r ≡ bit fs r) → IsSummary ws' fs'
 summary_cleared ws fs ws' fs' j h sw sf words room cleared others =
-    let sizes = h.sizes in
-    record {
-      sizes = omega (arith, sizes, sw, sf);
-      set = λ r below e. set r (omega (arith, below, sw)) e (r == j) refl;
-      clear = λ r below e. clear r (omega (arith, below, sw)) e (r == j) refl;
-    }
-  where
-    set : (r : ℕ) → r < length ws → bit fs' r ≡ 1 → (b : Bool) → (r == j) ≡ b → get_or ws' r 0 ≡ 2 ^ 64 - 1
-    set r below e true q = let at : r ≡ j = grind (arith, q) in let no : 1 ≡ 0 = sym e ∙ ap (bit fs') at ∙ cleared in absurd (omega (arith, no))
-    set r below e false q = let ne : r ≢ j = λ z. grind (arith, q, z) in words r ne ∙ h.set r below (sym (others r ne) ∙ e)
-
-    clear : (r : ℕ) → r < length ws → bit fs' r ≡ 0 → (b : Bool) → (r == j) ≡ b → get_or ws' r 0 + 1 < 2 ^ 64
-    clear r below e true q = let at : r ≡ j = grind (arith, q) in subst (λ y. get_or ws' y 0 + 1 < 2 ^ 64) (sym at) room
-    clear r below e false q = let ne : r ≢ j = λ z. grind (arith, q, z) in subst (λ w. w + 1 < 2 ^ 64) (sym (words r ne)) (h.clear r below (sym (others r ne) ∙ e))
+    summary_changed ws fs ws' fs' j h sw sf words others (λ below e. let no : 1 ≡ 0 = sym e ∙ cleared in absurd (omega (arith, no))) (λ e. room)
 
 -- at first every bit is set
 pub ones : (n v k : ℕ) → v ≡ 2 ^ 64 - 1 → k < 64 * n → bit (replicate n v) k ≡ 1

@@ -20,3 +20,9 @@ pub record IsLeast (words : List ℕ) (k : ℕ) : Type 0 where
 -- every word but the one at place k stands
 abbrev pub SameOtherWords : List ℕ → List ℕ → ℕ → Type 0
 SameOtherWords words words' k = (j : ℕ) → j ≢ k → slice_index words' j ≡ slice_index words j
+
+-- There are as many words, and every bit but bit k stands; so does every word in which it isn't.
+pub record SameOtherBits (ws ws' : List ℕ) (k : ℕ) : Type 0 where
+  pub size : length ws' ≡ length ws
+  pub others : (i : ℕ) → i ≢ k → bit ws' i ≡ bit ws i
+  pub words : SameOtherWords ws ws' (k / 64)

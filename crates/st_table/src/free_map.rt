@@ -1,5 +1,5 @@
 ghost use Rattle.std.specs.Prelude.{◌≡◌, ◌≢◌, ◌<◌, ◌≤◌, ◌*◌, ◌/◌, ◌+◌, ◌^◌, ◌-◌, ℕ, length, replicate, IfOk, IfSome, IfNone, slice_index};
-ghost use Rattle.st_table.specs.Bits.{bit, IsSummary, IsLeast, SameOtherWords};
+ghost use Rattle.st_table.specs.Bits.{bit, IsSummary, IsLeast, SameOtherBits};
 
 use std::alloc::{AllocError, Global};
 
@@ -87,10 +87,8 @@ fn ones(alloc: Global, n: usize) -> Result<Vec<u64>, AllocError>
 /// Sets one bit.
 fn set_bit(words: &mut Vec<u64>, k: usize)
     requires { k < 64 * length words.old.items }
-    ensures size { length words.new.items ≡ length words.old.items }
     ensures set { bit words.new.items k ≡ 1 }
-    ensures others { (i : ℕ) → i ≢ k → bit words.new.items i ≡ bit words.old.items i }
-    ensures words { SameOtherWords words.old.items words.new.items (k / 64) }
+    ensures rest { SameOtherBits words.old.items words.new.items k }
 {
     words[k / 64] |= 1 << (k % 64);
 }
@@ -98,10 +96,8 @@ fn set_bit(words: &mut Vec<u64>, k: usize)
 /// Clears one bit.
 fn clear_bit(words: &mut Vec<u64>, k: usize)
     requires { k < 64 * length words.old.items }
-    ensures size { length words.new.items ≡ length words.old.items }
     ensures clear { bit words.new.items k ≡ 0 }
-    ensures others { (i : ℕ) → i ≢ k → bit words.new.items i ≡ bit words.old.items i }
-    ensures words { SameOtherWords words.old.items words.new.items (k / 64) }
+    ensures rest { SameOtherBits words.old.items words.new.items k }
     ensures room { slice_index words.new.items (k / 64) + 1 < 2 ^ 64 }
 {
     words[k / 64] &= !(1 << (k % 64));

@@ -1,7 +1,7 @@
 -- What a written image says of each place of its table.
 use Rattle.std.proofs.Common.{◌≡◌, ℕ, zero, suc, ◌+◌, ◌*◌, ◌/◌, ◌%◌, ◌<◌, ◌≤◌, ◌⊎◌, inl, inr, Bool, true, false, not, ◌==◌, List, [], length, get_or, refl, sym, ap, ◌∙◌, subst, arith}
 use Rattle.std.specs.Prelude.{Option, Some, None}
-use Rattle.std.proofs.lemmas.Bool.{cases_lt, lt-ltb, eq-eqb, ne_eqb, and_parts, and_from, not-true, both_ways, ltb-true}
+use Rattle.std.proofs.lemmas.Bool.{cases_lt, lt-ltb, ne_eqb, and_parts, and_from, not-true, both_ways, ltb-true}
 use Rattle.st_model.specs.Limits.{most_words}
 use Rattle.st_model.specs.declared.kind.Kind.{Kind}
 use Rattle.st_model.specs.declared.kind.Kind.TheVariants as kind
@@ -12,7 +12,7 @@ use Rattle.st_model.specs.Machine.{Head}
 use Rattle.st_model.specs.Table.{Table, entry}
 use Rattle.st_model.specs.Show.{IsUsed}
 use Rattle.st_model.specs.Image.{number16, number32, table_start, form_of, entries_of, entry_start, bit, flags, is_free, is_used, place, word, size, class, body}
-use Rattle.st_writer.specs.Written.{bytes_at, words_at, words_below, space_below, entries_below, entry_bytes, word_bytes, long_bytes, marks, object_bytes, text_of}
+use Rattle.st_writer.specs.Written.{bytes_at, words_at, words_below, space_below, entry_bytes, word_bytes, long_bytes, marks, object_bytes, text_of}
 use Rattle.st_writer.proofs.Bytes.{number16-word, number16-after, joined_word, joined_at}
 use Rattle.st_writer.proofs.Bodies.{words_in_parts, length-object, size_word, class_word}
 use Rattle.st_writer.proofs.Placing.{written_head, length-space, length-entry, length-entries, at_entries, at_space, byte_at_space}

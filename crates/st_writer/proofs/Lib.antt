@@ -4,6 +4,7 @@ pub mod Placing
 pub mod Sums
 pub mod Entries
 pub mod Back
+pub mod Adding
 pub mod Rows
 pub mod Places
 mod WrittenRows

@@ -12,8 +12,9 @@ use Rattle.st_model.specs.Table.{Table, entry}
 use Rattle.st_model.specs.Formed.{IsFormed}
 use Rattle.st_model.specs.View.{View, IsWhole, is_live, object_of, nothing, table_of}
 use Rattle.st_model.proofs.WholeLemmas.{formed_live}
-use Rattle.st_writer.specs.Written.{used_below, word_bytes, word_of, unit_words, root_word, bytes_at}
+use Rattle.st_writer.specs.Written.{used_below, word_bytes, long_bytes, word_of, unit_words, root_word, bytes_at, space_below}
 use Rattle.st_writer.proofs.Bodies.{words_in_parts, length-object}
+use Rattle.st_writer.proofs.Bytes.{joined_next}
 
 pub some_there : (e : Option Object) → is_some e ≡ true → e ≡ Some (unwrap_or e nothing)
 some_there None live = cc
@@ -116,3 +117,9 @@ fields_more xs i w e =
 pub bytes_more : (us : List ℕ) (i u : ℕ) → slice_get us i ≡ Some u → take (i + 1) us ≡ take i us ++ u ∷ []
 bytes_more us i u e =
     take_more us i 0 (slice_get_within us i u e) ∙ ap (λ (y : ℕ). take i us ++ y ∷ []) (get_or_from_slice_get us i u 0 e)
+
+pub longs_more : (ns : List ℕ) (i : ℕ) → i < length ns → flat_map long_bytes (take (i + 1) ns) ≡ flat_map long_bytes (take i ns) ++ long_bytes (get_or ns i 0)
+longs_more ns i inside = ap (flat_map long_bytes) (take_more ns i 0 inside) ∙ flat_map-append long_bytes (take i ns) (get_or ns i 0 ∷ [])
+
+pub space_more : (t : Table) (k : ℕ) → space_below t (k + 1) ≡ space_below t k ++ bytes_at (entry t k)
+space_more t k = joined_next (λ j. bytes_at (entry t j)) k

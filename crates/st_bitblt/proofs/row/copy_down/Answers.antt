@@ -10,15 +10,12 @@ loop-left-init g c = record {
 
 pub loop-left-preserved : goal.loop-left-preserved
 loop-left-preserved g c =
-    let old = g.M.Memory.view c.args.m.now in
-    let mid = g.M.Memory.view c.loop-left.m in
-    let new = g.M.Memory.view c.copy_stretch.new.m in
     let count = c.min-count.ensures in
     let f = c.loop-left.invariant.within in
     let k = c.loop-left.left - c.min-count.result in
     record {
       within = omega (arith, f);
-      copied = copied_down_at _ _ _ _ old mid new (c.args.a.p + k) (c.args.a.q + k) c.min-count.result (c.args.a.n - c.loop-left.left) (c.args.a.p + c.loop-left.left) (c.args.a.q + c.loop-left.left) (c.args.a.n - k) c.requires.dest
+      copied = copied_down_at _ _ _ _ _ _ _ (c.args.a.p + k) (c.args.a.q + k) c.min-count.result (c.args.a.n - c.loop-left.left) (c.args.a.p + c.loop-left.left) (c.args.a.q + c.loop-left.left) (c.args.a.n - k) c.requires.dest
           (omega (arith, count)) (omega (arith, count)) (omega (arith, count, f))
           (λ s. let d = c.requires.order s in omega (arith, d)) c.loop-left.invariant.copied c.copy_stretch.ensures;
     }

@@ -10,12 +10,9 @@ loop-done-init g c = record {
 
 pub loop-done-preserved : goal.loop-done-preserved
 loop-done-preserved g c =
-    let old = g.M.Memory.view c.args.m.now in
-    let mid = g.M.Memory.view c.loop-done.m in
-    let new = g.M.Memory.view c.copy_stretch.new.m in
     let count = c.min-count.ensures in
     let t = c.loop-done-test.true in
     record {
       within = omega (arith, count, t);
-      copied = copied_up _ _ _ _ old mid new _ _ _ _ c.requires.dest c.requires.order c.loop-done.invariant.copied c.copy_stretch.ensures;
+      copied = copied_up _ _ _ _ _ _ _ _ _ _ _ c.requires.dest c.requires.order c.loop-done.invariant.copied c.copy_stretch.ensures;
     }

@@ -1,4 +1,4 @@
-use Rattle.std.proofs.Common.{◌≡◌, ◌+◌, ℕ, List, [], ◌∷◌, ◌++◌, length, take, sym, ap, ◌∙◌, subst, arith, length-append}
+use Rattle.std.proofs.Common.{◌≡◌, ◌+◌, List, [], ◌∷◌, ◌++◌, length, take, sym, ap, ◌∙◌, subst, arith, length-append}
 use Rattle.std.proofs.lemmas.List.{take_all}
 use Rattle.st_chunk.specs.Definitions.{Definition, entry, entries}
 use Rattle.st_changes.specs.IndexStates.{found}
@@ -8,8 +8,10 @@ use Rattle.st_changes.proofs.Lasts.{answers_same}
 use Rattle.st_changes.proofs.ListTexts.{entries_more, item_more, item_good, item_within}
 use Rattle.st_changes.proofs.noting.index_all.Goals as goal
 
-pub prepare-requires : goal.prepare-requires
-prepare-requires c = item_good c.args.listed.now c.loop-definition.definition-index c.definition-item.result c.loop-definition-test.true c.definition-item.is c.requires.good
+pub find_selector-requires : goal.find_selector-requires
+find_selector-requires c =
+    let good = item_good c.args.listed.now c.loop-definition.definition-index c.definition-item.result c.loop-definition-test.true c.definition-item.is c.requires.good in
+    omega (arith, good.short, ap length c.deref.ensures.value)
 
 pub entry_length-end-requires : goal.entry_length-end-requires
 entry_length-end-requires c = item_good c.args.listed.now c.loop-definition.definition-index c.definition-item.result c.loop-definition-test.true c.definition-item.is c.requires.good

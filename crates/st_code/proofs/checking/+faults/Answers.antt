@@ -1,27 +1,19 @@
-use Rattle.std.proofs.Common.{◌≡◌, get_or, sym, ap, ◌∙◌, subst, arith}
-use Rattle.st_scan.specs.declared.tree.Expression.{size-Expression}
+use Rattle.std.proofs.Common.{sym, ap, ◌∙◌, subst, arith}
 use Rattle.st_scan.specs.Views.{ExpressionView, names_view as list_view, expression_view, statements_view, block}
-use Rattle.st_scan.specs.Chains.{link_size, links_size}
+use Rattle.st_scan.specs.Chains.{link_size}
 use Rattle.st_scan.proofs.Views.{expression_view-block}
-use Rattle.st_scan.proofs.Chains.{links_within}
+use Rattle.st_scan.proofs.Chains.{link_within, chain_within}
 use Rattle.st_emit.specs.NameViews.{names_view, scope_view}
-use Rattle.st_emit.proofs.Follow.{link_within}
 use Rattle.st_code.specs.Faults.{expression_fault}
 use Rattle.st_code.specs.Reported.{Reports}
 use Rattle.st_code.proofs.checking.+faults.Goals as goal
 
 pub expression-chain-requires-2 : goal.expression-chain-requires-2
 expression-chain-requires-2 t c =
-    let links = ap links_size c.deref.ensures.value in
-    let within = links_within (size-Expression c.args.e.now) c.in_ok-parts.parts.links.items c.in_ok-parts.ensures.within.links in
-    (omega (arith, links, within, c.in_ok-parts.ensures.within.start), c.in_ok-parts.ensures.start)
+    (omega (arith, chain_within c.args.e.now c.in_ok-parts.parts c.deref.result.now c.in_ok-parts.ensures.within c.deref.ensures.value), c.in_ok-parts.ensures.start)
 
 pub sent-messages-requires : goal.sent-messages-requires
-sent-messages-requires t c =
-    let link = c.link-item.result in
-    let within = link_within c.args.links.now c.loop-link.link-index link c.loop-link-test.true in
-    let here : link_size link ≡ link_size (get_or c.args.links.now c.loop-link.link-index link) = ap link_size c.link-item.is in
-    (omega (arith, within, here, ap link_size c.in-Send.is), tt)
+sent-messages-requires t c = (omega (arith, link_within c.args.links.now c.loop-link.link-index c.link-item.result c.loop-link-test.true c.link-item.is, ap link_size c.in-Send.is), tt)
 
 pub start-returns-in-Block : goal.start-returns-in-Block
 start-returns-in-Block t c =

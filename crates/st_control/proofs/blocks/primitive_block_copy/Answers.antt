@@ -6,12 +6,12 @@ pub returns-in_err-answer_block-in-Ok-clause-does : goal.returns-in_err-answer_b
 returns-in_err-answer_block-in-Ok-clause-does g c =
     let e : c.from_residual-in_err-answer_block-in-Ok.result ≡ Err c.in_err-answer_block-in-Ok.field-0.0 = search rules in
     rw e (record {
-      does = tried-block _ _ _ _ _ _ c.in_ok-context.ensures.does c.in_ok-arguments.ensures.does c.in-Ok.ensures.does c.in_err-answer_block-in-Ok.ensures.does.does;
+      does = tried-block _ _ _ _ _ _ c.in_ok-context.ensures.does c.in_ok-count.ensures.does c.in-Ok.ensures.does c.in_err-answer_block-in-Ok.ensures.does.does;
       world = c.in_err-answer_block-in-Ok.ensures.does.world;
     })
 
 pub returns-in_ok-answer_block-in-Ok-clause-does : goal.returns-in_ok-answer_block-in-Ok-clause-does
 returns-in_ok-answer_block-in-Ok-clause-does g c = record {
-  does = tried-block _ _ _ _ _ _ c.in_ok-context.ensures.does c.in_ok-arguments.ensures.does c.in-Ok.ensures.does c.in_ok-answer_block-in-Ok.ensures.does.does;
+  does = tried-block _ _ _ _ _ _ c.in_ok-context.ensures.does c.in_ok-count.ensures.does c.in-Ok.ensures.does c.in_ok-answer_block-in-Ok.ensures.does.does;
   world = c.in_ok-answer_block-in-Ok.ensures.does.world;
 }

@@ -6,12 +6,6 @@ pub returns-in_err-value_with_fields-in-Ok-clause-does : goal.returns-in_err-val
 returns-in_err-value_with_fields-in-Ok-clause-does g c =
     let e : c.from_residual-in_err-value_with_fields-in-Ok.result ≡ Err c.in_err-value_with_fields-in-Ok.field-0.0 = search rules in
     rw e (record {
-      does = tried-value_with _ _ _ _ _ _ c.in_ok-block.ensures.does c.in_ok-array.ensures.does c.in-Ok.ensures.does c.in_err-value_with_fields-in-Ok.ensures.does.does;
+      does = tried-value_with _ _ _ c.in-Ok.passing _ _ c.in-Ok.ensures.block c.in_ok-block.ensures.does c.in_ok-array.ensures.does c.in-Ok.ensures.does c.in_err-value_with_fields-in-Ok.ensures.does.does;
       world = c.in_err-value_with_fields-in-Ok.ensures.does.world;
     })
-
-pub returns-in_ok-value_with_fields-in-Ok-clause-does : goal.returns-in_ok-value_with_fields-in-Ok-clause-does
-returns-in_ok-value_with_fields-in-Ok-clause-does g c = record {
-  does = tried-value_with _ _ _ _ _ _ c.in_ok-block.ensures.does c.in_ok-array.ensures.does c.in-Ok.ensures.does c.in_ok-value_with_fields-in-Ok.ensures.does.does;
-  world = c.in_ok-value_with_fields-in-Ok.ensures.does.world;
-}

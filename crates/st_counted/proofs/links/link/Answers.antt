@@ -20,5 +20,9 @@ returns-clause-holds c = λ p h out.
     (λ z ne other. g.others z other ∙ f.others z ne ∙ e.before z)
     g.here)
 
-pub returns-clause-places : goal.returns-clause-places
-returns-clause-places c = λ k. c.precede.ensures.places k ∙ c.set_before.ensures.places k ∙ c.set_next.ensures.places k
+pub returns-clause-rest : goal.returns-clause-rest
+returns-clause-rest c = record {
+  objects = c.precede.ensures.rest.objects ∙ c.set_before.ensures.objects ∙ c.set_next.ensures.objects;
+  room = c.precede.ensures.rest.room ∙ c.set_before.ensures.room ∙ c.set_next.ensures.room;
+  places = λ k. c.precede.ensures.rest.places k ∙ c.set_before.ensures.places k ∙ c.set_next.ensures.places k;
+}

@@ -6,13 +6,14 @@ use Rattle.st_heap.specs.Links.{next_of, before_of}
 use Rattle.st_counted.specs.Links.{Listed, IsEnd, without_member}
 use Rattle.st_counted.proofs.Linked.{unlinked}
 use Rattle.st_counted.proofs.Listing.{same_end}
+use Rattle.st_counted.proofs.Placed.{same_then}
 use Rattle.st_counted.proofs.links.unlink.Goals as goal
 
 pub precede-requires : goal.precede-requires
 precede-requires c = subst (λ k. IsEnd c.args.objects.now k) (sym c.next-next.ensures) c.requires.next
 
 pub follow-requires : goal.follow-requires
-follow-requires c = same_end c.args.objects.now c.precede.new.objects (c.before-before.result.0 / 2) c.precede.ensures.objects (subst (λ k. IsEnd c.args.objects.now k) (sym c.before-before.ensures) c.requires.before)
+follow-requires c = same_end c.args.objects.now c.precede.new.objects (c.before-before.result.0 / 2) c.precede.ensures.rest.objects (subst (λ k. IsEnd c.args.objects.now k) (sym c.before-before.ensures) c.requires.before)
 
 place_cond : (t : Bool) (a b : Oop) → (cond t a b).0 / 2 ≡ cond t (a.0 / 2) (b.0 / 2)
 place_cond true a b = refl
@@ -39,5 +40,5 @@ returns-clause-holds c = λ p h is_in.
     (λ z ne. f.before z ∙ e.others z (λ q. ne (q ∙ en)))
     (λ ne. f.before (next_of s k) ∙ ap (before_of t) (sym en) ∙ e.here (λ q. ne (sym en ∙ q)) ∙ eb)))
 
-pub returns-clause-places : goal.returns-clause-places
-returns-clause-places c = λ k. c.follow.ensures.places k ∙ c.precede.ensures.places k
+pub returns-clause-rest : goal.returns-clause-rest
+returns-clause-rest c = same_then _ _ _ c.precede.ensures.rest c.follow.ensures.rest

@@ -1,4 +1,4 @@
-use Rattle.std.proofs.Common.{◌≡◌, true, false, Some, None, ◌∙◌, subst, rules}
+use Rattle.std.proofs.Common.{Some, None, ◌∙◌, subst}
 use Rattle.st_scan.specs.Views.{method_view}
 use Rattle.st_emit.specs.NameViews.{names_view}
 use Rattle.st_code.specs.MethodDrafts.{parts_view}
@@ -15,16 +15,12 @@ returns-in_default c =
 
 pub returns-then-same : goal.returns-then-same
 returns-then-same c =
-    let tree = method_view c.args.tree.now in
-    let u = c.in-Some.back in
-    let back = meant_as c.deref.result.now (printed tree) _ (Some u) (c.deref.ensures.value ∙ c.in_ok-text.ensures) c.in-Some.is c.in_ok-back.ensures in
-    let same = subst (HasCode (method_view u) (names_view c.args.names.now) (parts_view c.args.parts.now)) c.if-same.true c.in_ok-same.ensures in
-    one_same (names_view c.args.names.now) (parts_view c.args.parts.now) tree c.requires c.in_ok-text.text.items u c.in_ok-text.ensures back same
+    let back = meant_as c.deref.result.now (printed (method_view c.args.tree.now)) _ (Some c.in-Some.back) (c.deref.ensures.value ∙ c.in_ok-text.ensures) c.in-Some.is c.in_ok-back.ensures in
+    let same = subst (HasCode (method_view c.in-Some.back) (names_view c.args.names.now) (parts_view c.args.parts.now)) c.if-same.true c.in_ok-same.ensures in
+    one_same (names_view c.args.names.now) (parts_view c.args.parts.now) (method_view c.args.tree.now) c.requires c.in_ok-text.text.items c.in-Some.back c.in_ok-text.ensures back same
 
 pub returns-else-same : goal.returns-else-same
 returns-else-same c =
-    let tree = method_view c.args.tree.now in
-    let u = c.in-Some.back in
-    let back = meant_as c.deref.result.now (printed tree) _ (Some u) (c.deref.ensures.value ∙ c.in_ok-text.ensures) c.in-Some.is c.in_ok-back.ensures in
-    let same = subst (HasCode (method_view u) (names_view c.args.names.now) (parts_view c.args.parts.now)) c.if-same.false c.in_ok-same.ensures in
-    none_same (names_view c.args.names.now) (parts_view c.args.parts.now) tree c.requires u back same
+    let back = meant_as c.deref.result.now (printed (method_view c.args.tree.now)) _ (Some c.in-Some.back) (c.deref.ensures.value ∙ c.in_ok-text.ensures) c.in-Some.is c.in_ok-back.ensures in
+    let same = subst (HasCode (method_view c.in-Some.back) (names_view c.args.names.now) (parts_view c.args.parts.now)) c.if-same.false c.in_ok-same.ensures in
+    none_same (names_view c.args.names.now) (parts_view c.args.parts.now) (method_view c.args.tree.now) c.requires c.in-Some.back back same

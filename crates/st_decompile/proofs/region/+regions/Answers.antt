@@ -56,17 +56,13 @@ decided-returns-in_default t c =
 
 pub decided-returns-in-Over : goal.decided-returns-in-Over
 decided-returns-in-Over t c =
-    IfOk-weaker c.chooses.result _ _
-    (λ skip is. is
-    ∙ formed_top c.args.reading c.args.depth c.args.on c.args.distance c.args.spot (stack_view c.args.items.now.items) c.pop.new.self.items c.args.first.items c.in-Some.last (kept.Over c.in-Over.end) c.in-Some.ensures.items c.in-Over.is)
-    c.chooses.ensures
+    let top = formed_top c.args.reading c.args.depth c.args.on c.args.distance c.args.spot (stack_view c.args.items.now.items) c.pop.new.self.items c.args.first.items c.in-Some.last (kept.Over c.in-Over.end) c.in-Some.ensures.items c.in-Over.is in
+    IfOk-weaker c.chooses.result _ _ (λ skip is. is ∙ top) c.chooses.ensures
 
 pub decided-returns-in-Back : goal.decided-returns-in-Back
 decided-returns-in-Back t c =
-    IfOk-weaker c.repeats.result _ _
-    (λ skip is. is
-    ∙ formed_top c.args.reading c.args.depth c.args.on c.args.distance c.args.spot (stack_view c.args.items.now.items) c.pop.new.self.items c.args.first.items c.in-Some.last (kept.Back c.in-Back.end) c.in-Some.ensures.items c.in-Back.is)
-    c.repeats.ensures
+    let top = formed_top c.args.reading c.args.depth c.args.on c.args.distance c.args.spot (stack_view c.args.items.now.items) c.pop.new.self.items c.args.first.items c.in-Some.last (kept.Back c.in-Back.end) c.in-Some.ensures.items c.in-Back.is in
+    IfOk-weaker c.repeats.result _ _ (λ skip is. is ∙ top) c.repeats.ensures
 
 pub decided-returns-in_default-last : goal.decided-returns-in_default-last
 decided-returns-in_default-last t c =

@@ -1,9 +1,8 @@
-use Rattle.std.proofs.Common.{◌≡◌, ℕ, ◌+◌, Bool, true, false, List, IfOk, OnOk, length, take, get_or, Some, refl, sym, ap, ◌∙◌, subst, arith, add-one}
+use Rattle.std.proofs.Common.{◌≡◌, ℕ, ◌+◌, Bool, true, false, List, IfOk, OnOk, length, take, Some, refl, sym, ap, ◌∙◌, subst, arith, add-one}
 use Rattle.std.proofs.lemmas.Result.{on_ok_weaker}
-use Rattle.st_scan.specs.declared.tree.Expression.{size-Expression}
 use Rattle.st_scan.specs.Views.{ExpressionView, MessagesView, StatementsView, names_view, expression_view, expressions_view, messages_view, statements_view, message, statement, block, no_messages, is_super}
-use Rattle.st_scan.specs.Chains.{LinkView, sent, linked, link_view, links_view, with_link, link_size, links_size}
-use Rattle.st_scan.proofs.Chains.{linked_take, links_within}
+use Rattle.st_scan.specs.Chains.{LinkView, sent, linked, link_view, links_view, with_link}
+use Rattle.st_scan.proofs.Chains.{linked_take, link_within, chain_within}
 use Rattle.st_scan.proofs.Views.{expression_view-block}
 use Rattle.st_emit.specs.declared.step.Step.TheVariants.{Pop, Duplicate}
 use Rattle.st_emit.specs.declared.draft.Draft.{Draft}
@@ -18,7 +17,7 @@ use Rattle.st_emit.specs.Drafts.{Adds, Goes, step_part}
 use Rattle.st_emit.specs.Around.{context, at_number, values_part, send_part, message_part, cascade_part, body_part, effect_part, value_part, shape_part, link_part, loop_part, side_part, block_body_part, arguments_part}
 use Rattle.st_emit.proofs.Adding.{then_part, adds_same, adds_then, goes_on}
 use Rattle.st_emit.proofs.Counts.{names_in-block}
-use Rattle.st_emit.proofs.Follow.{link_behind, names_behind, begins_loop, shape_same, super_at, no_loop_at, link_within}
+use Rattle.st_emit.proofs.Follow.{link_behind, names_behind, begins_loop, shape_same, super_at, no_loop_at}
 use Rattle.st_emit.proofs.Forms.{message_same, message_before, cascade_turn, body_turn, choice_done, loop_done, loop_with, block_done, block_body_adds, adds_nothing, inside_is, names_many}
 use Rattle.st_emit.proofs.value.+emitting.Goals as goal
 use Rattle.st_emit.proofs.value.+emitting.Goals.{block_body-then-not-returning+in_ok-put, block_body-else-not-returning}
@@ -148,11 +147,7 @@ start-returns-in-Block-clause-next t c =
     subst (λ (k : ℕ). IfOk c.block.result (λ n. n ≡ k)) same c.block.ensures.next
 
 pub follow-linked-requires : goal.follow-linked-requires
-follow-linked-requires t c =
-    let link = c.index-links-i.result in
-    let within = link_within c.args.links.now c.loop-i.i link c.loop-i-test.true in
-    let here : link_size link ≡ link_size (get_or c.args.links.now c.loop-i.i link) = ap link_size c.index-links-i.is in
-    (omega (arith, within, here), tt)
+follow-linked-requires t c = (omega (arith, link_within c.args.links.now c.loop-i.i c.index-links-i.result c.loop-i-test.true c.index-links-i.is), tt)
 
 pub follow-loop-i-preserved : goal.follow-loop-i-preserved
 follow-loop-i-preserved t c =
@@ -180,9 +175,7 @@ follow-loop-i-preserved t c =
 
 pub value-follow-requires : goal.value-follow-requires
 value-follow-requires t c =
-    let links = ap links_size c.deref.ensures.value in
-    let within = links_within (size-Expression c.args.e.now) c.in_ok-chain.chain.links.items c.in_ok-chain.ensures.within.links in
-    (omega (arith, links, within, c.in_ok-chain.ensures.within.start), c.in_ok-chain.ensures.start)
+    (omega (arith, chain_within c.args.e.now c.in_ok-chain.chain c.deref.result.now c.in_ok-chain.ensures.within c.deref.ensures.value), c.in_ok-chain.ensures.start)
 
 pub linked-returns-in-Some-clause-added : goal.linked-returns-in-Some-clause-added
 linked-returns-in-Some-clause-added t c =

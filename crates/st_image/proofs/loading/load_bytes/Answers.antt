@@ -14,38 +14,27 @@ loop-i-init g c = puts_same (g.L.Loader.loaded c.args.loader.now) c.args.k (fill
 
 pub bounds-image-start : goal.bounds-image-start
 bounds-image-start g c =
-    let a = bytes_range c.args.image.now.head c.args.image.now.bytes.now c.args.k c.requires.sound c.requires.kind in
+    let a = bytes_range c.args.image.now.head c.args.image.now.bytes.now c.args.k c.requires.shape.sound c.requires.kind in
     let f = c.requires.shape.fields in
     let u = c.requires.shape.units in
-    let s = c.requires.sound.inside.space in
+    let s = c.requires.shape.sound.inside.space in
     omega arith
 
-pub set_byte-requires-clause-live : goal.set_byte-requires-clause-live
-set_byte-requires-clause-live g c =
+pub set_byte-requires : goal.set_byte-requires
+set_byte-requires g c =
     let at : IsAt (g.L.Loader.loaded c.loop-i.loader) c.args.k (with_units (filled_in c.args.image.now.head c.args.image.now.bytes.now c.args.k) (unit_in c.args.image.now.head c.args.image.now.bytes.now c.args.k) c.loop-i.i) = at_puts (g.L.Loader.loaded c.args.loader.now) (g.L.Loader.loaded c.loop-i.loader) c.args.k _ c.requires.at.place c.loop-i.invariant in
-    live_at (g.L.Loader.loaded c.loop-i.loader) _ c.args.k _ c.pointer_of.ensures.value at
-
-pub set_byte-requires-clause-kind : goal.set_byte-requires-clause-kind
-set_byte-requires-clause-kind g c =
-    let at : IsAt (g.L.Loader.loaded c.loop-i.loader) c.args.k (with_units (filled_in c.args.image.now.head c.args.image.now.bytes.now c.args.k) (unit_in c.args.image.now.head c.args.image.now.bytes.now c.args.k) c.loop-i.i) = at_puts (g.L.Loader.loaded c.args.loader.now) (g.L.Loader.loaded c.loop-i.loader) c.args.k _ c.requires.at.place c.loop-i.invariant in
-    rw (object_at (g.L.Loader.loaded c.loop-i.loader) _ c.args.k _ c.pointer_of.ensures.value at)
-    (ap is_words ((with_units-rest (filled_in c.args.image.now.head c.args.image.now.bytes.now c.args.k) (unit_in c.args.image.now.head c.args.image.now.bytes.now c.args.k) c.loop-i.i).1 ∙ (filled_in-rest c.args.image.now.head c.args.image.now.bytes.now c.args.k).0) ∙ c.requires.kind)
-
-pub set_byte-requires-clause-above : goal.set_byte-requires-clause-above
-set_byte-requires-clause-above g c =
-    let at : IsAt (g.L.Loader.loaded c.loop-i.loader) c.args.k (with_units (filled_in c.args.image.now.head c.args.image.now.bytes.now c.args.k) (unit_in c.args.image.now.head c.args.image.now.bytes.now c.args.k) c.loop-i.i) = at_puts (g.L.Loader.loaded c.args.loader.now) (g.L.Loader.loaded c.loop-i.loader) c.args.k _ c.requires.at.place c.loop-i.invariant in
-    let l = ap length (with_units-rest (filled_in c.args.image.now.head c.args.image.now.bytes.now c.args.k) (unit_in c.args.image.now.head c.args.image.now.bytes.now c.args.k) c.loop-i.i).2 ∙ (filled_in-rest c.args.image.now.head c.args.image.now.bytes.now c.args.k).1 in
-    let b = c.requires.shape.fields in
-    rw (object_at (g.L.Loader.loaded c.loop-i.loader) _ c.args.k _ c.pointer_of.ensures.value at) (omega arith)
-
-pub set_byte-requires-clause-range : goal.set_byte-requires-clause-range
-set_byte-requires-clause-range g c =
-    let at : IsAt (g.L.Loader.loaded c.loop-i.loader) c.args.k (with_units (filled_in c.args.image.now.head c.args.image.now.bytes.now c.args.k) (unit_in c.args.image.now.head c.args.image.now.bytes.now c.args.k) c.loop-i.i) = at_puts (g.L.Loader.loaded c.args.loader.now) (g.L.Loader.loaded c.loop-i.loader) c.args.k _ c.requires.at.place c.loop-i.invariant in
-    let l = ap length (with_units-rest (filled_in c.args.image.now.head c.args.image.now.bytes.now c.args.k) (unit_in c.args.image.now.head c.args.image.now.bytes.now c.args.k) c.loop-i.i).2 ∙ (filled_in-rest c.args.image.now.head c.args.image.now.bytes.now c.args.k).1 in
+    let there = object_at (g.L.Loader.loaded c.loop-i.loader) _ c.args.k _ c.pointer_of.ensures.value at in
+    let rest = with_units-rest (filled_in c.args.image.now.head c.args.image.now.bytes.now c.args.k) (unit_in c.args.image.now.head c.args.image.now.bytes.now c.args.k) c.loop-i.i in
+    let l = ap length rest.2 ∙ (filled_in-rest c.args.image.now.head c.args.image.now.bytes.now c.args.k).1 in
     let m = with_units-length (filled_in c.args.image.now.head c.args.image.now.bytes.now c.args.k) (unit_in c.args.image.now.head c.args.image.now.bytes.now c.args.k) c.loop-i.i ∙ (filled_in-rest c.args.image.now.head c.args.image.now.bytes.now c.args.k).2 in
     let b = c.requires.shape.fields in
     let d = c.requires.shape.units in
-    rw (object_at (g.L.Loader.loaded c.loop-i.loader) _ c.args.k _ c.pointer_of.ensures.value at) (omega arith)
+    record {
+      live = live_at (g.L.Loader.loaded c.loop-i.loader) _ c.args.k _ c.pointer_of.ensures.value at;
+      kind = rw there (ap is_words (rest.1 ∙ (filled_in-rest c.args.image.now.head c.args.image.now.bytes.now c.args.k).0) ∙ c.requires.kind);
+      above = rw there (omega arith);
+      range = rw there (omega arith);
+    }
 
 pub loop-i-preserved : goal.loop-i-preserved
 loop-i-preserved g c =

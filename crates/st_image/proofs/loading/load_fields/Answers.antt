@@ -10,27 +10,21 @@ pub loop-i-init : goal.loop-i-init
 loop-i-init g c = puts_same (g.L.Loader.loaded c.args.loader.now) c.args.k (fresh_in c.args.image.now.head c.args.image.now.bytes.now c.args.k) c.requires.at
 
 pub body-requires-clause-range : goal.body-requires-clause-range
-body-requires-clause-range g c = let a = fields_range c.args.image.now.head c.args.image.now.bytes.now c.args.k c.requires.sound in let b = c.requires.shape.fields in omega arith
+body-requires-clause-range g c = let a = fields_range c.args.image.now.head c.args.image.now.bytes.now c.args.k c.requires.shape.sound in let b = c.requires.shape.fields in omega arith
 
-pub set_pointer-requires-clause-live : goal.set_pointer-requires-clause-live
-set_pointer-requires-clause-live g c =
+pub set_pointer-requires : goal.set_pointer-requires
+set_pointer-requires g c =
     let at : IsAt (g.L.Loader.loaded c.loop-i.loader) c.args.k (with_fields (fresh_in c.args.image.now.head c.args.image.now.bytes.now c.args.k) (field_in c.args.image.now.head c.args.image.now.bytes.now c.args.k) c.loop-i.i) = at_puts (g.L.Loader.loaded c.args.loader.now) (g.L.Loader.loaded c.loop-i.loader) c.args.k _ c.requires.at.place c.loop-i.invariant in
-    live_at (g.L.Loader.loaded c.loop-i.loader) _ c.args.k _ c.pointer_of.ensures.value at
-
-pub set_pointer-requires-clause-range : goal.set_pointer-requires-clause-range
-set_pointer-requires-clause-range g c =
-    let at : IsAt (g.L.Loader.loaded c.loop-i.loader) c.args.k (with_fields (fresh_in c.args.image.now.head c.args.image.now.bytes.now c.args.k) (field_in c.args.image.now.head c.args.image.now.bytes.now c.args.k) c.loop-i.i) = at_puts (g.L.Loader.loaded c.args.loader.now) (g.L.Loader.loaded c.loop-i.loader) c.args.k _ c.requires.at.place c.loop-i.invariant in
+    let there = object_at (g.L.Loader.loaded c.loop-i.loader) _ c.args.k _ c.pointer_of.ensures.value at in
     let l = with_fields-length (fresh_in c.args.image.now.head c.args.image.now.bytes.now c.args.k) (field_in c.args.image.now.head c.args.image.now.bytes.now c.args.k) c.loop-i.i ∙ fresh_in-fields c.args.image.now.head c.args.image.now.bytes.now c.args.k in
     let b = c.requires.shape.fields in
-    rw (object_at (g.L.Loader.loaded c.loop-i.loader) _ c.args.k _ c.pointer_of.ensures.value at) (omega arith)
-
-pub set_pointer-requires-clause-header : goal.set_pointer-requires-clause-header
-set_pointer-requires-clause-header g c =
-    let at : IsAt (g.L.Loader.loaded c.loop-i.loader) c.args.k (with_fields (fresh_in c.args.image.now.head c.args.image.now.bytes.now c.args.k) (field_in c.args.image.now.head c.args.image.now.bytes.now c.args.k) c.loop-i.i) = at_puts (g.L.Loader.loaded c.args.loader.now) (g.L.Loader.loaded c.loop-i.loader) c.args.k _ c.requires.at.place c.loop-i.invariant in
-    rw (object_at (g.L.Loader.loaded c.loop-i.loader) _ c.args.k _ c.pointer_of.ensures.value at, c.body.ensures)
-    (header_is c.args.image.now.head c.args.image.now.bytes.now c.args.k c.loop-i.i (with_fields (fresh_in c.args.image.now.head c.args.image.now.bytes.now c.args.k) (field_in c.args.image.now.head c.args.image.now.bytes.now c.args.k) c.loop-i.i) c.requires.sound
-    ((with_fields-rest (fresh_in c.args.image.now.head c.args.image.now.bytes.now c.args.k) (field_in c.args.image.now.head c.args.image.now.bytes.now c.args.k) c.loop-i.i).1 ∙ (fresh_in-class c.args.image.now.head c.args.image.now.bytes.now c.args.k).1)
-    (with_fields-length (fresh_in c.args.image.now.head c.args.image.now.bytes.now c.args.k) (field_in c.args.image.now.head c.args.image.now.bytes.now c.args.k) c.loop-i.i ∙ fresh_in-fields c.args.image.now.head c.args.image.now.bytes.now c.args.k))
+    record {
+      live = live_at (g.L.Loader.loaded c.loop-i.loader) _ c.args.k _ c.pointer_of.ensures.value at;
+      range = rw there (omega arith);
+      header =
+          rw (there, c.body.ensures)
+          (header_is c.args.image.now.head c.args.image.now.bytes.now c.args.k c.loop-i.i (with_fields (fresh_in c.args.image.now.head c.args.image.now.bytes.now c.args.k) (field_in c.args.image.now.head c.args.image.now.bytes.now c.args.k) c.loop-i.i) c.requires.shape.sound ((with_fields-rest (fresh_in c.args.image.now.head c.args.image.now.bytes.now c.args.k) (field_in c.args.image.now.head c.args.image.now.bytes.now c.args.k) c.loop-i.i).1 ∙ (fresh_in-class c.args.image.now.head c.args.image.now.bytes.now c.args.k).1) l);
+    }
 
 pub loop-i-preserved : goal.loop-i-preserved
 unfolding field_in

@@ -11,25 +11,19 @@ pub loop-i-init : goal.loop-i-init
 loop-i-init g c = puts_same (g.L.Loader.loaded c.args.loader.now) c.args.k (filled_in c.args.image.now.head c.args.image.now.bytes.now c.args.k) c.requires.at
 
 pub body-requires-clause-range : goal.body-requires-clause-range
-body-requires-clause-range g c = let a = units_range c.args.image.now.head c.args.image.now.bytes.now c.args.k c.requires.sound c.requires.kind in let b = c.requires.shape.units in omega arith
+body-requires-clause-range g c = let a = units_range c.args.image.now.head c.args.image.now.bytes.now c.args.k c.requires.shape.sound c.requires.kind in let b = c.requires.shape.units in omega arith
 
-pub set_word-requires-clause-live : goal.set_word-requires-clause-live
-set_word-requires-clause-live g c =
+pub set_word-requires : goal.set_word-requires
+set_word-requires g c =
     let at : IsAt (g.L.Loader.loaded c.loop-i.loader) c.args.k (with_units (filled_in c.args.image.now.head c.args.image.now.bytes.now c.args.k) (unit_in c.args.image.now.head c.args.image.now.bytes.now c.args.k) c.loop-i.i) = at_puts (g.L.Loader.loaded c.args.loader.now) (g.L.Loader.loaded c.loop-i.loader) c.args.k _ c.requires.at.place c.loop-i.invariant in
-    live_at (g.L.Loader.loaded c.loop-i.loader) _ c.args.k _ c.pointer_of.ensures.value at
-
-pub set_word-requires-clause-kind : goal.set_word-requires-clause-kind
-set_word-requires-clause-kind g c =
-    let at : IsAt (g.L.Loader.loaded c.loop-i.loader) c.args.k (with_units (filled_in c.args.image.now.head c.args.image.now.bytes.now c.args.k) (unit_in c.args.image.now.head c.args.image.now.bytes.now c.args.k) c.loop-i.i) = at_puts (g.L.Loader.loaded c.args.loader.now) (g.L.Loader.loaded c.loop-i.loader) c.args.k _ c.requires.at.place c.loop-i.invariant in
-    rw (object_at (g.L.Loader.loaded c.loop-i.loader) _ c.args.k _ c.pointer_of.ensures.value at)
-    (ap is_words ((with_units-rest (filled_in c.args.image.now.head c.args.image.now.bytes.now c.args.k) (unit_in c.args.image.now.head c.args.image.now.bytes.now c.args.k) c.loop-i.i).1 ∙ (filled_in-rest c.args.image.now.head c.args.image.now.bytes.now c.args.k).0) ∙ c.requires.kind)
-
-pub set_word-requires-clause-range : goal.set_word-requires-clause-range
-set_word-requires-clause-range g c =
-    let at : IsAt (g.L.Loader.loaded c.loop-i.loader) c.args.k (with_units (filled_in c.args.image.now.head c.args.image.now.bytes.now c.args.k) (unit_in c.args.image.now.head c.args.image.now.bytes.now c.args.k) c.loop-i.i) = at_puts (g.L.Loader.loaded c.args.loader.now) (g.L.Loader.loaded c.loop-i.loader) c.args.k _ c.requires.at.place c.loop-i.invariant in
+    let there = object_at (g.L.Loader.loaded c.loop-i.loader) _ c.args.k _ c.pointer_of.ensures.value at in
     let l = with_units-length (filled_in c.args.image.now.head c.args.image.now.bytes.now c.args.k) (unit_in c.args.image.now.head c.args.image.now.bytes.now c.args.k) c.loop-i.i ∙ (filled_in-rest c.args.image.now.head c.args.image.now.bytes.now c.args.k).2 in
     let b = c.requires.shape.units in
-    rw (object_at (g.L.Loader.loaded c.loop-i.loader) _ c.args.k _ c.pointer_of.ensures.value at) (omega arith)
+    record {
+      live = live_at (g.L.Loader.loaded c.loop-i.loader) _ c.args.k _ c.pointer_of.ensures.value at;
+      kind = rw there (ap is_words ((with_units-rest (filled_in c.args.image.now.head c.args.image.now.bytes.now c.args.k) (unit_in c.args.image.now.head c.args.image.now.bytes.now c.args.k) c.loop-i.i).1 ∙ (filled_in-rest c.args.image.now.head c.args.image.now.bytes.now c.args.k).0) ∙ c.requires.kind);
+      range = rw there (omega arith);
+    }
 
 pub loop-i-preserved : goal.loop-i-preserved
 loop-i-preserved g c =

@@ -15,20 +15,20 @@ place-requires-clause-free g c = free_at (g.L.Loader.loaded c.args.loader.now) _
 
 pub place-requires-clause-class : goal.place-requires-clause-class
 place-requires-clause-class g c =
-    let a = named_even c.args.image.now.head c.args.image.now.bytes.now _ c.requires.sound.class_used in
+    let a = named_even c.args.image.now.head c.args.image.now.bytes.now _ c.requires.shape.sound.class_used in
     rw (c.class.ensures, is_small-value_of) (rw a refl)
 
 pub place-requires-clause-makeable : goal.place-requires-clause-makeable
 place-requires-clause-makeable g c =
     let s = c.requires.shape in
     rw (c.class.ensures, c.size.ensures, c.literals.ensures, s.kind, s.fields, s.units)
-    (makeable c.args.image.now.head c.args.image.now.bytes.now c.args.k c.requires.sound (named_even c.args.image.now.head c.args.image.now.bytes.now _ c.requires.sound.class_used) (let a = s.few_words in omega arith))
+    (makeable c.args.image.now.head c.args.image.now.bytes.now c.args.k c.requires.shape.sound (named_even c.args.image.now.head c.args.image.now.bytes.now _ c.requires.shape.sound.class_used) (let a = s.few_words in omega arith))
 
 pub place-requires-clause-words : goal.place-requires-clause-words
 unfolding fresh_in
 place-requires-clause-words g c =
     let s = c.requires.shape in
-    let a = fresh_in-words c.args.image.now.head c.args.image.now.bytes.now c.args.k c.requires.sound in
+    let a = fresh_in-words c.args.image.now.head c.args.image.now.bytes.now c.args.k c.requires.shape.sound in
     rw (c.class.ensures, c.size.ensures, c.literals.ensures, s.kind, s.fields, s.units) (let b = c.requires.room.words in omega arith)
 
 pub returns : goal.returns

@@ -1,4 +1,4 @@
-use Rattle.std.proofs.Common.{rules, ◌≡◌, ◌-◌, length, Some, sym, ap, subst, ◌∙◌}
+use Rattle.std.proofs.Common.{rules, ◌≡◌, ◌-◌, Some, sym, ap, subst, ◌∙◌}
 use Rattle.st_model.specs.Values.{value}
 use Rattle.st_model.specs.Surroundings.{newest_of}
 use Rattle.st_model.specs.View.{IsKnown, with_held}

@@ -1,9 +1,9 @@
-use Rattle.std.proofs.Common.{rules, ◌≡◌, Bool, true, sym, ap, ◌∙◌}
+use Rattle.std.proofs.Common.{rules, ◌≡◌, true, sym, ap, ◌∙◌}
 use Rattle.std.specs.Prelude.{◌&&◌, if◌then◌else◌}
 use Rattle.st_model.specs.Values.{word}
 use Rattle.st_model.specs.Objects.{nil}
 use Rattle.st_model.specs.declared.device.Device.TheVariants as device
-use Rattle.st_model.specs.Machine.{World, is_there}
+use Rattle.st_model.specs.Machine.{is_there}
 use Rattle.st_model.specs.Table.{table}
 use Rattle.st_model.specs.Events.{has_signal_room}
 use Rattle.st_model.specs.Surroundings.{changed_world, Hold, AddSignal}

@@ -1,14 +1,11 @@
 use Rattle.std.proofs.Common.{◌∙◌}
-use Rattle.st_ints.proofs.Quotients.{Widened, small, small_times, is_zero_of, is_other_of, nonzero, modulo_by_zero, modulo_done}
+use Rattle.st_model.specs.Integers.{modulo}
+use Rattle.st_ints.proofs.Quotients.{Widened, small, small_times, is_zero_of, is_other_of, nonzero, by_zero, modulo_done}
 use Rattle.st_ints.proofs.division.modulo.Goals as goal
 
 pub returns-then-y-eq0-clause-answer : goal.returns-then-y-eq0-clause-answer
-returns-then-y-eq0-clause-answer c =
-    let w : Widened c.args.b c.from-y.result = record { fits = c.ranges.b; same = c.from-y.ensures } in
-    modulo_by_zero c.args.a c.args.b (is_zero_of c.args.b c.from-y.result w c.if-y-eq0.true)
-
-pub returns-then-y-eq0-clause-small : goal.returns-then-y-eq0-clause-small
-returns-then-y-eq0-clause-small c = tt
+unfolding modulo
+returns-then-y-eq0-clause-answer c = by_zero c.args.b _ (is_zero_of c.args.b c.from-y.result (record { fits = c.ranges.b; same = c.from-y.ensures }) c.if-y-eq0.true)
 
 pub floor_quotient-requires-clause-dividend : goal.floor_quotient-requires-clause-dividend
 floor_quotient-requires-clause-dividend c = small c.args.a c.from-x.result (record { fits = c.ranges.a; same = c.from-x.ensures }) c.requires.dividend
@@ -36,6 +33,3 @@ returns-clause-answer c =
     let w : Widened c.args.b c.from-y.result = record { fits = c.ranges.b; same = c.from-y.ensures } in
     c.within_range.ensures.answer
     ∙ modulo_done c.args.a c.args.b c.from-x.result c.from-y.result c.floor_quotient.result c.remainder.result v w (is_other_of c.args.b c.from-y.result w c.if-y-eq0.false) (record { sfits = c.floor_quotient.type_inv }) (record { sfits = c.remainder.type_inv }) c.floor_quotient.ensures.quotient c.remainder.ensures
-
-pub returns-clause-small : goal.returns-clause-small
-returns-clause-small c = c.within_range.ensures.small

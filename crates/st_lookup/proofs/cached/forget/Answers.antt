@@ -1,4 +1,3 @@
-use Rattle.std.proofs.Common.{◌∙◌}
 use Rattle.st_lookup.proofs.Staying.{nothing_remembered}
 use Rattle.st_lookup.proofs.cached.forget.Goals as goal
 

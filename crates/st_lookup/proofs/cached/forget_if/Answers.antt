@@ -1,4 +1,3 @@
-use Rattle.std.proofs.Common.{◌∙◌}
 use Rattle.st_lookup.proofs.Staying.{all_same}
 use Rattle.st_lookup.proofs.cached.forget_if.Goals as goal
 

@@ -3,7 +3,6 @@ use Rattle.st_model.specs.declared.dead.Dead.{Dead}
 use Rattle.st_model.specs.declared.word.Word.{Word}
 use Rattle.st_model.specs.Values.{Value, value, word}
 use Rattle.st_model.specs.Machine.{Went}
-use Rattle.st_model.specs.Steps.{same_value}
 use Rattle.st_model.specs.Lookup.{find}
 use Rattle.st_model.specs.Table.{bounded_table}
 use Rattle.st_model.specs.Calls.{Reads}

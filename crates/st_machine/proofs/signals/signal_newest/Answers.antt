@@ -1,6 +1,5 @@
-use Rattle.std.proofs.Common.{rules, ◌≡◌, ◌-◌, ◌+◌, ℕ, suc, Err, refl, sym, subst, ap, ◌∙◌, arith, length}
-use Rattle.st_model.specs.Machine.{State}
-use Rattle.st_model.specs.Table.{Table, bounded_table}
+use Rattle.std.proofs.Common.{rules, ◌≡◌, ◌-◌, ◌+◌, ℕ, suc, Err, sym, subst, ap, ◌∙◌, arith, length}
+use Rattle.st_model.specs.Table.{bounded_table}
 use Rattle.st_model.specs.Cycles.{signal_newest}
 use Rattle.st_model.specs.Calls.{Does, itself}
 use Rattle.st_frames.specs.Shown.{shown}

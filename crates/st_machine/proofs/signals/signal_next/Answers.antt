@@ -1,7 +1,7 @@
-use Rattle.std.proofs.Common.{◌≡◌, Some, None, sym, subst, ap, ◌∙◌}
+use Rattle.std.proofs.Common.{sym, ap, ◌∙◌}
 use Rattle.st_model.specs.Values.{value}
-use Rattle.st_model.specs.Machine.{State, World}
-use Rattle.st_model.specs.Table.{Table, bounded_table}
+use Rattle.st_model.specs.Machine.{World}
+use Rattle.st_model.specs.Table.{bounded_table}
 use Rattle.st_model.specs.Processes.{signal}
 use Rattle.st_frames.specs.Shown.{shown}
 use Rattle.st_machine.proofs.Done.{next_made, next_none}

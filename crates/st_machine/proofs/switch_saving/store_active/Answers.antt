@@ -1,4 +1,3 @@
-use Rattle.std.proofs.Common.{ap}
 use Rattle.st_model.specs.Table.{bounded_table}
 use Rattle.st_model.specs.Saving.{store_active}
 use Rattle.st_machine.proofs.Done.{row_does}

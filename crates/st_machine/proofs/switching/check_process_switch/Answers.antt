@@ -1,7 +1,4 @@
-use Rattle.std.proofs.Common.{rules, ◌≡◌, Err, sym, subst, ◌∙◌}
-use Rattle.st_model.specs.Table.{bounded_table}
-use Rattle.st_model.specs.Cycles.{check_process_switch}
-use Rattle.st_model.specs.Calls.{Does, itself}
+use Rattle.std.proofs.Common.{rules, ◌≡◌, Err, sym, ◌∙◌}
 use Rattle.st_frames.specs.Shown.{shown}
 use Rattle.st_machine.proofs.Done.{signals_die, signals_made, quiet_goes}
 use Rattle.st_machine.proofs.switching.check_process_switch.Goals as goal
@@ -10,8 +7,7 @@ pub returns-in_err-signal_newest-clause-does : goal.returns-in_err-signal_newest
 returns-in_err-signal_newest-clause-does g c =
     let s = shown (g.M.Memory.view c.args.m.now) c.args.f.now c.args.w.now in
     let e : c.from_residual.result ≡ Err c.in_err-signal_newest.field-0.0 = search rules in
-    subst (λ y. Does (check_process_switch bounded_table) itself s y (shown (g.M.Memory.view c.signal_newest.new.m) c.args.f.now c.signal_newest.new.w)) (sym e)
-    (signals_die s c.in_err-signal_newest.field-0.0 c.in_err-signal_newest.ensures.does)
+    rw e (signals_die s c.in_err-signal_newest.field-0.0 c.in_err-signal_newest.ensures.does)
 
 pub returns-clause-does : goal.returns-clause-does
 returns-clause-does g c =

@@ -1,9 +1,7 @@
-use Rattle.std.proofs.Common.{rules, ◌≡◌, Err, sym, subst}
+use Rattle.std.proofs.Common.{rules, ◌≡◌, Err}
 use Rattle.st_model.specs.Values.{word, value}
 use Rattle.st_model.specs.Table.{bounded_table}
 use Rattle.st_model.specs.Processes.{leave_process}
-use Rattle.st_model.specs.Calls.{Does, itself}
-use Rattle.st_frames.specs.Shown.{shown}
 use Rattle.st_machine.proofs.Done.{row_goes, row_dies}
 use Rattle.st_machine.proofs.switching.leave.Goals as goal
 
@@ -12,8 +10,7 @@ returns-in_err-deed-clause-does g c =
     let v = g.M.Memory.view c.args.m.now in
     let e : c.from_residual.result ≡ Err c.in_err-deed.field-0.0 = search rules in
     let x = value c.args.process in
-    subst (λ y. Does (leave_process bounded_table x) itself (shown v c.args.f.now c.args.w.now) y (shown (g.M.Memory.view c.leave_process.new.m) c.args.f.now c.args.w.now)) (sym e)
-    (row_dies (leave_process bounded_table) (word c.from.result) x c.from.ensures v c.args.f.now c.args.w.now c.load-r.result c.in_err-deed.field-0.0 c.load-r.ensures.registers c.load-r.ensures.world c.in_err-deed.ensures.does.does)
+    rw e (row_dies (leave_process bounded_table) (word c.from.result) x c.from.ensures v c.args.f.now c.args.w.now c.load-r.result c.in_err-deed.field-0.0 c.load-r.ensures.registers c.load-r.ensures.world c.in_err-deed.ensures.does.does)
 
 pub returns-clause-does : goal.returns-clause-does
 returns-clause-does g c =

@@ -1,20 +1,20 @@
-use Rattle.std.proofs.Common.{◌≡◌, ℕ, ◌+◌, ◌<◌, ◌≤◌, ◌==◌, Bool, true, false, List, [], ◌∷◌, ◌++◌, IfOk, length, take, drop, get_or, Some, refl, sym, ap, ◌∙◌, subst, arith, add-one}
+use Rattle.std.proofs.Common.{◌≡◌, ℕ, ◌+◌, ◌<◌, ◌≤◌, ◌==◌, Bool, true, false, List, [], ◌∷◌, ◌++◌, IfOk, length, take, drop, Some, refl, sym, ap, ◌∙◌, subst, arith, add-one}
 use Rattle.std.proofs.lemmas.Bool.Decides.{nat_tests}
 use Rattle.std.proofs.lemmas.List.{at_drop_all, take_all}
-use Rattle.st_scan.specs.declared.tree.Expression.{Expression, size-Expression}
+use Rattle.st_scan.specs.declared.tree.Expression.{Expression}
 use Rattle.st_scan.specs.declared.tree.Message.{Message as Sent}
 use Rattle.st_scan.specs.declared.tree.Statement.{Statement}
 use Rattle.st_scan.specs.declared.chain.Link.{Link}
 use Rattle.st_scan.specs.Views.{ExpressionView, expression_view, expressions_view, messages_view, statements_view, is_super}
-use Rattle.st_scan.specs.Chains.{linked, link_view, links_view, with_link, link_size, links_size}
-use Rattle.st_scan.proofs.Chains.{linked_take, links_within}
+use Rattle.st_scan.specs.Chains.{linked, link_view, links_view, with_link}
+use Rattle.st_scan.proofs.Chains.{linked_take, link_within, chain_within}
 use Rattle.st_emit.specs.Nodes.{sided, loop, node, nothing, returned, is_above}
 use Rattle.st_emit.specs.Resolving.{by_selector, before, names_in, names_in_all, names_in_messages, names_in_statements, expression_node, plain_tail}
 use Rattle.st_emit.specs.Drafts.{Resolves}
 use Rattle.st_emit.specs.Around.{context, at_number, message_of, link_tail}
 use Rattle.st_emit.specs.Emits.{chained, after, after_all, after_statements}
 use Rattle.st_emit.specs.Shapes.{plain, one_sided, two_sided, repetition_view, repetition_of, first_repetition}
-use Rattle.st_emit.proofs.Follow.{names_behind, super_at, no_loop_at, link_within}
+use Rattle.st_emit.proofs.Follow.{names_behind, super_at, no_loop_at}
 use Rattle.st_meaning.specs.declared.arena.Statements.{Statements}
 use Rattle.st_meaning.specs.declared.arena.Message.{Message}
 use Rattle.st_meaning.specs.declared.arena.Act.{Act}
@@ -275,11 +275,7 @@ follow-loop-i-init t c =
     }
 
 pub follow-linked-requires : goal.follow-linked-requires
-follow-linked-requires t c =
-    let link = c.index-links-i.result in
-    let within = link_within c.args.links.now c.loop-i.i link c.loop-i-test.true in
-    let here : link_size link ≡ link_size (get_or c.args.links.now c.loop-i.i link) = ap link_size c.index-links-i.is in
-    (omega (arith, within, here), c.requires.few)
+follow-linked-requires t c = (omega (arith, link_within c.args.links.now c.loop-i.i c.index-links-i.result c.loop-i-test.true c.index-links-i.is), c.requires.few)
 
 pub follow-loop-i-preserved : goal.follow-loop-i-preserved
 follow-loop-i-preserved t c =
@@ -316,9 +312,7 @@ follow-returns-clause-built t c =
 
 pub value-follow-requires : goal.value-follow-requires
 value-follow-requires t c =
-    let links = ap links_size c.deref.ensures.value in
-    let within = links_within (size-Expression c.args.e.now) c.in_ok-chain.chain.links.items c.in_ok-chain.ensures.within.links in
-    (omega (arith, links, within, c.in_ok-chain.ensures.within.start), (c.requires, c.in_ok-chain.ensures.start))
+    (omega (arith, chain_within c.args.e.now c.in_ok-chain.chain c.deref.result.now c.in_ok-chain.ensures.within c.deref.ensures.value), (c.requires, c.in_ok-chain.ensures.start))
 
 pub value-returns-clause-built : goal.value-returns-clause-built
 value-returns-clause-built t c =

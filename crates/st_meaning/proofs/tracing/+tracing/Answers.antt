@@ -9,11 +9,11 @@ use Rattle.st_meaning.specs.declared.tracing.TurnEnd.{TurnEnd}
 use Rattle.st_meaning.specs.Runs.{long, answer_to, assign_to, make_block}
 use Rattle.st_meaning.specs.Meanings.{most}
 use Rattle.st_meaning.specs.Courses.{going_view, stack_view, IsLongTest}
-use Rattle.st_meaning.specs.Arenas.{act_run, message_run, runs_of}
+use Rattle.st_meaning.specs.Arenas.{act_run, message_run, left, runs_of}
 use Rattle.st_meaning.specs.Traced.{IsCut, IsTurnCut, IsRepeatCut, EndsTurn, node_in, start_in, acts_in, act_in, messages_in, message_in, arguments_in, nodes_in, body_in, sided_in, chosen_in, loop_in}
 use Rattle.st_meaning.proofs.Continuing.{faulted, still_long}
 use Rattle.st_meaning.proofs.Arenas.{each_went, each_over, each_cut, each_end}
-use Rattle.st_meaning.proofs.Following.{no_node, node_is, behind_goes, behind_long, behind_none, behind_cut, long_cut, goes_so, long_so, some_went, none_over, message_is, message_over, message_cut, tested, untested, sided_is, sided_over, sided_cut, chosen_is, chosen_over, chosen_cut, body_is, body_over, body_cut, turn_left, turn_over, turn_unsure, turn_again, turn_cut, turn_test_cut, turn_again_cut, again_back, again_over, again_cut, again_long, turned_again, turned_left, turned_over, turned_cut, no_turn, returned_over, returned_long}
+use Rattle.st_meaning.proofs.Following.{no_node, node_is, behind_goes, behind_long, behind_none, behind_cut, long_cut, goes_so, long_so, some_went, none_over, message_is, message_over, message_cut, tested, untested, sided_is, sided_over, sided_cut, chosen_is, chosen_over, chosen_cut, ended_is, ended_over, ended_cut, turn_left, turn_over, turn_unsure, turn_again, turn_cut, turn_test_cut, turn_again_cut, again_back, again_over, again_cut, again_long, turned_again, turned_left, turned_over, turned_cut, no_turn, returned_over, returned_long}
 use Rattle.st_meaning.proofs.tracing.+tracing.Goals as goal
 
 -- NODES
@@ -343,7 +343,7 @@ pub body-returns-in_ok-did-in-Some-clause-goes : goal.body-returns-in_ok-did-in-
 body-returns-in_ok-did-in-Some-clause-goes t c =
     let mid = c.statements.new.course in
     let given = some_went (nodes_in c.args.before.now c.args.bound c.deref.result.now (going_view c.args.course.now)) _ c.in-Some.value (going_view mid) c.in-Some.is c.in_ok-value.ensures.goes in
-    body_is c.args.before.now c.args.bound c.args.inside.now c.deref.result.now true c.in-Some.value (going_view c.args.course.now) (going_view mid) c.deref.ensures.value c.if-inside.true given
+    ended_is c.args.before.now c.args.bound (left most (runs_of most c.args.before.now) c.args.bound) c.args.inside.now c.deref.result.now (going_view c.args.course.now) c.deref.ensures.value true c.in-Some.value (going_view mid) c.if-inside.true given
     ∙ returned_over c.in-Some.value mid c.did.new.self c.in_ok-did-in-Some.ensures.few c.in_ok-did-in-Some.ensures.went
 
 pub body-returns-in_err-did-in-Some-clause-long : goal.body-returns-in_err-did-in-Some-clause-long
@@ -354,20 +354,20 @@ body-returns-in_err-did-in-Some-clause-long t c =
     let fault = c.in_err-did-in-Some.field-0.0 in
     let e : c.from_residual-in_err-did-in-Some.result ≡ Err fault = search rules in
     faulted (Option Value) ((length mid.deeds.items == most) ≡ true) (IsCut w c.args.course.now) c.from_residual-in_err-did-in-Some.result fault e
-    (λ h. long_cut (w (going_view c.args.course.now)) (body_is c.args.before.now c.args.bound c.args.inside.now c.deref.result.now true c.in-Some.value (going_view c.args.course.now) (going_view mid) c.deref.ensures.value c.if-inside.true given ∙ returned_long c.in-Some.value mid h)) c.in_err-did-in-Some.ensures.long
+    (λ h. long_cut (w (going_view c.args.course.now)) (ended_is c.args.before.now c.args.bound (left most (runs_of most c.args.before.now) c.args.bound) c.args.inside.now c.deref.result.now (going_view c.args.course.now) c.deref.ensures.value true c.in-Some.value (going_view mid) c.if-inside.true given ∙ returned_long c.in-Some.value mid h)) c.in_err-did-in-Some.ensures.long
 
 pub body-returns-else-inside-clause-goes : goal.body-returns-else-inside-clause-goes
 body-returns-else-inside-clause-goes t c =
     let mid = c.statements.new.course in
     let given = some_went (nodes_in c.args.before.now c.args.bound c.deref.result.now (going_view c.args.course.now)) _ c.in-Some.value (going_view mid) c.in-Some.is c.in_ok-value.ensures.goes in
-    body_is c.args.before.now c.args.bound c.args.inside.now c.deref.result.now false c.in-Some.value (going_view c.args.course.now) (going_view mid) c.deref.ensures.value c.if-inside.false given
+    ended_is c.args.before.now c.args.bound (left most (runs_of most c.args.before.now) c.args.bound) c.args.inside.now c.deref.result.now (going_view c.args.course.now) c.deref.ensures.value false c.in-Some.value (going_view mid) c.if-inside.false given
 
 pub body-returns-in-None-clause-goes : goal.body-returns-in-None-clause-goes
 body-returns-in-None-clause-goes t c =
     let old = going_view c.args.course.now in
     let mid = going_view c.statements.new.course in
     let ended = none_over (nodes_in c.args.before.now c.args.bound c.deref.result.now old) _ mid c.in-None.is c.in_ok-value.ensures.goes in
-    body_over c.args.before.now c.args.bound c.args.inside.now c.deref.result.now mid.deeds old c.deref.ensures.value ended
+    ended_over c.args.before.now c.args.bound (left most (runs_of most c.args.before.now) c.args.bound) c.args.inside.now c.deref.result.now old c.deref.ensures.value mid.deeds ended
 
 pub body-returns-in_err-value-clause-long : goal.body-returns-in_err-value-clause-long
 body-returns-in_err-value-clause-long t c =
@@ -375,39 +375,21 @@ body-returns-in_err-value-clause-long t c =
     let fault = c.in_err-value.field-0.0 in
     let e : c.from_residual.result ≡ Err fault = search rules in
     faulted (Option Value) (IsCut (nodes_in c.args.before.now c.args.bound c.deref.result.now) c.args.course.now) (IsCut (body_in c.args.before.now c.args.bound c.args.inside.now) c.args.course.now) c.from_residual.result fault e
-    (λ h. body_cut c.args.before.now c.args.bound c.args.inside.now c.deref.result.now old c.deref.ensures.value h) c.in_err-value.ensures.long
+    (λ h. ended_cut c.args.before.now c.args.bound (left most (runs_of most c.args.before.now) c.args.bound) c.args.inside.now c.deref.result.now old c.deref.ensures.value h) c.in_err-value.ensures.long
 
 -- LOOPS
 
 pub looped-loop-left-preserved : goal.looped-loop-left-preserved
-looped-loop-left-preserved t c =
-    let xs = c.args.before.now in
-    let n = c.args.bound in
-    let whole = loop_in xs n c.args.kind c.args.condition.now c.args.repeated.now (going_view c.args.course.now) in
-    let some : 0 < c.loop-left.left = omega arith in
-    let again = subst (λ (e : TurnEnd). EndsTurn xs n c.args.kind c.args.condition.now c.args.repeated.now c.loop-left.course c.turn.new.course e) c.in-Again.is c.in_ok-turn.ensures.goes in
-    record {
-      goes = turned_again xs n c.args.kind c.args.condition.now c.args.repeated.now whole c.loop-left.left c.loop-left.course c.turn.new.course some again c.loop-left.invariant.goes;
-      sound = c.turn.ensures.sound;
-    }
+looped-loop-left-preserved t c = record {
+  goes = turned_again c.args.before.now c.args.bound c.args.kind c.args.condition.now c.args.repeated.now (loop_in c.args.before.now c.args.bound c.args.kind c.args.condition.now c.args.repeated.now (going_view c.args.course.now)) c.loop-left.left c.loop-left.course c.turn.new.course (omega arith) (subst (EndsTurn c.args.before.now c.args.bound c.args.kind c.args.condition.now c.args.repeated.now c.loop-left.course c.turn.new.course) c.in-Again.is c.in_ok-turn.ensures.goes) c.loop-left.invariant.goes;
+  sound = c.turn.ensures.sound;
+}
 
 pub looped-returns-in-Left-clause-goes : goal.looped-returns-in-Left-clause-goes
-looped-returns-in-Left-clause-goes t c =
-    let xs = c.args.before.now in
-    let n = c.args.bound in
-    let whole = loop_in xs n c.args.kind c.args.condition.now c.args.repeated.now (going_view c.args.course.now) in
-    let some : 0 < c.loop-left.left = omega arith in
-    let left = subst (λ (e : TurnEnd). EndsTurn xs n c.args.kind c.args.condition.now c.args.repeated.now c.loop-left.course c.turn.new.course e) c.in-Left.is c.in_ok-turn.ensures.goes in
-    turned_left xs n c.args.kind c.args.condition.now c.args.repeated.now whole c.loop-left.left c.loop-left.course c.turn.new.course some left c.loop-left.invariant.goes
+looped-returns-in-Left-clause-goes t c = turned_left c.args.before.now c.args.bound c.args.kind c.args.condition.now c.args.repeated.now (loop_in c.args.before.now c.args.bound c.args.kind c.args.condition.now c.args.repeated.now (going_view c.args.course.now)) c.loop-left.left c.loop-left.course c.turn.new.course (omega arith) (subst (EndsTurn c.args.before.now c.args.bound c.args.kind c.args.condition.now c.args.repeated.now c.loop-left.course c.turn.new.course) c.in-Left.is c.in_ok-turn.ensures.goes) c.loop-left.invariant.goes
 
 pub looped-returns-in-Over-clause-goes : goal.looped-returns-in-Over-clause-goes
-looped-returns-in-Over-clause-goes t c =
-    let xs = c.args.before.now in
-    let n = c.args.bound in
-    let whole = loop_in xs n c.args.kind c.args.condition.now c.args.repeated.now (going_view c.args.course.now) in
-    let some : 0 < c.loop-left.left = omega arith in
-    let ended = subst (λ (e : TurnEnd). EndsTurn xs n c.args.kind c.args.condition.now c.args.repeated.now c.loop-left.course c.turn.new.course e) c.in-Over.is c.in_ok-turn.ensures.goes in
-    turned_over xs n c.args.kind c.args.condition.now c.args.repeated.now whole c.loop-left.left c.loop-left.course c.turn.new.course some ended c.loop-left.invariant.goes
+looped-returns-in-Over-clause-goes t c = turned_over c.args.before.now c.args.bound c.args.kind c.args.condition.now c.args.repeated.now (loop_in c.args.before.now c.args.bound c.args.kind c.args.condition.now c.args.repeated.now (going_view c.args.course.now)) c.loop-left.left c.loop-left.course c.turn.new.course (omega arith) (subst (EndsTurn c.args.before.now c.args.bound c.args.kind c.args.condition.now c.args.repeated.now c.loop-left.course c.turn.new.course) c.in-Over.is c.in_ok-turn.ensures.goes) c.loop-left.invariant.goes
 
 pub looped-returns-in_err-turn-clause-long : goal.looped-returns-in_err-turn-clause-long
 looped-returns-in_err-turn-clause-long t c =

@@ -1,33 +1,14 @@
 use Rattle.std.proofs.Common.{◌≡◌, ◌+◌, ◌-◌, ◌≤◌, refl, ap, ◌∙◌, subst, arith}
 use Rattle.st_model.specs.Values.{value}
-use Rattle.st_model.specs.View.{object_of}
-use Rattle.st_memory.specs.Copied.{laid, units_from, with_bytes_of}
-use Rattle.st_memory.proofs.Laying.{has_source, has_target, length-with, none_laid, last_more}
+use Rattle.st_memory.specs.Copied.{with_bytes_of}
+use Rattle.st_memory.proofs.Laying.{both_have, none_laid, last_more}
 use Rattle.st_memory.proofs.bytes.copy_from_last.Goals as goal
 
-pub copy_piece-requires-clause-source : goal.copy_piece-requires-clause-source
-copy_piece-requires-clause-source g c =
-    let old = (g.M.Memory.view c.args.m.now).objects in
-    let now = (g.M.Memory.view c.loop-left.m).objects in
-    let s = value c.args.source in
-    let v = value c.args.target in
-    let us = laid (c.args.to + c.loop-left.left) (units_from old s (c.args.from + c.loop-left.left) (c.args.n - c.loop-left.left)) (object_of old v).units in
-    let same = length-with old s (c.args.from + c.loop-left.left) v (c.args.to + c.loop-left.left) (c.args.n - c.loop-left.left) in
+pub copy_piece-requires : goal.copy_piece-requires
+copy_piece-requires g c =
     let count = c.min-count.ensures in
-    let f = c.loop-left.invariant.few in
-    has_source old now s v c.args.from c.args.to c.args.n us c.requires.source c.requires.target same c.loop-left.invariant.objects (c.loop-left.left - c.min-count.result) c.min-count.result (omega (arith, count, f))
-
-pub copy_piece-requires-clause-target : goal.copy_piece-requires-clause-target
-copy_piece-requires-clause-target g c =
-    let old = (g.M.Memory.view c.args.m.now).objects in
-    let now = (g.M.Memory.view c.loop-left.m).objects in
-    let s = value c.args.source in
-    let v = value c.args.target in
-    let us = laid (c.args.to + c.loop-left.left) (units_from old s (c.args.from + c.loop-left.left) (c.args.n - c.loop-left.left)) (object_of old v).units in
-    let same = length-with old s (c.args.from + c.loop-left.left) v (c.args.to + c.loop-left.left) (c.args.n - c.loop-left.left) in
-    let count = c.min-count.ensures in
-    let f = c.loop-left.invariant.few in
-    has_target old now s v c.args.from c.args.to c.args.n us c.requires.source c.requires.target same c.loop-left.invariant.objects (c.loop-left.left - c.min-count.result) c.min-count.result (omega (arith, count, f))
+    let both = both_have _ _ _ _ c.args.from c.args.to c.args.n _ _ _ c.requires.bytes.source c.requires.bytes.target c.loop-left.invariant.objects (c.loop-left.left - c.min-count.result) c.min-count.result (omega (arith, count, c.loop-left.invariant.few)) in
+    record { source = both.0; target = both.1; few = omega (arith, count) }
 
 pub loop-left-init : goal.loop-left-init
 loop-left-init g c =
@@ -35,7 +16,7 @@ loop-left-init g c =
     let e : 0 ≡ c.args.n - c.args.n = omega arith in
     record {
       few = omega arith;
-      objects = none_laid old (value c.args.source) (c.args.from + c.args.n) (value c.args.target) (c.args.to + c.args.n) c.requires.target.live
+      objects = none_laid old (value c.args.source) (c.args.from + c.args.n) (value c.args.target) (c.args.to + c.args.n) c.requires.bytes.target.live
           ∙ ap (with_bytes_of old (value c.args.source) (c.args.from + c.args.n) (value c.args.target) (c.args.to + c.args.n)) e;
       held = refl;
       head = refl;
@@ -56,14 +37,14 @@ loop-left-preserved g c =
     let low : k + m ≤ c.args.n = omega (arith, f, whole) in
     record {
       few = omega (arith, f);
-      objects = last_more old now new s v c.args.from c.args.to c.args.n k m c.requires.source c.requires.target low c.requires.up
+      objects = last_more old now new s v c.args.from c.args.to c.args.n k m c.requires.bytes.source c.requires.bytes.target low c.requires.up
           (subst (λ i. now ≡ with_bytes_of old s (c.args.from + i) v (c.args.to + i) (c.args.n - i)) whole c.loop-left.invariant.objects) c.copy_piece.ensures.objects;
       held = c.copy_piece.ensures.held ∙ c.loop-left.invariant.held;
       head = c.copy_piece.ensures.head ∙ c.loop-left.invariant.head;
     }
 
-pub returns-clause-objects : goal.returns-clause-objects
-returns-clause-objects g c =
+pub returns : goal.returns
+returns g c =
     let old = (g.M.Memory.view c.args.m.now).objects in
     let s = value c.args.source in
     let v = value c.args.target in
@@ -72,5 +53,9 @@ returns-clause-objects g c =
     let from : c.args.from + 0 ≡ c.args.from = omega arith in
     let to : c.args.to + 0 ≡ c.args.to = omega arith in
     let n : c.args.n - 0 ≡ c.args.n = omega arith in
-    subst (λ i. (g.M.Memory.view c.loop-left.m).objects ≡ with_bytes_of old s (c.args.from + i) v (c.args.to + i) (c.args.n - i)) e c.loop-left.invariant.objects
-    ∙ (λ i. with_bytes_of old s (from i) v (to i) (n i))
+    record {
+      objects = subst (λ i. (g.M.Memory.view c.loop-left.m).objects ≡ with_bytes_of old s (c.args.from + i) v (c.args.to + i) (c.args.n - i)) e c.loop-left.invariant.objects
+          ∙ (λ i. with_bytes_of old s (from i) v (to i) (n i));
+      held = c.loop-left.invariant.held;
+      head = c.loop-left.invariant.head;
+    }

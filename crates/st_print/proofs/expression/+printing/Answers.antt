@@ -1,22 +1,21 @@
-use Rattle.std.proofs.Common.{◌≡◌, ℕ, ◌+◌, Bool, true, List, [], ◌∷◌, ◌++◌, drop, sym, ap, ◌∙◌, subst, append_assoc, append-nil, arith, Vec, Global}
+use Rattle.std.proofs.Common.{◌≡◌, ℕ, ◌+◌, Bool, true, List, [], ◌∷◌, ◌++◌, drop, refl, sym, ap, ◌∙◌, subst, append_assoc, append-nil, arith, Vec, Global}
 use Rattle.std.proofs.lemmas.Result.{on_ok_weaker}
 use Rattle.std.specs.Str.{byte}
-use Rattle.st_scan.specs.declared.tree.Expression.{Expression, size-Expression}
+use Rattle.st_scan.specs.declared.tree.Expression.{Expression}
 use Rattle.st_scan.specs.declared.tree.Statement.{Statement}
-use Rattle.st_scan.specs.declared.tree.Message.{Message}
 use Rattle.st_scan.specs.declared.tree.Name.{Name}
 use Rattle.st_scan.specs.declared.chain.Link.{Link}
 use Rattle.st_scan.specs.Views.{names_view, expression_view, expressions_view, statements_view, messages_view, block, ExpressionView}
-use Rattle.st_scan.specs.Chains.{IsStart, link_view, links_view, links_size}
+use Rattle.st_scan.specs.Chains.{IsStart, link_view, links_view}
 use Rattle.st_scan.proofs.Views.{expression_view-block}
-use Rattle.st_scan.proofs.Chains.{links_within}
+use Rattle.st_scan.proofs.Chains.{link_within, chain_within}
 use Rattle.st_print.specs.declared.rank.Rank.{Rank}
 use Rattle.st_print.specs.declared.rank.Rank.TheVariants.{Binary}
 use Rattle.st_print.specs.Words.{Word, name, mark, keyword, spaced, first_keyword, other_keywords}
-use Rattle.st_print.specs.Printed.{is_loose, parameters_words, return_words, expression_words, statements_words, next_statements, next_messages, message_words, keyword_words, placed}
+use Rattle.st_print.specs.Printed.{is_loose, parameters_words, return_words, expression_words, statements_words, next_statements, messages_words, next_messages, message_words, keyword_words, placed}
 use Rattle.st_print.specs.Chained.{rank_of_link, wanted_by, link_words, closed, behind_link, before_links, behind_links}
-use Rattle.st_print.proofs.Turning.{put_word, put_then, turn, drop_at, take_rest}
-use Rattle.st_print.proofs.Chained.{chained, link_within}
+use Rattle.st_print.proofs.Turning.{put_word, put_then, turn, turn_at, first_then, drop_at, take_rest}
+use Rattle.st_print.proofs.Chained.{chained}
 use Rattle.st_print.proofs.Firsts.{some_statements, some_messages}
 use Rattle.st_print.proofs.expression.+printing.Goals as goal
 use Rattle.st_print.proofs.expression.+printing.Goals.{expression-in-Variable+in_ok-put-in-Variable, expression-in-Literal+in_ok-literal-in-Literal, expression-in-Block+in_ok-block-in-Block, expression-in-Assign, expression-in-Send, behind_link-in-Send+in_ok-messages-in-Send, behind_link-in-Assign}
@@ -27,28 +26,18 @@ items v = v.items
 
 pub next_statements-loop-next-preserved : goal.next_statements-loop-next-preserved
 next_statements-loop-next-preserved t c =
-    let ss = c.args.body.now in
-    let i = c.loop-next.next-index in
     let s = c.next-item.result in
     let words = return_words s.returns ++ expression_words (expression_view s.value) in
-    let rest = next_statements (statements_view (drop (i + 1) ss)) in
-    let parts : next_statements (statements_view (drop i ss)) ≡ (mark (byte ".") ∷ words) ++ rest =
-    ap (λ (xs : List Statement). next_statements (statements_view xs)) (drop_at ss i s c.loop-next-test.true c.next-item.is)
-    ∙ ap (λ (x : List Word). mark (byte ".") ∷ x) (sym (append_assoc (return_words s.returns) (expression_words (expression_view s.value)) rest)) in
-    turn c.loop-next.out.items c.statement.new.out.items _ (next_statements (statements_view (drop i ss))) (mark (byte ".") ∷ words) rest c.loop-next.invariant parts
-    (put_then c.loop-next.out.items c.put.new.out.items c.statement.new.out.items (mark (byte ".") ∷ []) words (put_word c.loop-next.out.items c.put.new.out.items (mark (byte ".")) c.in_ok-put.ensures) c.in_ok-statement.ensures)
+    let assoc = ap (λ (x : List Word). mark (byte ".") ∷ x) (sym (append_assoc (return_words s.returns) (expression_words (expression_view s.value)) (next_statements (statements_view (drop (c.loop-next.next-index + 1) c.args.body.now))))) in
+    turn_at (λ ss. next_statements (statements_view ss)) c.args.body.now c.loop-next.next-index s (mark (byte ".") ∷ words) _ _ _ c.loop-next-test.true c.next-item.is assoc c.loop-next.invariant
+    (put_then _ _ _ (mark (byte ".") ∷ []) words (put_word _ _ (mark (byte ".")) c.in_ok-put.ensures) c.in_ok-statement.ensures)
 
 pub next_messages-loop-next-preserved : goal.next_messages-loop-next-preserved
 next_messages-loop-next-preserved t c =
-    let ms = c.args.sent.now in
-    let i = c.loop-next.next-index in
     let m = c.next-item.result in
     let words = message_words m.selector.items (expressions_view m.arguments.items) in
-    let rest = next_messages (messages_view (drop (i + 1) ms)) in
-    let parts : next_messages (messages_view (drop i ms)) ≡ (mark (byte ";") ∷ words) ++ rest =
-    ap (λ (xs : List Message). next_messages (messages_view xs)) (drop_at ms i m c.loop-next-test.true c.next-item.is) in
-    turn c.loop-next.out.items c.message.new.out.items _ (next_messages (messages_view (drop i ms))) (mark (byte ";") ∷ words) rest c.loop-next.invariant parts
-    (put_then c.loop-next.out.items c.put.new.out.items c.message.new.out.items (mark (byte ";") ∷ []) words (put_word c.loop-next.out.items c.put.new.out.items (mark (byte ";")) c.in_ok-put.ensures) c.in_ok-message.ensures)
+    turn_at (λ ms. next_messages (messages_view ms)) c.args.sent.now c.loop-next.next-index m (mark (byte ";") ∷ words) _ _ _ c.loop-next-test.true c.next-item.is refl c.loop-next.invariant
+    (put_then _ _ _ (mark (byte ";") ∷ []) words (put_word _ _ (mark (byte ";")) c.in_ok-put.ensures) c.in_ok-message.ensures)
 
 pub keywords-loop-argument-preserved : goal.keywords-loop-argument-preserved
 keywords-loop-argument-preserved t c =
@@ -68,25 +57,13 @@ keywords-loop-argument-preserved t c =
 
 pub statements-returns : goal.statements-returns
 statements-returns t c =
-    let out = c.args.out.now.items in
-    let ss = c.args.body.now in
-    let s = c.index-body-0.result in
-    on_ok_weaker c.next_statements.result
-    (λ last. put_then out c.statement.new.out.items c.next_statements.new.out.items (return_words s.returns ++ expression_words (expression_view s.value)) (next_statements (statements_view (drop 1 ss))) c.in_ok-statement.ensures
-    (last ∙ ap (λ (xs : List Statement). c.statement.new.out.items ++ spaced (next_statements (statements_view xs))) (take_rest ss 1))
-    ∙ ap (λ (ws : List Word). out ++ spaced ws) (sym (some_statements ss s c.if-is_empty.ensures c.index-body-0.is)))
-    c.next_statements.ensures
+    let parts = some_statements c.args.body.now c.index-body-0.result c.if-is_empty.ensures c.index-body-0.is in
+    on_ok_weaker c.next_statements.result (first_then (λ ss. statements_words (statements_view ss)) (λ ss. next_statements (statements_view ss)) c.args.body.now _ _ _ _ parts c.in_ok-statement.ensures) c.next_statements.ensures
 
 pub messages-returns : goal.messages-returns
 messages-returns t c =
-    let out = c.args.out.now.items in
-    let ms = c.args.sent.now in
-    let m = c.index-sent-0.result in
-    on_ok_weaker c.next_messages.result
-    (λ last. put_then out c.message.new.out.items c.next_messages.new.out.items (message_words m.selector.items (expressions_view m.arguments.items)) (next_messages (messages_view (drop 1 ms))) c.in_ok-message.ensures
-    (last ∙ ap (λ (xs : List Message). c.message.new.out.items ++ spaced (next_messages (messages_view xs))) (take_rest ms 1))
-    ∙ ap (λ (ws : List Word). out ++ spaced ws) (sym (some_messages ms m c.if-is_empty.ensures c.index-sent-0.is)))
-    c.next_messages.ensures
+    let parts = some_messages c.args.sent.now c.index-sent-0.result c.if-is_empty.ensures c.index-sent-0.is in
+    on_ok_weaker c.next_messages.result (first_then (λ ms. messages_words (messages_view ms)) (λ ms. next_messages (messages_view ms)) c.args.sent.now _ _ _ _ parts c.in_ok-message.ensures) c.next_messages.ensures
 
 pub block-returns : goal.block-returns
 block-returns t c =
@@ -104,10 +81,7 @@ block-returns t c =
     c.put-2.ensures
 
 pub behind_links-behind_link-requires : goal.behind_links-behind_link-requires
-behind_links-behind_link-requires t c =
-    let link = c.index-links-at.result in
-    let within = link_within c.args.links.now c.loop-at.at link c.loop-at-test.true c.index-links-at.is in
-    (omega (arith, within), tt)
+behind_links-behind_link-requires t c = (omega (arith, link_within c.args.links.now c.loop-at.at c.index-links-at.result c.loop-at-test.true c.index-links-at.is), tt)
 
 pub behind_links-loop-at-preserved : goal.behind_links-loop-at-preserved
 behind_links-loop-at-preserved t c =
@@ -135,10 +109,7 @@ behind_link-returns-in_ok-put t c =
     ∙ ap (λ (b : Bool). out ++ spaced (link_words l ++ closed b)) (sym loose)
 
 pub expression-behind_links-requires : goal.expression-behind_links-requires
-expression-behind_links-requires t c =
-    let links = ap links_size c.deref-2.ensures.value in
-    let within = links_within (size-Expression c.args.e.now) c.in_ok-chain.chain.links.items c.in_ok-chain.ensures.within.links in
-    (omega (arith, links, within), tt)
+expression-behind_links-requires t c = (omega (arith, chain_within c.args.e.now c.in_ok-chain.chain c.deref-2.result.now c.in_ok-chain.ensures.within c.deref-2.ensures.value), tt)
 
 pub expression-returns : goal.expression-returns
 expression-returns t c =

@@ -16,8 +16,8 @@ returns-in-91-clause-does g c = record {
 
 pub returns-in-92-clause-does : goal.returns-in-92-clause-does
 returns-in-92-clause-does g c = record {
-  does = input-92 g.O.Objects.names c.args.primitive c.args.arguments _ c.in-92.is (sym c.input_takes.ensures ∙ c.if-not-input_takes.false) ∙ c.primitive_link_cursor.ensures.does.does;
-  world = c.primitive_link_cursor.ensures.does.world;
+  does = input-92 g.O.Objects.names c.args.primitive c.args.arguments _ c.in-92.is (sym c.input_takes.ensures ∙ c.if-not-input_takes.false) ∙ c.set_device.ensures.does.does;
+  world = c.set_device.ensures.does.world;
 }
 
 pub returns-in-93-clause-does : goal.returns-in-93-clause-does
@@ -28,8 +28,8 @@ returns-in-93-clause-does g c = record {
 
 pub returns-in-94-clause-does : goal.returns-in-94-clause-does
 returns-in-94-clause-does g c = record {
-  does = input-94 g.O.Objects.names c.args.primitive c.args.arguments _ c.in-94.is (sym c.input_takes.ensures ∙ c.if-not-input_takes.false) ∙ c.primitive_sample_interval.ensures.does.does;
-  world = c.primitive_sample_interval.ensures.does.world;
+  does = input-94 g.O.Objects.names c.args.primitive c.args.arguments _ c.in-94.is (sym c.input_takes.ensures ∙ c.if-not-input_takes.false) ∙ c.set_device-in-94.ensures.does.does;
+  world = c.set_device-in-94.ensures.does.world;
 }
 
 pub returns-in-95-clause-does : goal.returns-in-95-clause-does
@@ -58,14 +58,14 @@ returns-in-100-clause-does g c = record {
 
 pub returns-in-101-clause-does : goal.returns-in-101-clause-does
 returns-in-101-clause-does g c = record {
-  does = input-101 g.O.Objects.names c.args.primitive c.args.arguments _ c.in-101.is (sym c.input_takes.ensures ∙ c.if-not-input_takes.false) ∙ c.primitive_be_cursor.ensures.does.does;
-  world = c.primitive_be_cursor.ensures.does.world;
+  does = input-101 g.O.Objects.names c.args.primitive c.args.arguments _ c.in-101.is (sym c.input_takes.ensures ∙ c.if-not-input_takes.false) ∙ c.be_device.ensures.does.does;
+  world = c.be_device.ensures.does.world;
 }
 
 pub returns-in-102-clause-does : goal.returns-in-102-clause-does
 returns-in-102-clause-does g c = record {
-  does = input-102 g.O.Objects.names c.args.primitive c.args.arguments _ c.in-102.is (sym c.input_takes.ensures ∙ c.if-not-input_takes.false) ∙ c.primitive_be_display.ensures.does.does;
-  world = c.primitive_be_display.ensures.does.world;
+  does = input-102 g.O.Objects.names c.args.primitive c.args.arguments _ c.in-102.is (sym c.input_takes.ensures ∙ c.if-not-input_takes.false) ∙ c.be_device-in-102.ensures.does.does;
+  world = c.be_device-in-102.ensures.does.world;
 }
 
 pub returns-in-116-clause-does : goal.returns-in-116-clause-does

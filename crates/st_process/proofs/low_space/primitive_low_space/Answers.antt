@@ -1,8 +1,17 @@
-use Rattle.st_process.proofs.InputTries.{tried-low_space}
+use Rattle.std.proofs.Common.{rules, ◌≡◌, Err, refl}
+use Rattle.st_frames.proofs.Leaves.{leaves-died}
+use Rattle.st_process.proofs.InputTries.{answered, unanswered, tried-low_space}
 use Rattle.st_process.proofs.low_space.primitive_low_space.Goals as goal
 
-pub returns-in-Ok-clause-does : goal.returns-in-Ok-clause-does
-returns-in-Ok-clause-does g c = record {
-  does = tried-low_space _ _ _ _ _ _ _ _ c.in_ok-receiver.ensures.does c.in_ok-semaphore.ensures.does c.in_ok-entries.ensures.does c.in_ok-words.ensures.does c.in-Ok.ensures.does c.answer_low_space.ensures.does.does;
-  world = c.answer_low_space.ensures.does.world;
+pub returns-in_err-answer-in-Ok-clause-does : goal.returns-in_err-answer-in-Ok-clause-does
+returns-in_err-answer-in-Ok-clause-does g c =
+    let e : c.from_residual-in_err-answer-in-Ok.result ≡ Err c.in_err-answer-in-Ok.field-0.0 = search rules in
+    leaves-died _ _ _ _ _ _ _ _ _ _ e refl (tried-low_space _ _ _ _ _ _ _ _ c.in_ok-receiver.ensures.does c.in_ok-semaphore.ensures.does c.in_ok-entries.ensures.does c.in_ok-words.ensures.does c.in-Ok.ensures.does
+    (unanswered _ _ _ _ _ (rw c.in-Ok.ensures.of at c.in_err-answer-in-Ok.ensures.does.does)))
+
+pub returns-in_ok-answer-in-Ok-clause-does : goal.returns-in_ok-answer-in-Ok-clause-does
+returns-in_ok-answer-in-Ok-clause-does g c = record {
+  does = tried-low_space _ _ _ _ _ _ _ _ c.in_ok-receiver.ensures.does c.in_ok-semaphore.ensures.does c.in_ok-entries.ensures.does c.in_ok-words.ensures.does c.in-Ok.ensures.does
+      (answered _ _ _ _ _ _ _ (rw c.in-Ok.ensures.of at c.in_ok-answer-in-Ok.ensures.does.does) c.succeed_leaving.ensures.does.does);
+  world = search rules;
 }

@@ -15,7 +15,7 @@ use Rattle.st_scope.specs.Lineages.{lineage_of}
 use Rattle.st_scope.specs.Walks.{mentions_of}
 use Rattle.st_scope.specs.Sought.{AreShared}
 use Rattle.st_scope.proofs.Finding.{first_dies, first_fails, then_finds}
-use Rattle.st_scope.proofs.SeenIn.{all_seen, names_fail}
+use Rattle.st_scope.proofs.SeenIn.{all_seen, names_fail, seen_behind}
 use Rattle.st_scope.proofs.naming.names_seen.Goals as goal
 
 pub returns-in_err-chains : goal.returns-in_err-chains
@@ -45,31 +45,19 @@ returns-in_err-tables g c =
     (then_finds (itself {A = NamesView}) texts_of _ (Err u) _ _ c.in_ok-fields.fields fields (first_fails (itself {A = NamesView}) values_of _ (Err u) _ _ u refl fails)))
 
 pub returns-in_err-check_dictionary : goal.returns-in_err-check_dictionary
-unfolding names_seen ◌>>◌
+unfolding ◌>>◌
 returns-in_err-check_dictionary g c =
     let k = c.in_err-check_dictionary.field-0.0 in
-    let t = (g.M.Memory.view c.args.m.now).objects in
-    let fields = subst (λ os. Reads (field_names table (values os)) texts_of t (Ok c.in_ok-fields.fields)) c.deref.ensures.value c.in_ok-fields.ensures in
-    let tables = subst (λ os. Reads (pools table (values os)) values_of t (Ok c.in_ok-tables.tables)) c.deref-2.ensures.value c.in_ok-tables.ensures in
-    names_fail _ _ _ _ (Dies k) (search rules)
-    (then_finds (itself {A = NamesView}) lineage_of _ (Err (Dies k)) _ _ c.in_ok-chains.chains c.in_ok-chains.ensures
-    (then_finds (itself {A = NamesView}) texts_of _ (Err (Dies k)) _ _ c.in_ok-fields.fields fields
-    (then_finds (itself {A = NamesView}) values_of _ (Err (Dies k)) _ _ c.in_ok-tables.tables tables
-    (first_dies (itself {A = NamesView}) (itself {A = Unit {0}}) _ (Err (Dies k)) _ _ k refl c.in_err-check_dictionary.ensures))))
+    seen_behind _ _ _ _ _ c.in_ok-chains.chains c.in_ok-chains.ensures _ c.deref.ensures.value c.in_ok-fields.fields c.in_ok-fields.ensures _ c.deref-2.ensures.value c.in_ok-tables.tables c.in_ok-tables.ensures _ (Dies k) (search rules)
+    (first_dies (itself {A = NamesView}) (itself {A = Unit {0}}) _ (Err (Dies k)) _ _ k refl c.in_err-check_dictionary.ensures)
 
 pub returns-in_err-check_symbols : goal.returns-in_err-check_symbols
-unfolding names_seen ◌>>◌
+unfolding ◌>>◌
 returns-in_err-check_symbols g c =
     let k = c.in_err-check_symbols.field-0.0 in
-    let t = (g.M.Memory.view c.args.m.now).objects in
-    let fields = subst (λ os. Reads (field_names table (values os)) texts_of t (Ok c.in_ok-fields.fields)) c.deref.ensures.value c.in_ok-fields.ensures in
-    let tables = subst (λ os. Reads (pools table (values os)) values_of t (Ok c.in_ok-tables.tables)) c.deref-2.ensures.value c.in_ok-tables.ensures in
-    names_fail _ _ _ _ (Dies k) (search rules)
-    (then_finds (itself {A = NamesView}) lineage_of _ (Err (Dies k)) _ _ c.in_ok-chains.chains c.in_ok-chains.ensures
-    (then_finds (itself {A = NamesView}) texts_of _ (Err (Dies k)) _ _ c.in_ok-fields.fields fields
-    (then_finds (itself {A = NamesView}) values_of _ (Err (Dies k)) _ _ c.in_ok-tables.tables tables
+    seen_behind _ _ _ _ _ c.in_ok-chains.chains c.in_ok-chains.ensures _ c.deref.ensures.value c.in_ok-fields.fields c.in_ok-fields.ensures _ c.deref-2.ensures.value c.in_ok-tables.tables c.in_ok-tables.ensures _ (Dies k) (search rules)
     (then_finds (itself {A = NamesView}) (itself {A = Unit {0}}) _ (Err (Dies k)) _ _ c.in_ok-check_dictionary.field-0 c.in_ok-check_dictionary.ensures
-    (first_dies (itself {A = NamesView}) (itself {A = Unit {0}}) _ (Err (Dies k)) _ _ k refl c.in_err-check_symbols.ensures)))))
+    (first_dies (itself {A = NamesView}) (itself {A = Unit {0}}) _ (Err (Dies k)) _ _ k refl c.in_err-check_symbols.ensures))
 
 pub returns : goal.returns
 returns g c =

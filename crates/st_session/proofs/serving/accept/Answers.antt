@@ -4,11 +4,12 @@ use Rattle.st_frames.specs.Shown.{IsReady, shown}
 use Rattle.st_chunk.specs.ScriptDefinitions.{definition_of}
 use Rattle.st_install.specs.Defining.{installed}
 use Rattle.st_install.specs.Prepareds.{IsPrepared}
+use Rattle.st_changes.specs.Last.{HasSelector}
 use Rattle.st_session.specs.Answers.{definition_course}
 use Rattle.st_session.specs.Keeping.{in_a_store}
 use Rattle.st_call.specs.Replies.{accepted_line}
 use Rattle.st_protocol.proofs.Joins.{counts_behind}
-use Rattle.st_session.proofs.Accepting.{accepted_said, accepted_unkept}
+use Rattle.st_session.proofs.Accepting.{prepared_selector, accepted_said, accepted_unkept}
 use Rattle.st_install.proofs.Compiling.{is_accepted}
 use Rattle.st_session.proofs.Points.{living_answers}
 use Rattle.st_session.proofs.Saying.{when_ok}
@@ -29,7 +30,7 @@ returns-in-Ok g c =
     (λ s k shows holds.
     accepted_said g.M.Memory.view g.H.Host c.args.kept.now.archive.name n b s k d c.carry_out-selector.result (installed d s) _ c.args.host.now c.accept.new.host c.say_reply.new.host c.say_reply.result c.accept.ensures.named (c.in-Ok.ensures.obeys k holds)
     (c.carry_out-selector.ensures.installs d m.frame m.world s prepared ready (subst (λ x. Shows (shown (g.M.Memory.view x) m.frame m.world) s) same shows)) c.requires.alive
-    (ap (accepted_line d.class d.meta) c.deref.ensures.value) c.say_reply.ensures) in
+    (ap (accepted_line d.class d.meta) c.deref-in-Ok.ensures.value) c.say_reply.ensures) in
     record {
       go_on = when_ok c.say_reply.result (record { may_run = λ lives. c.carry_out-selector.ensures.ready m.frame m.world ready; is_open = c.in-Ok.ensures.«open» });
       named = c.accept.ensures.named;
@@ -56,3 +57,13 @@ returns-in-Err g c =
       served = keeping_serves c.in-Err.status c.in-Err.ensures.kind;
       starved = λ none. c.in-Err.ensures.untouched (λ disk. cc);
     }
+
+pub accept-requires-clause-selector : goal.accept-requires-clause-selector
+accept-requires-clause-selector g c =
+    let d = definition_of c.args.definition.now in
+    subst (HasSelector d.text) (sym c.deref.ensures.value) (prepared_selector (g.M.Memory.view c.args.kept.now.machine.memory) d c.args.prepared c.requires.prepared)
+
+pub carry_out-selector-requires : goal.carry_out-selector-requires
+carry_out-selector-requires g c =
+    let d = definition_of c.args.definition.now in
+    record { prepared = (d, subst (λ x. IsPrepared (g.M.Memory.view x) d c.args.prepared) (sym c.memory_mut.ensures.value) c.requires.prepared) }

@@ -1,14 +1,11 @@
-use Rattle.std.proofs.Common.{rules, ◌≡◌, Ok, Err, refl, sym, subst, ap, ◌∙◌}
+use Rattle.std.proofs.Common.{rules, ◌≡◌, Ok, Err, refl, sym, ap, ◌∙◌}
 use Rattle.std.specs.Prelude.{Option}
 use Rattle.st_model.specs.declared.outcome.StepEnd.{StepEnd}
 use Rattle.st_model.specs.Machine.{Died, Went}
-use Rattle.st_model.specs.Table.{bounded_table}
-use Rattle.st_model.specs.Calls.{Does}
 use Rattle.st_model.specs.View.{View}
 use Rattle.st_frames.specs.Rows.{row_state, with_left}
 use Rattle.st_frames.specs.Shown.{shown}
-use Rattle.st_frames.proofs.Stored.{loaded}
-use Rattle.st_step.specs.Trying.{try_primitive, deed_if_any, outcome_of_trial}
+use Rattle.st_step.specs.Trying.{deed_if_any}
 use Rattle.st_step.proofs.Stepped.{done_after}
 use Rattle.st_step.proofs.Called.{dies, ends, registers_gone, said_gone, too_many, row_as, view_still, fails}
 use Rattle.st_step.proofs.calling.try_primitive.Goals as goal
@@ -18,35 +15,22 @@ returns-then-args-gt16383-clause-does g c = too_many c.args.n c.args.args (shown
 
 pub returns-in_err-ended-clause-does : goal.returns-in_err-ended-clause-does
 returns-in_err-ended-clause-does g c =
-    let v = g.M.Memory.view c.args.m.now in
-    let f = c.args.f.now in
-    let w = c.args.w.now in
     let e : c.from_residual.result ≡ Err c.in_err-ended.field-0.0 = search rules in
-    let start = loaded v f w c.load-r.result c.load-r.ensures.registers c.load-r.ensures.world in
-    subst (λ x. Does (try_primitive bounded_table c.args.n c.args.args) outcome_of_trial (shown v f w) x (shown (g.M.Memory.view c.tried_number.new.m) f w)) (sym e)
-    (dies c.args.n c.args.args (shown v f w) _ (row_as c.args.n c.from.result c.args.args c.from.ensures _ _ start _ c.in_err-ended.ensures.does.does))
+    rw e (dies c.args.n c.args.args (shown (g.M.Memory.view c.args.m.now) c.args.f.now c.args.w.now) _
+    (row_as c.args.n c.from.result c.args.args c.from.ensures (g.M.Memory.view c.args.m.now) c.args.f.now c.args.w.now c.load-r.result c.load-r.ensures.registers c.load-r.ensures.world _ c.in_err-ended.ensures.does.does))
 
 pub returns-then-not-are_there-clause-does : goal.returns-then-not-are_there-clause-does
 returns-then-not-are_there-clause-does g c =
-    let v = g.M.Memory.view c.args.m.now in
     let u = g.M.Memory.view c.tried_number.new.m in
-    let f = c.args.f.now in
-    let w = c.args.w.now in
-    let start = loaded v f w c.load-r.result c.load-r.ensures.registers c.load-r.ensures.world in
-    registers_gone c.args.n c.args.args (shown v f w) c.in_ok-ended.ended u.objects u.head c.tried_number.new.r
-    (row_as c.args.n c.from.result c.args.args c.from.ensures _ _ start _ c.in_ok-ended.ensures.does.does) (sym c.are_there.ensures ∙ c.if-not-are_there.true)
+    registers_gone c.args.n c.args.args (shown (g.M.Memory.view c.args.m.now) c.args.f.now c.args.w.now) c.in_ok-ended.ended u.objects u.head c.tried_number.new.r
+    (row_as c.args.n c.from.result c.args.args c.from.ensures (g.M.Memory.view c.args.m.now) c.args.f.now c.args.w.now c.load-r.result c.load-r.ensures.registers c.load-r.ensures.world _ c.in_ok-ended.ensures.does.does) (sym c.are_there.ensures ∙ c.if-not-are_there.true)
 
 pub returns-in_err-tried-clause-does : goal.returns-in_err-tried-clause-does
 returns-in_err-tried-clause-does g c =
-    let v = g.M.Memory.view c.args.m.now in
     let u = g.M.Memory.view c.tried_number.new.m in
-    let f = c.args.f.now in
-    let w = c.args.w.now in
     let e : c.from_residual-in_err-tried.result ≡ Err c.in_err-tried.field-0.0 = search rules in
-    let start = loaded v f w c.load-r.result c.load-r.ensures.registers c.load-r.ensures.world in
-    let row = row_as c.args.n c.from.result c.args.args c.from.ensures _ _ start _ c.in_ok-ended.ensures.does.does in
-    subst (λ x. Does (try_primitive bounded_table c.args.n c.args.args) outcome_of_trial (shown v f w) x (shown u f w)) (sym e)
-    (said_gone c.args.n c.args.args (shown v f w) c.in_ok-ended.ended u.objects u.head c.tried_number.new.r row (sym c.are_there.ensures ∙ c.if-not-are_there.false) c.in_err-tried.ensures.gone
+    let row = row_as c.args.n c.from.result c.args.args c.from.ensures (g.M.Memory.view c.args.m.now) c.args.f.now c.args.w.now c.load-r.result c.load-r.ensures.registers c.load-r.ensures.world _ c.in_ok-ended.ensures.does.does in
+    rw e (said_gone c.args.n c.args.args (shown (g.M.Memory.view c.args.m.now) c.args.f.now c.args.w.now) c.in_ok-ended.ended u.objects u.head c.tried_number.new.r row (sym c.are_there.ensures ∙ c.if-not-are_there.false) c.in_err-tried.ensures.gone
     ∙ ap (λ k. Died k) (sym c.in_err-tried.ensures.cause))
 
 pub returns-in-Some-clause-does : goal.returns-in-Some-clause-does
@@ -61,8 +45,7 @@ returns-in-Some-clause-does g c =
     let held = c.hold.ensures in
     let done = c.carry_out.ensures in
     let does = c.in_ok-ended.ensures.does in
-    let start = loaded v f w c.load-r.result c.load-r.ensures.registers c.load-r.ensures.world in
-    let row = row_as c.args.n c.from.result c.args.args c.from.ensures _ _ start _ does.does in
+    let row = row_as c.args.n c.from.result c.args.args c.from.ensures v f w c.load-r.result c.load-r.ensures.registers c.load-r.ensures.world _ does.does in
     let left : with_left deed_if_any (Ok c.in_ok-ended.ended) (row_state u.objects u.head r) ≡ shown z c.hold.result c.carry_out.new.w =
     ap (λ (y : Option StepEnd). with_left deed_if_any (Ok y) (row_state u.objects u.head r)) c.in-Some.is
     ∙ done_after u h z c.hold.result w c.carry_out.new.w r c.in-Some.end c.deed_of.result c.deed_of.ensures held.same (does.world ∙ c.load-r.ensures.world) held.objects held.head done.objects done.head done.world in
@@ -74,18 +57,12 @@ pub returns-in-None-clause-does : goal.returns-in-None-clause-does
 returns-in-None-clause-does g c =
     let v = g.M.Memory.view c.args.m.now in
     let u = g.M.Memory.view c.tried_number.new.m in
-    let f = c.args.f.now in
-    let w = c.args.w.now in
-    let start = loaded v f w c.load-r.result c.load-r.ensures.registers c.load-r.ensures.world in
-    let row = row_as c.args.n c.from.result c.args.args c.from.ensures _ _ start _ c.in_ok-ended.ensures.does.does in
-    fails c.args.n c.args.args u v f w c.in_ok-ended.ended c.tried_number.new.r c.in-None.is row c.in_ok-tried.tried c.in_ok-tried.ensures.same (sym c.are_there.ensures ∙ c.if-not-are_there.false) c.in_ok-tried.ensures.there
+    let row = row_as c.args.n c.from.result c.args.args c.from.ensures v c.args.f.now c.args.w.now c.load-r.result c.load-r.ensures.registers c.load-r.ensures.world _ c.in_ok-ended.ensures.does.does in
+    fails c.args.n c.args.args u v c.args.f.now c.args.w.now c.in_ok-ended.ended c.tried_number.new.r c.in-None.is row c.in_ok-tried.tried c.in_ok-tried.ensures.same (sym c.are_there.ensures ∙ c.if-not-are_there.false) c.in_ok-tried.ensures.there
 
 pub returns-in-None-clause-still : goal.returns-in-None-clause-still
 returns-in-None-clause-still g c e =
     let v = g.M.Memory.view c.args.m.now in
     let u = g.M.Memory.view c.tried_number.new.m in
-    let f = c.args.f.now in
-    let w = c.args.w.now in
-    let start = loaded v f w c.load-r.result c.load-r.ensures.registers c.load-r.ensures.world in
-    let row = row_as c.args.n c.from.result c.args.args c.from.ensures _ _ start _ c.in_ok-ended.ensures.does.does in
-    (view_still c.args.n c.args.args u v f w c.in_ok-ended.ended c.tried_number.new.r c.in-None.is row (ap (λ (x : View). x.held) c.in_ok-ended.ensures.takes.fixed), refl, refl)
+    let row = row_as c.args.n c.from.result c.args.args c.from.ensures v c.args.f.now c.args.w.now c.load-r.result c.load-r.ensures.registers c.load-r.ensures.world _ c.in_ok-ended.ensures.does.does in
+    (view_still c.args.n c.args.args u v c.args.f.now c.args.w.now c.in_ok-ended.ended c.tried_number.new.r c.in-None.is row (ap (λ (x : View). x.held) c.in_ok-ended.ensures.takes.fixed), refl, refl)

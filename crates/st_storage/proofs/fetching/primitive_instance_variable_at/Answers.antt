@@ -3,6 +3,6 @@ use Rattle.st_storage.proofs.fetching.primitive_instance_variable_at.Goals as go
 
 pub returns-in-Ok-clause-does : goal.returns-in-Ok-clause-does
 returns-in-Ok-clause-does g c = record {
-  does = tried-instance_variable_at _ _ _ _ _ _ c.in_ok-receiver.ensures.does c.in_ok-index.ensures.does c.in-Ok.ensures.does c.answer_element.ensures.does.does;
+  does = tried-instance_variable_at _ _ _ _ _ _ c.in_ok-object.ensures.does c.in_ok-index.ensures.does c.in-Ok.ensures.does c.answer_element.ensures.does.does;
   world = c.answer_element.ensures.does.world;
 }

@@ -1,13 +1,18 @@
 use Rattle.std.proofs.Common.{rules, ◌≡◌, Err, refl}
 use Rattle.st_frames.proofs.Leaves.{leaves-died}
-use Rattle.st_storage.proofs.ObjectTries.{tried-replace, died-replace, failed-replace}
+use Rattle.st_storage.proofs.ObjectTries.{tried-replace, lost-replace, died-replace, failed-replace}
 use Rattle.st_storage.proofs.replacing.primitive_replace.Goals as goal
 
-pub returns-in-Ok-clause-does : goal.returns-in-Ok-clause-does
-returns-in-Ok-clause-does g c = record {
-  does = tried-replace _ _ _ _ _ _ _ _ _ c.in_ok-receiver.ensures.does c.in_ok-first.ensures.does c.in_ok-last.ensures.does c.in_ok-source.ensures.does c.in_ok-from.ensures.does c.in-Ok.ensures.does c.answer_replaced.ensures.does.does;
-  world = c.answer_replaced.ensures.does.world;
+pub returns-in_ok-answer-in-Ok-clause-does : goal.returns-in_ok-answer-in-Ok-clause-does
+returns-in_ok-answer-in-Ok-clause-does g c = record {
+  does = tried-replace _ _ _ _ _ _ _ _ _ _ _ c.in_ok-receiver.ensures.does c.in_ok-first.ensures.does c.in_ok-last.ensures.does c.in_ok-source.ensures.does c.in_ok-from.ensures.does c.in-Ok.ensures.does c.in_ok-answer-in-Ok.ensures.does.does c.succeed_leaving.ensures.does.does;
+  world = search rules;
 }
+
+pub returns-in_err-answer-in-Ok-clause-does : goal.returns-in_err-answer-in-Ok-clause-does
+returns-in_err-answer-in-Ok-clause-does g c =
+    let e : c.from_residual-in_err-answer-in-Ok.result ≡ Err c.in_err-answer-in-Ok.field-0.0 = search rules in
+    leaves-died _ _ _ _ _ _ _ _ _ _ e refl (lost-replace _ _ _ _ _ _ _ _ _ c.in_ok-receiver.ensures.does c.in_ok-first.ensures.does c.in_ok-last.ensures.does c.in_ok-source.ensures.does c.in_ok-from.ensures.does c.in-Ok.ensures.does c.in_err-answer-in-Ok.ensures.does.does)
 
 pub returns-in_err-from-clause-does : goal.returns-in_err-from-clause-does
 returns-in_err-from-clause-does g c =

@@ -1,5 +1,4 @@
-use Rattle.std.proofs.Common.{rules, ◌≡◌, false}
-use Rattle.std.specs.Prelude.{is_err}
+use Rattle.std.proofs.Common.{rules}
 use Rattle.st_model.specs.Values.{word}
 use Rattle.st_model.specs.Steps.{store_field}
 use Rattle.st_model.specs.Table.{bounded_table}
@@ -12,10 +11,9 @@ pub invariant_of-self-else-is_err : goal.invariant_of-self-else-is_err
 invariant_of-self-else-is_err g c =
     let a = c.args in
     let done = c.store_live_field-done in
-    let ok : is_err done.result ≡ false = search rules in
     record {
       near = near_unless (store_field bounded_table (word a.o) a.i (word a.x)) itself done.result
           (g.M.Memory.view a.self.now.memory.now) (g.M.Memory.view done.new.m) a.self.now.known
-          (store_stays (word a.o) a.i (word a.x)) ok done.ensures.stores done.ensures.held a.self.now.near;
+          (store_stays (word a.o) a.i (word a.x)) (search rules) done.ensures.stores done.ensures.held a.self.now.near;
       places = placed_kept (g.M.Memory.stands a.self.now.memory.now) (g.M.Memory.stands done.new.m) a.self.now.known done.ensures.places a.self.now.places;
     }

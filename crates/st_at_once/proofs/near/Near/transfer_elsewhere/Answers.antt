@@ -1,5 +1,4 @@
-use Rattle.std.proofs.Common.{rules, ◌≡◌, false}
-use Rattle.std.specs.Prelude.{is_err}
+use Rattle.std.proofs.Common.{rules}
 use Rattle.st_model.specs.Values.{word}
 use Rattle.st_model.specs.Steps.{transfer}
 use Rattle.st_model.specs.Table.{bounded_table}
@@ -12,10 +11,9 @@ pub invariant_of-self-else-is_err : goal.invariant_of-self-else-is_err
 invariant_of-self-else-is_err g c =
     let a = c.args in
     let done = c.transfer_live_fields-done in
-    let ok : is_err done.result ≡ false = search rules in
     record {
-      near = near_unless (transfer bounded_table a.n (word a.source) a.from (word a.target) a.to) itself done.result
+      near = near_unless (transfer bounded_table a.n (word a.source.object) a.source.index (word a.target.object) a.target.index) itself done.result
           (g.M.Memory.view a.self.now.memory.now) (g.M.Memory.view done.new.m) a.self.now.known
-          (transfer_stays a.n (word a.source) a.from (word a.target) a.to) ok done.ensures.transfers done.ensures.held a.self.now.near;
+          (transfer_stays a.n (word a.source.object) a.source.index (word a.target.object) a.target.index) (search rules) done.ensures.transfers done.ensures.held a.self.now.near;
       places = placed_kept (g.M.Memory.stands a.self.now.memory.now) (g.M.Memory.stands done.new.m) a.self.now.known done.ensures.places a.self.now.places;
     }

@@ -37,28 +37,27 @@ in_hand m left cs1 k o class h unused within two is same gone =
 pub class_of-class-requires : goal.class_of-class-requires
 class_of-class-requires c =
     let v = counted_view c.args.self.now in
-    ap (λ (t : Table). is_live t (value c.pointer_of-o.result)) c.leave.ensures.objects
+    ap (λ (t : Table). is_live t (value c.pointer_of-o.result)) c.leave.ensures.rest.objects
     ∙ ap (is_live v.objects) (place_value c.pointer_of-o.result.0 c.args.k c.pointer_of-o.ensures)
     ∙ unused_live v.objects (references v.objects (all_roots v) []) (numbers_of c.args.self.now) c.args.k c.requires.counted.tallied c.requires.unused
 
-pub lower-requires-clause-counted : goal.lower-requires-clause-counted
-lower-requires-clause-counted c small =
+pub lower-requires : goal.lower-requires
+lower-requires c =
     let m = c.args.self.now in
     let t = objects_of m.objects in
-    hand_counted (slice_set t c.args.k None) (all_roots (counted_view m)) (object_of t (value c.pointer_of-o.result)).fields (counts_of c.leave.new.self) c.class_of-class.result.0
-    (in_hand m c.leave.new.objects (counts_of c.leave.new.self) c.args.k c.pointer_of-o.result c.class_of-class.result c.requires.counted c.requires.unused c.requires.place c.pointer_of-o.ensures c.class_of-class.ensures c.leave.ensures.objects c.leave.ensures.counts) small
-
-pub lower-requires-clause-some : goal.lower-requires-clause-some
-lower-requires-clause-some c small =
-    let m = c.args.self.now in
-    let t = objects_of m.objects in
-    hand_some (slice_set t c.args.k None) (all_roots (counted_view m)) (object_of t (value c.pointer_of-o.result)).fields (counts_of c.leave.new.self) c.class_of-class.result.0
-    (in_hand m c.leave.new.objects (counts_of c.leave.new.self) c.args.k c.pointer_of-o.result c.class_of-class.result c.requires.counted c.requires.unused c.requires.place c.pointer_of-o.ensures c.class_of-class.ensures c.leave.ensures.objects c.leave.ensures.counts) small
+    let rest = slice_set t c.args.k None in
+    let fields = (object_of t (value c.pointer_of-o.result)).fields in
+    let hand = in_hand m c.leave.new.objects (counts_of c.leave.new.self) c.args.k c.pointer_of-o.result c.class_of-class.result c.requires.counted c.requires.unused c.requires.place c.pointer_of-o.ensures c.class_of-class.ensures c.leave.ensures.rest.objects c.leave.ensures.counts in
+    record {
+      counted = hand_counted rest (all_roots (counted_view m)) fields (counts_of c.leave.new.self) c.class_of-class.result.0 hand;
+      some = hand_some rest (all_roots (counted_view m)) fields (counts_of c.leave.new.self) c.class_of-class.result.0 hand;
+      listed = c.leave.ensures.listed;
+    }
 
 pub lower_fields-requires-clause-live : goal.lower_fields-requires-clause-live
 lower_fields-requires-clause-live c =
     let v = counted_view c.args.self.now in
-    ap (λ (t : Table). is_live t (value c.pointer_of-o.result)) (c.lower.ensures.objects ∙ c.leave.ensures.objects)
+    ap (λ (t : Table). is_live t (value c.pointer_of-o.result)) (c.lower.ensures.rest.objects ∙ c.leave.ensures.rest.objects)
     ∙ ap (is_live v.objects) (place_value c.pointer_of-o.result.0 c.args.k c.pointer_of-o.ensures)
     ∙ unused_live v.objects (references v.objects (all_roots v) []) (numbers_of c.args.self.now) c.args.k c.requires.counted.tallied c.requires.unused
 
@@ -70,15 +69,15 @@ lower_fields-requires-clause-counted c =
     let x = value c.pointer_of-o.result in
     let two = c.pointer_of-o.ensures in
     let half : c.pointer_of-o.result.0 / 2 ≡ k = omega (arith, two) in
-    subst (λ (t : Table). IsCounted (slice_set t (c.pointer_of-o.result.0 / 2) None) (all_roots v) (object_of t x).fields (counts_of c.lower.new.counts)) (sym (c.lower.ensures.objects ∙ c.leave.ensures.objects))
+    subst (λ (t : Table). IsCounted (slice_set t (c.pointer_of-o.result.0 / 2) None) (all_roots v) (object_of t x).fields (counts_of c.lower.new.counts)) (sym (c.lower.ensures.rest.objects ∙ c.leave.ensures.rest.objects))
     (subst (λ n. IsCounted (slice_set v.objects n None) (all_roots v) (object_of v.objects x).fields (counts_of c.lower.new.counts)) (sym half)
     (lowered_to (slice_set v.objects k None) (all_roots v) (object_of v.objects x).fields (counts_of c.leave.new.self) (counts_of c.lower.new.counts) (value c.class_of-class.result)
-    (in_hand m c.leave.new.objects (counts_of c.leave.new.self) c.args.k c.pointer_of-o.result c.class_of-class.result c.requires.counted c.requires.unused c.requires.place c.pointer_of-o.ensures c.class_of-class.ensures c.leave.ensures.objects c.leave.ensures.counts) c.lower.ensures.counts))
+    (in_hand m c.leave.new.objects (counts_of c.leave.new.self) c.args.k c.pointer_of-o.result c.class_of-class.result c.requires.counted c.requires.unused c.requires.place c.pointer_of-o.ensures c.class_of-class.ensures c.leave.ensures.rest.objects c.leave.ensures.counts) c.lower.ensures.counts))
 
 pub remove-requires : goal.remove-requires
 remove-requires c =
     let v = counted_view c.args.self.now in
-    ap (λ (t : Table). is_live t (value c.pointer_of-o.result)) (c.lower_fields.ensures.rest.objects ∙ c.lower.ensures.objects ∙ c.leave.ensures.objects)
+    ap (λ (t : Table). is_live t (value c.pointer_of-o.result)) (c.lower_fields.ensures.rest.objects ∙ c.lower.ensures.rest.objects ∙ c.leave.ensures.rest.objects)
     ∙ ap (is_live v.objects) (place_value c.pointer_of-o.result.0 c.args.k c.pointer_of-o.ensures)
     ∙ unused_live v.objects (references v.objects (all_roots v) []) (numbers_of c.args.self.now) c.args.k c.requires.counted.tallied c.requires.unused
 
@@ -88,7 +87,7 @@ returns-clause-objects c =
     let two = c.pointer_of-o.ensures in
     let half : c.pointer_of-o.result.0 / 2 ≡ c.args.k = omega (arith, two) in
     c.remove.ensures.objects
-    ∙ ap (λ (t : Table). slice_set t (c.pointer_of-o.result.0 / 2) None) (c.lower_fields.ensures.rest.objects ∙ c.lower.ensures.objects ∙ c.leave.ensures.objects)
+    ∙ ap (λ (t : Table). slice_set t (c.pointer_of-o.result.0 / 2) None) (c.lower_fields.ensures.rest.objects ∙ c.lower.ensures.rest.objects ∙ c.leave.ensures.rest.objects)
     ∙ ap (λ n. slice_set v.objects n None) half
 
 pub returns-clause-held : goal.returns-clause-held
@@ -110,10 +109,10 @@ returns-clause-listed c =
 pub returns-clause-room : goal.returns-clause-room
 returns-clause-room c = λ h.
     let rest = c.lower_fields.ensures.rest in
-    c.remove.ensures.room ∙ rest.room ∙ c.lower.ensures.room ∙ c.leave.ensures.room ∙ h ∙ sym (ap (λ (y : Head). y.capacity.words) rest.head)
+    c.remove.ensures.room ∙ rest.room ∙ c.lower.ensures.rest.room ∙ c.leave.ensures.rest.room ∙ h ∙ sym (ap (λ (y : Head). y.capacity.words) rest.head)
 
 pub returns-clause-places : goal.returns-clause-places
 returns-clause-places c = λ k other.
     let two = c.pointer_of-o.ensures in
     let half : c.pointer_of-o.result.0 / 2 ≡ c.args.k = omega (arith, two) in
-    c.remove.ensures.places k (λ q. other (q ∙ half)) ∙ c.lower_fields.ensures.places k ∙ c.lower.ensures.places k ∙ c.leave.ensures.places k
+    c.remove.ensures.places k (λ q. other (q ∙ half)) ∙ c.lower_fields.ensures.places k ∙ c.lower.ensures.rest.places k ∙ c.leave.ensures.rest.places k

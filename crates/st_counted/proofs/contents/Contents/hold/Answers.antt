@@ -21,26 +21,24 @@ raise-requires-clause-room c =
     let a = counted_few v [] (numbers_of c.args.self.now) (c.args.o.0 / 2) c.requires.whole c.requires.counted in omega (arith, a)
 
 -- what the place held is in hand
-pub lower-requires-clause-counted : goal.lower-requires-clause-counted
-lower-requires-clause-counted c small =
+pub lower-requires : goal.lower-requires
+lower-requires c =
     let m = c.args.self.now in
     let w = counted_view (record m { roots = c.hold.new.self }) in
     let cs1 = counts_of c.raise.new.counts in
-    hand_counted w.objects (all_roots w) [] cs1 c.held-old.result.0 (held (counted_view m) w (numbers_of m) cs1 c.args.place (value c.args.o) (value c.held-old.result) c.requires.counted c.requires.known c.requires.place c.requires.whole.pending c.raise.ensures.counts refl c.hold.ensures refl c.held-old.ensures) small
-
-pub lower-requires-clause-some : goal.lower-requires-clause-some
-lower-requires-clause-some c small =
-    let m = c.args.self.now in
-    let w = counted_view (record m { roots = c.hold.new.self }) in
-    let cs1 = counts_of c.raise.new.counts in
-    hand_some w.objects (all_roots w) [] cs1 c.held-old.result.0 (held (counted_view m) w (numbers_of m) cs1 c.args.place (value c.args.o) (value c.held-old.result) c.requires.counted c.requires.known c.requires.place c.requires.whole.pending c.raise.ensures.counts refl c.hold.ensures refl c.held-old.ensures) small
+    let hand = held (counted_view m) w (numbers_of m) cs1 c.args.place (value c.args.o) (value c.held-old.result) c.requires.counted c.requires.known c.requires.place c.requires.whole.pending c.raise.ensures.counts refl c.hold.ensures refl c.held-old.ensures in
+    record {
+      counted = hand_counted w.objects (all_roots w) [] cs1 c.held-old.result.0 hand;
+      some = hand_some w.objects (all_roots w) [] cs1 c.held-old.result.0 hand;
+      listed = c.raise.ensures.listed;
+    }
 
 pub returns-clause-counted : goal.returns-clause-counted
 returns-clause-counted c =
     let m = c.args.self.now in
     let w = counted_view (record m { roots = c.hold.new.self }) in
     let cs1 = counts_of c.raise.new.counts in
-    subst (λ (t : Table). IsCounted t (all_roots w) [] (counts_of c.lower.new.counts)) (sym (c.lower.ensures.objects ∙ c.raise.ensures.objects))
+    subst (λ (t : Table). IsCounted t (all_roots w) [] (counts_of c.lower.new.counts)) (sym (c.lower.ensures.rest.objects ∙ c.raise.ensures.rest.objects))
     (lowered_to w.objects (all_roots w) [] cs1 (counts_of c.lower.new.counts) (value c.held-old.result) (held (counted_view m) w (numbers_of m) cs1 c.args.place (value c.args.o) (value c.held-old.result) c.requires.counted c.requires.known c.requires.place c.requires.whole.pending c.raise.ensures.counts refl c.hold.ensures refl c.held-old.ensures) c.lower.ensures.counts)
 
 -- what is held already stays
@@ -51,10 +49,10 @@ returns-then-eq-clause-held c =
     sym (ap (with_held h c.args.place) (sym same ∙ c.held-old.ensures) ∙ held_already h c.args.place)
 
 pub returns-clause-objects : goal.returns-clause-objects
-returns-clause-objects c = c.lower.ensures.objects ∙ c.raise.ensures.objects
+returns-clause-objects c = c.lower.ensures.rest.objects ∙ c.raise.ensures.rest.objects
 
 pub returns-clause-room : goal.returns-clause-room
-returns-clause-room c = λ h. c.lower.ensures.room ∙ c.raise.ensures.room ∙ h
+returns-clause-room c = λ h. c.lower.ensures.rest.room ∙ c.raise.ensures.rest.room ∙ h
 
 pub returns-clause-places : goal.returns-clause-places
-returns-clause-places c = λ k. c.lower.ensures.places k ∙ c.raise.ensures.places k
+returns-clause-places c = λ k. c.lower.ensures.rest.places k ∙ c.raise.ensures.rest.places k

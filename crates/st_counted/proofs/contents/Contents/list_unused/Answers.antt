@@ -53,7 +53,7 @@ loop-k-preserved c =
             list = subst (λ (y : Contents). Holds y.objects.store (place y.counts.first) (unused_below cs (k + 1))) (sym w.self-is)
                 (listed_more w.list.new.objects.store (place w.list.new.self.first) cs k unused (e.holds (unused_below cs k) i.list (below_out cs k)));
             numbers = ap numbers_of w.self-is ∙ e.counts ∙ i.numbers;
-            rest = subst (λ (y : Contents). SameButLinks m y) (sym w.self-is) (record { objects = e.objects ∙ i.rest.objects; room = e.room ∙ i.rest.room; roots = i.rest.roots; head = i.rest.head });
+            rest = subst (λ (y : Contents). SameButLinks m y) (sym w.self-is) (record { objects = e.rest.objects ∙ i.rest.objects; room = e.rest.room ∙ i.rest.room; roots = i.rest.roots; head = i.rest.head });
           }
       | else-is_unused w ↦
           let used : is_unused cs k ≡ false = sym test ∙ w.if-is_unused.false in

@@ -1,4 +1,4 @@
-use Rattle.std.proofs.Common.{◌≡◌, ℕ, ◌+◌, ◌<◌, List, [], ◌∷◌, ◌++◌, length, drop, replicate, refl, sym, ap, ◌∙◌, subst, arith}
+use Rattle.std.proofs.Common.{◌≡◌, ◌≢◌, ℕ, ◌+◌, ◌<◌, List, [], ◌∷◌, ◌++◌, length, drop, replicate, refl, sym, ap, ◌∙◌, subst, arith}
 use Rattle.std.specs.Prelude.{Option, Some, None, slice_get, slice_set}
 use Rattle.st_model.specs.Values.{Value, value, value_of}
 use Rattle.st_model.specs.Objects.{nil}
@@ -39,25 +39,19 @@ placed_field-v-requires-clause-range c =
 pub placed_field-v-requires-clause-place : goal.placed_field-v-requires-clause-place
 placed_field-v-requires-clause-place c = all_stand c.args.self.now.objects c.loop-i.self.objects c.loop-i.invariant.places (value c.args.o) c.place_of-stand.result c.place_of-stand.ensures
 
-pub lower-requires-clause-counted : goal.lower-requires-clause-counted
-lower-requires-clause-counted c small =
+pub lower-requires : goal.lower-requires
+lower-requires c =
     let m = c.args.self.now in
     let v = counted_view m in
     let t = slice_set v.objects (place c.args.o) None in
     let i = c.loop-i.invariant in
     let count = c.count_fields-i-end.ensures in
-    hand_counted t (all_roots v) _ (numbers_of c.loop-i.self) c.placed_field-v.result.0
-    (next_first m c.loop-i.self t (value c.args.o) (all_roots v) c.loop-i.nils c.loop-i.i (value c.placed_field-v.result) i.rest (omega (arith, count)) c.placed_field-v.ensures i.counted) small
-
-pub lower-requires-clause-some : goal.lower-requires-clause-some
-lower-requires-clause-some c small =
-    let m = c.args.self.now in
-    let v = counted_view m in
-    let t = slice_set v.objects (place c.args.o) None in
-    let i = c.loop-i.invariant in
-    let count = c.count_fields-i-end.ensures in
-    hand_some t (all_roots v) _ (numbers_of c.loop-i.self) c.placed_field-v.result.0
-    (next_first m c.loop-i.self t (value c.args.o) (all_roots v) c.loop-i.nils c.loop-i.i (value c.placed_field-v.result) i.rest (omega (arith, count)) c.placed_field-v.ensures i.counted) small
+    let first = next_first m c.loop-i.self t (value c.args.o) (all_roots v) c.loop-i.nils c.loop-i.i (value c.placed_field-v.result) i.rest (omega (arith, count)) c.placed_field-v.ensures i.counted in
+    record {
+      counted = hand_counted t (all_roots v) _ (numbers_of c.loop-i.self) c.placed_field-v.result.0 first;
+      some = hand_some t (all_roots v) _ (numbers_of c.loop-i.self) c.placed_field-v.result.0 first;
+      listed = i.listed;
+    }
 
 pub loop-i-init : goal.loop-i-init
 loop-i-init c = record { counted = c.requires.counted; few = omega arith; listed = c.requires.listed; rest = record { objects = refl; room = refl; roots = refl; head = refl }; places = λ k. refl }
@@ -91,8 +85,8 @@ loop-i-preserved c =
                 (subst (λ (l : Contents). IsCounted t (all_roots v) (replicate c.loop-i.nils nil ++ left) (numbers_of l)) (sym w.self-is) less);
             few = omega (arith, w.nils-is, i.few);
             listed = subst (λ (l : Contents). IsListed l.objects l.counts) (sym w.self-is) w.lower.ensures.listed;
-            rest = subst (λ (l : Contents). SameButLinks m l) (sym w.self-is) (record { objects = w.lower.ensures.objects ∙ i.rest.objects; room = w.lower.ensures.room ∙ i.rest.room; roots = i.rest.roots; head = i.rest.head });
-            places = subst (λ (l : Contents). SamePlaces m.objects.store l.objects.store) (sym w.self-is) (λ k. w.lower.ensures.places k ∙ i.places k);
+            rest = subst (λ (l : Contents). SameButLinks m l) (sym w.self-is) (record { objects = w.lower.ensures.rest.objects ∙ i.rest.objects; room = w.lower.ensures.rest.room ∙ i.rest.room; roots = i.rest.roots; head = i.rest.head });
+            places = subst (λ (l : Contents). SamePlaces m.objects.store l.objects.store) (sym w.self-is) (λ k. w.lower.ensures.rest.places k ∙ i.places k);
           }
     ]
 
@@ -100,23 +94,20 @@ loop-i-preserved c =
 all_met : (t : Table) (roots : List Value) (cs : List (Option ℕ)) (nils n : ℕ) (fields : List Value) → n ≡ length fields → IsCounted t roots (replicate nils nil ++ drop n fields) cs → IsCounted t roots (replicate nils nil ++ []) cs
 all_met t roots cs nils n fields end h = subst (λ xs. IsCounted t roots (replicate nils nil ++ xs) cs) (dropped_all fields n end) h
 
-pub lower-requires-then-nils-gt0-clause-counted : goal.lower-requires-then-nils-gt0-clause-counted
-lower-requires-then-nils-gt0-clause-counted c =
+pub lower-requires-then-nils-gt0 : goal.lower-requires-then-nils-gt0
+lower-requires-then-nils-gt0 c =
     let v = counted_view c.args.self.now in
     let t = slice_set v.objects (place c.args.o) None in
     let count = c.count_fields-i-end.ensures in
-    let fields = (object_of v.objects (value c.args.o)).fields in
     let some = c.if-nils-gt0.true in
-    nils_counted t (all_roots v) (numbers_of c.loop-i.self) c.loop-i.nils (omega (arith, some)) (all_met t (all_roots v) _ c.loop-i.nils c.loop-i.i fields (omega (arith, count)) c.loop-i.invariant.counted)
-
-pub lower-requires-then-nils-gt0-clause-most : goal.lower-requires-then-nils-gt0-clause-most
-lower-requires-then-nils-gt0-clause-most c =
-    let v = counted_view c.args.self.now in
-    let t = slice_set v.objects (place c.args.o) None in
-    let count = c.count_fields-i-end.ensures in
-    let fields = (object_of v.objects (value c.args.o)).fields in
-    let some = c.if-nils-gt0.true in
-    nils_few t (all_roots v) (numbers_of c.loop-i.self) c.loop-i.nils (omega (arith, some)) (all_met t (all_roots v) _ c.loop-i.nils c.loop-i.i fields (omega (arith, count)) c.loop-i.invariant.counted)
+    let more : c.loop-i.nils ≢ 0 = omega (arith, some) in
+    let met = all_met t (all_roots v) _ c.loop-i.nils c.loop-i.i (object_of v.objects (value c.args.o)).fields (omega (arith, count)) c.loop-i.invariant.counted in
+    record {
+      counted = nils_counted t (all_roots v) (numbers_of c.loop-i.self) c.loop-i.nils more met;
+      some = omega (arith, some);
+      most = nils_few t (all_roots v) (numbers_of c.loop-i.self) c.loop-i.nils more met;
+      listed = c.loop-i.invariant.listed;
+    }
 
 pub returns-then-nils-gt0-clause-counted : goal.returns-then-nils-gt0-clause-counted
 returns-then-nils-gt0-clause-counted c =
@@ -130,7 +121,7 @@ returns-then-nils-gt0-clause-counted c =
     let e = c.lower-then-nils-gt0.ensures in
     let cs = counts_of c.lower-then-nils-gt0.new.self in
     moved m (record c.loop-i.self { objects = c.lower-then-nils-gt0.new.objects }) (place c.args.o) [] cs
-    (record { objects = e.objects ∙ i.rest.objects; room = e.room ∙ i.rest.room; roots = i.rest.roots; head = i.rest.head })
+    (record { objects = e.rest.objects ∙ i.rest.objects; room = e.rest.room ∙ i.rest.room; roots = i.rest.roots; head = i.rest.head })
     (subst (λ ns. IsCounted t (all_roots v) [] ns) (sym e.counts)
     (without_nils t (all_roots v) (numbers_of c.loop-i.self) c.loop-i.nils (omega (arith, some)) (all_met t (all_roots v) _ c.loop-i.nils c.loop-i.i fields (omega (arith, count)) i.counted)))
 
@@ -138,7 +129,7 @@ pub returns-then-nils-gt0-clause-rest : goal.returns-then-nils-gt0-clause-rest
 returns-then-nils-gt0-clause-rest c =
     let i = c.loop-i.invariant in
     let e = c.lower-then-nils-gt0.ensures in
-    record { objects = e.objects ∙ i.rest.objects; room = e.room ∙ i.rest.room; roots = i.rest.roots; head = i.rest.head }
+    record { objects = e.rest.objects ∙ i.rest.objects; room = e.rest.room ∙ i.rest.room; roots = i.rest.roots; head = i.rest.head }
 
 pub returns-else-nils-gt0-clause-counted : goal.returns-else-nils-gt0-clause-counted
 returns-else-nils-gt0-clause-counted c =
@@ -154,4 +145,4 @@ returns-else-nils-gt0-clause-counted c =
     (all_met t (all_roots v) _ c.loop-i.nils c.loop-i.i fields (omega (arith, count)) i.counted))
 
 pub returns-then-nils-gt0-clause-places : goal.returns-then-nils-gt0-clause-places
-returns-then-nils-gt0-clause-places c = λ k. c.lower-then-nils-gt0.ensures.places k ∙ c.loop-i.invariant.places k
+returns-then-nils-gt0-clause-places c = λ k. c.lower-then-nils-gt0.ensures.rest.places k ∙ c.loop-i.invariant.places k

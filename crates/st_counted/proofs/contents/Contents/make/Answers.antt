@@ -51,7 +51,7 @@ raise_nil-requires-clause-room c =
 -- the objects stand while references are counted
 pub make-o-requires-clause-left : goal.make-o-requires-clause-left
 make-o-requires-clause-left c =
-    subst (λ (t : Table). first_free t < 32768) (sym (c.raise_nil.ensures.objects ∙ c.raise.ensures.objects))
+    subst (λ (t : Table). first_free t < 32768) (sym (c.raise_nil.ensures.rest.objects ∙ c.raise.ensures.rest.objects))
     (first_free_within (counted_view c.args.self.now) c.requires.whole (fresh (c.args.class.0 / 2) c.args.kind c.args.size c.args.literals) c.requires.room)
 
 pub make-o-requires-clause-class : goal.make-o-requires-clause-class
@@ -66,9 +66,9 @@ make-o-requires-clause-words c =
     let m = c.args.self.now in
     let words = words_of (fresh (c.args.class.0 / 2) c.args.kind c.args.size c.args.literals) in
     let fit : total_used words_of (objects_of m.objects) + words ≤ m.head.capacity.words = second_fits _ _ _ c.requires.room in
-    let room = c.raise_nil.ensures.room ∙ c.raise.ensures.room ∙ c.requires.words in
+    let room = c.raise_nil.ensures.rest.room ∙ c.raise.ensures.rest.room ∙ c.requires.words in
     subst (λ n. total_used words_of (objects_of c.raise_nil.new.objects) + words ≤ n) (sym room)
-    (subst (λ (t : Table). total_used words_of t + words ≤ m.head.capacity.words) (sym (c.raise_nil.ensures.objects ∙ c.raise.ensures.objects)) fit)
+    (subst (λ (t : Table). total_used words_of t + words ≤ m.head.capacity.words) (sym (c.raise_nil.ensures.rest.objects ∙ c.raise.ensures.rest.objects)) fit)
 
 -- what a new object refers to is in hand
 with_hand : (v : View) (cs cs1 cs2 : List (Option ℕ)) (w n : ℕ) → IsWhole v → IsCounted v.objects (all_roots v) [] cs → is_live v.objects (value_of w) ≡ true → cs1 ≡ raised_by cs (value_of w) 1 → cs2 ≡ cond (n == 0) cs1 (raised cs1 1 n)
@@ -83,7 +83,7 @@ enter-requires-clause-absent c =
     let cs2 = counts_of c.raise_nil.new.counts in
     let h2 = with_hand v (numbers_of m) (counts_of c.raise.new.counts) cs2 c.args.class.0 c.count_nils-nils.result c.requires.whole c.requires.counted c.requires.class c.raise.ensures.counts c.raise_nil.ensures.counts in
     let place : c.from.result ≡ c.make-o.result.0 / 2 = grind (arith, common_steps) in
-    absent v.objects (all_roots v) _ cs2 c.from.result h2 (place ∙ place_of_ref c.make-o.result.0 (first_free t) c.make-o.ensures.pointer ∙ ap (λ (u : Table). first_free u) (c.raise_nil.ensures.objects ∙ c.raise.ensures.objects))
+    absent v.objects (all_roots v) _ cs2 c.from.result h2 (place ∙ place_of_ref c.make-o.result.0 (first_free t) c.make-o.ensures.pointer ∙ ap (λ (u : Table). first_free u) (c.raise_nil.ensures.rest.objects ∙ c.raise.ensures.rest.objects))
 
 pub enter-requires-clause-stored : goal.enter-requires-clause-stored
 enter-requires-clause-stored c =
@@ -101,14 +101,14 @@ enter-requires-clause-listed c =
     let place : c.from.result ≡ c.make-o.result.0 / 2 = grind (arith, common_steps) in
     let free = place ∙ place_of_ref c.make-o.result.0 (first_free (objects_of o)) c.make-o.ensures.pointer in
     listed_new o c.make-o.new.self c.raise_nil.new.counts _ c.from.result (c.make-o.result.0 / 2) c.raise_nil.ensures.listed c.make-o.ensures.links (sym place)
-    (absent v.objects (all_roots v) _ cs2 c.from.result h2 (free ∙ ap (λ (u : Table). first_free u) (c.raise_nil.ensures.objects ∙ c.raise.ensures.objects))) free c.make-o.ensures.objects
+    (absent v.objects (all_roots v) _ cs2 c.from.result h2 (free ∙ ap (λ (u : Table). first_free u) (c.raise_nil.ensures.rest.objects ∙ c.raise.ensures.rest.objects))) free c.make-o.ensures.objects
 
 pub returns-clause-pointer : goal.returns-clause-pointer
-returns-clause-pointer c = c.make-o.ensures.pointer ∙ ap (λ (t : Table). Ref (first_free t)) (c.raise_nil.ensures.objects ∙ c.raise.ensures.objects)
+returns-clause-pointer c = c.make-o.ensures.pointer ∙ ap (λ (t : Table). Ref (first_free t)) (c.raise_nil.ensures.rest.objects ∙ c.raise.ensures.rest.objects)
 
 pub returns-clause-objects : goal.returns-clause-objects
 returns-clause-objects c =
-    c.enter.ensures.objects ∙ c.make-o.ensures.objects ∙ ap (λ (t : Table). placed t (fresh (c.args.class.0 / 2) c.args.kind c.args.size c.args.literals)) (c.raise_nil.ensures.objects ∙ c.raise.ensures.objects)
+    c.enter.ensures.rest.objects ∙ c.make-o.ensures.objects ∙ ap (λ (t : Table). placed t (fresh (c.args.class.0 / 2) c.args.kind c.args.size c.args.literals)) (c.raise_nil.ensures.rest.objects ∙ c.raise.ensures.rest.objects)
 
 pub returns-clause-counted : goal.returns-clause-counted
 returns-clause-counted c =
@@ -119,11 +119,11 @@ returns-clause-counted c =
     let h3 = new_hand v.objects (all_roots v) cs2 c.args.class.0 c.args.kind c.args.size c.args.literals c.count_nils-nils.result h2 c.count_nils-nils.ensures (live_even v.objects (value c.args.class) c.requires.class) in
     let place : c.from.result ≡ c.make-o.result.0 / 2 = grind (arith, common_steps) in
     let left = first_free_within v c.requires.whole (fresh (c.args.class.0 / 2) c.args.kind c.args.size c.args.literals) c.requires.room in
-    let same = c.raise_nil.ensures.objects ∙ c.raise.ensures.objects in
+    let same = c.raise_nil.ensures.rest.objects ∙ c.raise.ensures.rest.objects in
     let free = place ∙ place_of_ref c.make-o.result.0 (first_free (objects_of c.raise_nil.new.objects)) c.make-o.ensures.pointer ∙ ap (λ (u : Table). first_free u) same in
-    let is = c.enter.ensures.objects ∙ c.make-o.ensures.objects ∙ ap (λ (t : Table). placed t (fresh (c.args.class.0 / 2) c.args.kind c.args.size c.args.literals)) same in
+    let is = c.enter.ensures.rest.objects ∙ c.make-o.ensures.objects ∙ ap (λ (t : Table). placed t (fresh (c.args.class.0 / 2) c.args.kind c.args.size c.args.literals)) same in
     made v.objects (objects_of c.enter.new.objects) (all_roots v) cs2 cs2 (counts_of c.enter.new.self) (c.args.class.0 / 2) c.args.kind c.args.size c.args.literals c.from.result h3
     (subst (λ n. first_free v.objects < n) (sym c.raise_nil.new.counts.places) left) free c.enter.ensures.counts is
 
 pub returns-clause-words : goal.returns-clause-words
-returns-clause-words c = c.enter.ensures.room ∙ c.make-o.ensures.room ∙ c.raise_nil.ensures.room ∙ c.raise.ensures.room ∙ c.requires.words
+returns-clause-words c = c.enter.ensures.rest.room ∙ c.make-o.ensures.room ∙ c.raise_nil.ensures.rest.room ∙ c.raise.ensures.rest.room ∙ c.requires.words

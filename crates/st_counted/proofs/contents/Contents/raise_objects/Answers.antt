@@ -6,9 +6,9 @@ use Rattle.st_heap.specs.Tables.{objects_of}
 use Rattle.st_counted.specs.declared.contents.Contents.{Contents}
 use Rattle.st_counted.specs.References.{object_uses, uses, uses_below, IsTallied, IsEntered}
 use Rattle.st_counted.specs.Counted.{counted_view, numbers_of}
-use Rattle.st_counted.proofs.Tallying.{tally_entered, tally_number, tally_most, tally_same}
+use Rattle.st_counted.proofs.Tallying.{tally_entered, tally_most, tally_same}
 use Rattle.st_counted.proofs.Rooting.{uses_few}
-use Rattle.st_counted.proofs.Finishing.{tally_live, below_all, below_few, below_more}
+use Rattle.st_counted.proofs.Finishing.{tallied_more, below_all, below_few}
 use Rattle.st_counted.proofs.contents.Contents.raise_objects.Goals as goal
 
 pub raise_object-requires-clause-whole : goal.raise_object-requires-clause-whole
@@ -35,16 +35,12 @@ pub loop-k-preserved : goal.loop-k-preserved
 loop-k-preserved c =
     let i = c.loop-k.invariant in
     let e = c.raise_object.ensures in
-    let k = c.loop-k.k in
-    let t = (counted_view c.args.self.now).objects in
-    let cs = numbers_of c.loop-k.self in
-    let rest = e.rest ∙ ap (λ (m : Contents). record m { counts = c.raise_object.new.self.counts }) i.rest in
-    let same : objects_of c.loop-k.self.objects ≡ t = ap (λ (m : Contents). objects_of m.objects) i.rest in
+    let cs1 = numbers_of c.raise_object.new.self in
+    let same : objects_of c.loop-k.self.objects ≡ (counted_view c.args.self.now).objects = ap (λ (m : Contents). objects_of m.objects) i.rest in
     record {
-      tallied = tally_live t (λ j. object_uses j (entry t k) + number_at cs j) (λ j. uses_below j t (k + 1)) (numbers_of c.raise_object.new.self)
-          (subst (λ (u : Table). IsTallied u (λ j. object_uses j (entry u k) + number_at cs j) (numbers_of c.raise_object.new.self)) same e.tallied)
-          (λ j live. let a = below_more j t k in let b = tally_number t (λ j. uses_below j t k) cs j i.tallied live in omega (arith, a, b));
-      rest = rest;
+      tallied = tallied_more (counted_view c.args.self.now).objects c.loop-k.k (numbers_of c.loop-k.self) cs1 i.tallied
+          (subst (λ (u : Table). IsTallied u (λ j. object_uses j (entry u c.loop-k.k) + number_at (numbers_of c.loop-k.self) j) cs1) same e.tallied);
+      rest = e.rest ∙ ap (λ (m : Contents). record m { counts = c.raise_object.new.self.counts }) i.rest;
     }
 
 pub returns-clause-tallied : goal.returns-clause-tallied

@@ -22,5 +22,5 @@ returns-clause-listed c =
     let o = c.args.objects.now in
     let k = c.args.k in
     let cs = counts_in s.counts.items in
-    listed_with o c.list.new.objects s c.list.new.self k (Some 0) c.requires.listed (subst (λ n. k < n) (sym s.places) c.requires.place) c.requires.stored refl (c.list.ensures.counts ∙ c.start.ensures.counts) c.list.ensures.objects
+    listed_with o c.list.new.objects s c.list.new.self k (Some 0) c.requires.listed (subst (λ n. k < n) (sym s.places) c.requires.place) c.requires.stored refl (c.list.ensures.counts ∙ c.start.ensures.counts) c.list.ensures.rest.objects
     (c.list.ensures.holds (is_unused cs) (subst (λ (f : Oop). Holds o.store (place f) (is_unused cs)) (sym c.start.ensures.first) c.requires.listed.list) (absent_zero (count_at cs k) c.requires.absent))

@@ -40,7 +40,7 @@ pub returns-clause-listed : goal.returns-clause-listed
 returns-clause-listed c =
     let s = c.args.self.now in
     listed_without c.args.objects.now c.unlink-self.new.objects s _ c.pointer_of.result.0 c.args.k None c.requires.listed c.requires.unused refl (half_of c.pointer_of.result.0 c.args.k c.pointer_of.ensures)
-    (counts_set s.counts.items c.args.k (record { number = c.index_mut.result.now.number; counted = false })) c.unlink-self.ensures.objects c.unlink-self.ensures.holds
+    (counts_set s.counts.items c.args.k (record { number = c.index_mut.result.now.number; counted = false })) c.unlink-self.ensures.rest.objects c.unlink-self.ensures.holds
 
 pub returns-clause-counts : goal.returns-clause-counts
 returns-clause-counts c = counts_set c.args.self.now.counts.items c.args.k (record { number = c.index_mut.result.now.number; counted = false })

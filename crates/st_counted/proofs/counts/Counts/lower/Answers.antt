@@ -22,7 +22,7 @@ returns-then-count-eq0-clause-listed c =
     let r = c.requires in
     let was = lowered_used (counts_in s.counts.items) c.args.k c.args.by r.counted r.some r.most in
     listed_with c.args.objects.now c.list.new.objects s c.list.new.self c.args.k (Some (c.count.result - c.args.by)) r.listed (counted_within (counts_in s.counts.items) c.args.k r.counted) (r.listed.stored c.args.k r.counted)
-    (test_of (c.count.result - c.args.by) 0 c.if-count-eq0.true) (c.list.ensures.counts ∙ c.set_count.ensures) c.list.ensures.objects (c.list.ensures.holds (is_unused (counts_in s.counts.items)) r.listed.list was)
+    (test_of (c.count.result - c.args.by) 0 c.if-count-eq0.true) (c.list.ensures.counts ∙ c.set_count.ensures) c.list.ensures.rest.objects (c.list.ensures.holds (is_unused (counts_in s.counts.items)) r.listed.list was)
 
 pub returns-else-count-eq0-clause-listed : goal.returns-else-count-eq0-clause-listed
 returns-else-count-eq0-clause-listed c =

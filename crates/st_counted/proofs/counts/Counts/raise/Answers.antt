@@ -36,7 +36,7 @@ returns-then-count-eq0-clause-listed c =
     let more : n ≢ 0 = λ q. absurd (omega (arith, q, some)) in
     listed_without c.args.objects.now c.unlink-self.new.objects c.args.self.now _ c.pointer_of.result.0 c.args.k (Some n) c.requires.listed
     (zero_unused (counts_in c.args.self.now.counts.items) c.args.k c.count-count.result c.requires.counted c.count-count.ensures c.if-count-eq0.true)
-    (test_other n 0 more) (half_of c.pointer_of.result.0 c.args.k c.pointer_of.ensures) c.set_count.ensures c.unlink-self.ensures.objects c.unlink-self.ensures.holds
+    (test_other n 0 more) (half_of c.pointer_of.result.0 c.args.k c.pointer_of.ensures) c.set_count.ensures c.unlink-self.ensures.rest.objects c.unlink-self.ensures.holds
 
 pub returns-else-count-eq0-clause-listed : goal.returns-else-count-eq0-clause-listed
 returns-else-count-eq0-clause-listed c =

@@ -5,11 +5,8 @@ use Rattle.st_heap.proofs.Living.{live_stored}
 use Rattle.st_heap.proofs.Parts.{byte_within, byte_read, upper_byte, lower_byte}
 use Rattle.st_heap.proofs.objects.Objects.byte.Goals as goal
 
-pub word-word-requires-clause-there : goal.word-word-requires-clause-there
-word-word-requires-clause-there c = live_stored (stored_of c.args.self.now.store) c.args.o c.requires.live
-
-pub word-word-requires-clause-range : goal.word-word-requires-clause-range
-word-word-requires-clause-range c = byte_within c.args.self.now c.args.o c.requires.live c.requires.kind c.args.at c.requires.above c.requires.range
+pub word-word-requires : goal.word-word-requires
+word-word-requires c = record { there = live_stored (stored_of c.args.self.now.store) c.args.o c.requires.live; range = byte_within c.args.self.now c.args.o c.requires.live c.requires.kind c.args.at c.requires.above c.requires.range }
 
 pub returns-then-at-eq0 : goal.returns-then-at-eq0
 returns-then-at-eq0 c = byte_read c.args.self.now c.args.o c.requires.live c.requires.kind c.args.at c.requires.above c.requires.range ∙ ap Some (ap (λ w. byte_of w c.args.at) (sym c.word-word.ensures) ∙ upper_byte c.word-word.result c.args.at c.if-at-eq0.true)

@@ -2,19 +2,14 @@ use Rattle.std.proofs.Common.{Some, sym, ap, ◌∙◌, arith}
 use Rattle.st_model.specs.Values.{value_of}
 use Rattle.st_heap.specs.Stores.{stored_of}
 use Rattle.st_heap.proofs.Living.{live_stored}
-use Rattle.st_heap.proofs.Parts.{field_within, field_read}
+use Rattle.st_heap.proofs.Parts.{field_within, field_small, field_read}
 use Rattle.st_heap.proofs.objects.Objects.field.Goals as goal
 
 pub overflow_add-at : goal.overflow_add-at
-overflow_add-at c =
-    let small = (field_within c.args.self.now c.args.o c.requires.live c.args.at c.requires.range).1 in
-    record { fits = omega (arith, small) }
+overflow_add-at c = record { fits = omega (arith, field_small c.args.self.now c.args.o c.requires.live c.args.at c.requires.range) }
 
-pub word-requires-clause-there : goal.word-requires-clause-there
-word-requires-clause-there c = live_stored (stored_of c.args.self.now.store) c.args.o c.requires.live
-
-pub word-requires-clause-range : goal.word-requires-clause-range
-word-requires-clause-range c = (field_within c.args.self.now c.args.o c.requires.live c.args.at c.requires.range).0
+pub word-requires : goal.word-requires
+word-requires c = record { there = live_stored (stored_of c.args.self.now.store) c.args.o c.requires.live; range = field_within c.args.self.now c.args.o c.requires.live c.args.at c.requires.range }
 
 pub returns : goal.returns
 returns c = field_read c.args.self.now c.args.o c.requires.live c.args.at c.requires.range ∙ ap (λ w. Some (value_of w)) (sym c.word.ensures)

@@ -8,11 +8,8 @@ use Rattle.st_heap.proofs.Parts.{size_within, size_word}
 use Rattle.st_heap.specs.Stores.{stored_of}
 use Rattle.st_heap.proofs.objects.Objects.remove.Goals as goal
 
-pub word-requires-clause-there : goal.word-requires-clause-there
-word-requires-clause-there c = live_stored (stored_of c.args.self.now.store) c.args.o c.requires
-
-pub word-requires-clause-range : goal.word-requires-clause-range
-word-requires-clause-range c = size_within c.args.self.now c.args.o c.requires
+pub word-requires : goal.word-requires
+word-requires c = record { there = live_stored (stored_of c.args.self.now.store) c.args.o c.requires; range = size_within c.args.self.now c.args.o c.requires }
 
 pub free-requires-clause-there : goal.free-requires-clause-there
 free-requires-clause-there c = live_stored (stored_of c.args.self.now.store) c.args.o c.requires

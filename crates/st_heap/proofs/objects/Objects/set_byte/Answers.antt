@@ -7,17 +7,11 @@ use Rattle.st_heap.proofs.Living.{live_stored}
 use Rattle.st_heap.proofs.Parts.{byte_within, byte_written}
 use Rattle.st_heap.proofs.objects.Objects.set_byte.Goals as goal
 
-pub word-requires-clause-there : goal.word-requires-clause-there
-word-requires-clause-there c = live_stored (stored_of c.args.self.now.store) c.args.o c.requires.live
+pub word-requires : goal.word-requires
+word-requires c = record { there = live_stored (stored_of c.args.self.now.store) c.args.o c.requires.live; range = byte_within c.args.self.now c.args.o c.requires.live c.requires.kind c.args.at c.requires.above c.requires.range }
 
-pub word-requires-clause-range : goal.word-requires-clause-range
-word-requires-clause-range c = byte_within c.args.self.now c.args.o c.requires.live c.requires.kind c.args.at c.requires.above c.requires.range
-
-pub set_word-requires-clause-there : goal.set_word-requires-clause-there
-set_word-requires-clause-there c = live_stored (stored_of c.args.self.now.store) c.args.o c.requires.live
-
-pub set_word-requires-clause-range : goal.set_word-requires-clause-range
-set_word-requires-clause-range c = byte_within c.args.self.now c.args.o c.requires.live c.requires.kind c.args.at c.requires.above c.requires.range
+pub set_word-requires : goal.set_word-requires
+set_word-requires c = record { there = live_stored (stored_of c.args.self.now.store) c.args.o c.requires.live; range = byte_within c.args.self.now c.args.o c.requires.live c.requires.kind c.args.at c.requires.above c.requires.range }
 
 pub invariant_of-self : goal.invariant_of-self
 invariant_of-self c = record { sound = subst (λ (xs : List (Option Stored)). AllSound xs) (sym c.set_word.ensures.stored) (byte_written c.args.self.now c.args.o c.requires.live c.requires.kind c.args.at c.requires.above c.requires.range c.with_byte-word.result c.args.v (c.with_byte-word.ensures.here ∙ c.from.ensures) (λ j ne. c.with_byte-word.ensures.other j ne ∙ ap (λ w. byte_of w j) c.word.ensures)).0 }

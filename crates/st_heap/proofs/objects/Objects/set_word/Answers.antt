@@ -7,15 +7,10 @@ use Rattle.st_heap.proofs.Parts.{word_within, word_written}
 use Rattle.st_heap.proofs.objects.Objects.set_word.Goals as goal
 
 pub overflow_add-at : goal.overflow_add-at
-overflow_add-at c =
-    let small = (word_within c.args.self.now c.args.o c.requires.live c.requires.kind c.args.at c.requires.range).1 in
-    record { fits = omega (arith, small) }
+overflow_add-at c = record { fits = omega (arith, (word_within c.args.self.now c.args.o c.requires.live c.requires.kind c.args.at c.requires.range).1) }
 
-pub set_word-requires-clause-there : goal.set_word-requires-clause-there
-set_word-requires-clause-there c = live_stored (stored_of c.args.self.now.store) c.args.o c.requires.live
-
-pub set_word-requires-clause-range : goal.set_word-requires-clause-range
-set_word-requires-clause-range c = (word_within c.args.self.now c.args.o c.requires.live c.requires.kind c.args.at c.requires.range).0
+pub set_word-requires : goal.set_word-requires
+set_word-requires c = record { there = live_stored (stored_of c.args.self.now.store) c.args.o c.requires.live; range = (word_within c.args.self.now c.args.o c.requires.live c.requires.kind c.args.at c.requires.range).0 }
 
 pub invariant_of-self : goal.invariant_of-self
 invariant_of-self c = record { sound = subst (λ (xs : List (Option Stored)). AllSound xs) (sym c.set_word.ensures.stored) (word_written c.args.self.now c.args.o c.requires.live c.requires.kind c.args.at c.requires.range c.args.v).0 }

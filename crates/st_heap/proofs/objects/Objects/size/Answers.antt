@@ -4,11 +4,8 @@ use Rattle.st_heap.proofs.Living.{live_stored}
 use Rattle.st_heap.proofs.Parts.{size_within, class_within, odd_within, size_word, words_size, bytes_size}
 use Rattle.st_heap.proofs.objects.Objects.size.Goals as goal
 
-pub word-requires-clause-there : goal.word-requires-clause-there
-word-requires-clause-there c = live_stored (stored_of c.args.self.now.store) c.args.o c.requires
-
-pub word-requires-clause-range : goal.word-requires-clause-range
-word-requires-clause-range c = size_within c.args.self.now c.args.o c.requires
+pub word-requires : goal.word-requires
+word-requires c = record { there = live_stored (stored_of c.args.self.now.store) c.args.o c.requires; range = size_within c.args.self.now c.args.o c.requires }
 
 pub overflow_sub-words : goal.overflow_sub-words
 overflow_sub-words c =

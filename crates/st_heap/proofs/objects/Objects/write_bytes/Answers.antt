@@ -6,11 +6,8 @@ use Rattle.st_heap.proofs.Living.{live_stored}
 use Rattle.st_heap.proofs.Parts.{bytes_within, bytes_put}
 use Rattle.st_heap.proofs.objects.Objects.write_bytes.Goals as goal
 
-pub write_bytes-requires-clause-there : goal.write_bytes-requires-clause-there
-write_bytes-requires-clause-there c = live_stored (stored_of c.args.self.now.store) c.args.o c.requires.live
-
-pub write_bytes-requires-clause-range : goal.write_bytes-requires-clause-range
-write_bytes-requires-clause-range c = bytes_within c.args.self.now c.args.o c.requires.live c.requires.kind c.args.at (length c.args.bytes.now) c.requires.above c.requires.range
+pub write_bytes-requires : goal.write_bytes-requires
+write_bytes-requires c = record { there = live_stored (stored_of c.args.self.now.store) c.args.o c.requires.live; range = bytes_within c.args.self.now c.args.o c.requires.live c.requires.kind c.args.at (length c.args.bytes.now) c.requires.above c.requires.range }
 
 pub invariant_of-self : goal.invariant_of-self
 invariant_of-self c = record { sound = subst (λ (xs : List (Option Stored)). AllSound xs) (sym c.write_bytes.ensures.stored) (bytes_put c.args.self.now c.args.o c.requires.live c.requires.kind c.args.at c.args.bytes.now c.requires.above c.requires.range (λ j. let small = (c.type_inv.bytes j).fits in omega (arith, small))).0 }

@@ -3,9 +3,7 @@ use Rattle.st_heap.proofs.Standing.{word_held, word_small, word_read}
 use Rattle.st_heap.proofs.store.Store.placed_word.Goals as goal
 
 pub overflow_add-at : goal.overflow_add-at
-overflow_add-at c =
-    let small = word_small c.args.self.now (c.args._o.0 / 2) c.args.at c.requires.place c.args.i c.requires.range in
-    record { fits = omega (arith, small) }
+overflow_add-at c = record { fits = omega (arith, word_small c.args.self.now (c.args._o.0 / 2) c.args.at c.requires.place c.args.i c.requires.range) }
 
 pub word-requires : goal.word-requires
 word-requires c = word_held c.args.self.now (c.args._o.0 / 2) c.args.at c.requires.place c.args.i c.requires.range

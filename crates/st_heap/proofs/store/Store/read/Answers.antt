@@ -4,9 +4,7 @@ use Rattle.st_heap.proofs.Standing.{range_held, range_small, range_read}
 use Rattle.st_heap.proofs.store.Store.read.Goals as goal
 
 pub overflow_add-at : goal.overflow_add-at
-overflow_add-at c =
-    let small = range_small c.args.self.now (c.args.o.0 / 2) c.entry-at.result.at (ap place_in c.entry-at.ensures) c.args.i (length c.args.into.now) c.requires.range in
-    record { fits = omega (arith, small) }
+overflow_add-at c = record { fits = omega (arith, range_small c.args.self.now (c.args.o.0 / 2) c.entry-at.result.at (ap place_in c.entry-at.ensures) c.args.i (length c.args.into.now) c.requires.range) }
 
 pub read-requires : goal.read-requires
 read-requires c = range_held c.args.self.now (c.args.o.0 / 2) c.entry-at.result.at (ap place_in c.entry-at.ensures) c.args.i (length c.args.into.now) c.requires.range

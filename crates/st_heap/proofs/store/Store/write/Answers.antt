@@ -6,9 +6,7 @@ use Rattle.st_heap.proofs.Standing.{range_held, range_small, range_written, rang
 use Rattle.st_heap.proofs.store.Store.write.Goals as goal
 
 pub overflow_add-at : goal.overflow_add-at
-overflow_add-at c =
-    let small = range_small c.args.self.now (c.args.o.0 / 2) c.entry-at.result.at (ap place_in c.entry-at.ensures) c.args.i (length c.args.words.now) c.requires.range in
-    record { fits = omega (arith, small) }
+overflow_add-at c = record { fits = omega (arith, range_small c.args.self.now (c.args.o.0 / 2) c.entry-at.result.at (ap place_in c.entry-at.ensures) c.args.i (length c.args.words.now) c.requires.range) }
 
 pub write-requires : goal.write-requires
 write-requires c = range_held c.args.self.now (c.args.o.0 / 2) c.entry-at.result.at (ap place_in c.entry-at.ensures) c.args.i (length c.args.words.now) c.requires.range

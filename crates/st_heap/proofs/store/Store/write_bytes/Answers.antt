@@ -6,9 +6,7 @@ use Rattle.st_heap.proofs.Standing.{range_held, range_small, bytes_written, byte
 use Rattle.st_heap.proofs.store.Store.write_bytes.Goals as goal
 
 pub overflow_add-at : goal.overflow_add-at
-overflow_add-at c =
-    let small = range_small c.args.self.now (c.args.o.0 / 2) c.entry-at.result.at (ap place_in c.entry-at.ensures) 2 ((c.args.first + length c.args.bytes.now + 1) / 2) c.requires.range in
-    record { fits = omega (arith, small) }
+overflow_add-at c = record { fits = omega (arith, range_small c.args.self.now (c.args.o.0 / 2) c.entry-at.result.at (ap place_in c.entry-at.ensures) 2 ((c.args.first + length c.args.bytes.now + 1) / 2) c.requires.range) }
 
 pub write_bytes-requires : goal.write_bytes-requires
 write_bytes-requires c = range_held c.args.self.now (c.args.o.0 / 2) c.entry-at.result.at (ap place_in c.entry-at.ensures) 2 ((c.args.first + length c.args.bytes.now + 1) / 2) c.requires.range

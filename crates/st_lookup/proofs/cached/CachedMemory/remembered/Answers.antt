@@ -1,8 +1,7 @@
-use Rattle.std.proofs.Common.{◌≡◌, ap, sym, subst, rules}
+use Rattle.std.proofs.Common.{◌≡◌, sym, subst, rules}
 use Rattle.std.specs.Prelude.{slice_get, Some, true}
 use Rattle.std.proofs.lemmas.Option.{slice_get_read}
-use Rattle.st_model.specs.Values.{Value, value}
-use Rattle.st_model.specs.Table.{Table}
+use Rattle.st_model.specs.Values.{value}
 use Rattle.st_model.specs.View.{is_live, IsKnown}
 use Rattle.st_memory.specs.Searched.{Finds}
 use Rattle.st_lookup.specs.declared.entry.Entry.{Entry}

@@ -1,19 +1,6 @@
-use Rattle.std.proofs.Common.{sym, subst, ◌∙◌}
 use Rattle.st_model.specs.Values.{value}
-use Rattle.st_model.specs.Table.{Table}
-use Rattle.st_lookup.specs.Remembered.{AllRemembered}
-use Rattle.st_lookup.proofs.Staying.{same_units, all_same, as_it_was}
+use Rattle.st_lookup.proofs.Staying.{same_units, stays_as}
 use Rattle.st_lookup.proofs.cached.CachedMemory.write_bytes.Goals as goal
 
-pub invariant_of-self : goal.invariant_of-self
-invariant_of-self g c =
-    let a = c.args.self.now in
-    let t = (g.M.Memory.view a.memory).objects in
-    let f = c.forget_if in
-    let bits = f.new.watch.words.items in
-    let es = f.new.entries.items in
-    record {
-      size = f.ensures.size ∙ a.size;
-      remembered = subst (λ (y : Table). AllRemembered bits y es) (sym c.write_bytes.ensures.objects)
-          (all_same bits t _ es (same_units bits t (value c.args.o) _ f.ensures.off) (f.ensures.kept t t (as_it_was _ t (value c.args.o)) a.remembered));
-    }
+pub invariant_of-self-clause-remembered : goal.invariant_of-self-clause-remembered
+invariant_of-self-clause-remembered g c = c.forget_if.ensures.kept _ _ (stays_as _ (value c.args.o) _ _ _ c.write_bytes.ensures.objects (same_units _ _ (value c.args.o) _)) c.args.self.now.remembered

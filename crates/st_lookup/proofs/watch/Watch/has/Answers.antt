@@ -1,4 +1,4 @@
-use Rattle.std.proofs.Common.{◌≡◌, ◌<◌, ◌/◌, ◌%◌, ℕ, Bool, true, false, length, sym, ap, ◌∙◌, subst, arith, List}
+use Rattle.std.proofs.Common.{◌≡◌, ◌<◌, ◌/◌, ◌%◌, ℕ, true, false, length, sym, ap, ◌∙◌, subst, arith}
 use Rattle.std.specs.Prelude.{slice_index, ◌==◌}
 use Rattle.std.specs.Int.{bit_at}
 use Rattle.st_lookup.specs.Remembered.{on}

@@ -1,8 +1,8 @@
-use Rattle.std.proofs.Common.{◌≤◌, ◌+◌, length, ap, sym, ◌∙◌, arith}
+use Rattle.std.proofs.Common.{◌+◌, ap, sym, ◌∙◌}
 use Rattle.st_model.specs.Objects.{one, words_of}
 use Rattle.st_model.specs.Table.{total_used}
 use Rattle.st_memory.specs.Noted.{noted}
-use Rattle.st_memory.proofs.Behind.{used_entries, used_words, total_made}
+use Rattle.st_memory.proofs.Behind.{used_entries, used_words, total_made, made_fit}
 use Rattle.st_memory.proofs.Exchanged.{total_all}
 use Rattle.st_memory.proofs.draft.Draft.demand.Goals as goal
 
@@ -10,9 +10,8 @@ pub returns-clause-entries : goal.returns-clause-entries
 returns-clause-entries g c =
     let d = c.args.self.now in
     let t = (g.M.Memory.view d.base.now).objects in
-    let few : d.notes.made_count ≤ length d.notes.made = let a = d.notes.few in let b = d.notes.sizes.0 in omega (arith, a, b) in
     total_all d.exchanges.pairs one (noted t d.notes) d.exchanges.count d.there
-    ∙ used_entries t d.notes.made d.notes.made_count d.notes.changes d.notes.count ∙ ap (λ n. total_used one t + n) (total_made d.notes.made d.notes.made_count few)
+    ∙ used_entries t d.notes.made d.notes.made_count d.notes.changes d.notes.count ∙ ap (λ n. total_used one t + n) (total_made d.notes.made d.notes.made_count (made_fit d.notes))
 
 pub returns-clause-words : goal.returns-clause-words
 returns-clause-words g c =

@@ -1,17 +1,9 @@
-use Rattle.st_model.specs.Values.{word}
-use Rattle.st_memory.specs.Noted.{noted}
 use Rattle.st_memory.proofs.Moved.{names_of}
 use Rattle.st_memory.proofs.Units.{word_base, word_made, word_names}
 use Rattle.st_memory.proofs.draft.DraftObjects.fetch_word.Goals as goal
 
 pub returns-in-Some : goal.returns-in-Some
-returns-in-Some g c =
-    let d = c.args.self.now in
-    let names = names_of (noted (g.M.Memory.view d.base.now).objects d.notes) d.exchanges.pairs d.exchanges.count d.there (word c.args.o) (word c.word_before-before.result) c.word_before-before.ensures in
-    word_names names c.args.i c.fetch_word.result (word_made (g.M.Memory.view d.base.now).objects d.notes.made d.notes.made_count d.notes.changes d.notes.count (word c.word_before-before.result) c.args.i c.in-Some.made c.fetch_word.result c.in-Some.ensures.found c.fetch_word.ensures)
+returns-in-Some g c = word_names (names_of _ _ _ c.args.self.now.there _ _ c.word_before-before.ensures) c.args.i _ (word_made _ _ _ _ _ _ _ c.in-Some.made _ c.in-Some.ensures.found c.fetch_word.ensures)
 
 pub returns-in-None : goal.returns-in-None
-returns-in-None g c =
-    let d = c.args.self.now in
-    let names = names_of (noted (g.M.Memory.view d.base.now).objects d.notes) d.exchanges.pairs d.exchanges.count d.there (word c.args.o) (word c.word_before-before.result) c.word_before-before.ensures in
-    word_names names c.args.i c.fetch_word-in-None.result (word_base (g.M.Memory.view d.base.now).objects d.notes.made d.notes.made_count d.notes.changes d.notes.count (word c.word_before-before.result) c.args.i c.fetch_word-in-None.result c.in-None.ensures.none c.fetch_word-in-None.ensures)
+returns-in-None g c = word_names (names_of _ _ _ c.args.self.now.there _ _ c.word_before-before.ensures) c.args.i _ (word_base _ _ _ _ _ _ _ _ c.in-None.ensures.none c.fetch_word-in-None.ensures)

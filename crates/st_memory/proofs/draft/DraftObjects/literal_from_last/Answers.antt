@@ -1,17 +1,9 @@
-use Rattle.st_model.specs.Values.{word}
-use Rattle.st_memory.specs.Noted.{noted}
 use Rattle.st_memory.proofs.Drafted.{last_base, last_made}
 use Rattle.st_memory.proofs.Moved.{names_of, last_names}
 use Rattle.st_memory.proofs.draft.DraftObjects.literal_from_last.Goals as goal
 
 pub returns-in-Some : goal.returns-in-Some
-returns-in-Some g c =
-    let d = c.args.self.now in
-    let names = names_of (noted (g.M.Memory.view d.base.now).objects d.notes) d.exchanges.pairs d.exchanges.count d.there (word c.args.method) (word c.word_before-before.result) c.word_before-before.ensures in
-    last_names names c.args.k c.literal_from_last.result (last_made (g.M.Memory.view d.base.now).objects d.notes.made d.notes.made_count d.notes.changes d.notes.count (word c.word_before-before.result) c.args.k c.in-Some.made c.literal_from_last.result c.in-Some.ensures.found c.literal_from_last.ensures)
+returns-in-Some g c = last_names (names_of _ _ _ c.args.self.now.there _ _ c.word_before-before.ensures) c.args.k _ (last_made _ _ _ _ _ _ _ c.in-Some.made _ c.in-Some.ensures.found c.literal.ensures.from_last)
 
 pub returns-in-None : goal.returns-in-None
-returns-in-None g c =
-    let d = c.args.self.now in
-    let names = names_of (noted (g.M.Memory.view d.base.now).objects d.notes) d.exchanges.pairs d.exchanges.count d.there (word c.args.method) (word c.word_before-before.result) c.word_before-before.ensures in
-    last_names names c.args.k c.literal_from_last-in-None.result (last_base (g.M.Memory.view d.base.now).objects d.notes.made d.notes.made_count d.notes.changes d.notes.count (word c.word_before-before.result) c.args.k c.literal_from_last-in-None.result c.in-None.ensures.none c.literal_from_last-in-None.ensures)
+returns-in-None g c = last_names (names_of _ _ _ c.args.self.now.there _ _ c.word_before-before.ensures) c.args.k _ (last_base _ _ _ _ _ _ _ _ c.in-None.ensures.none c.literal_from_last.ensures)

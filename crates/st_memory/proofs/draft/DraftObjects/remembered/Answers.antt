@@ -1,4 +1,4 @@
-use Rattle.std.proofs.Common.{◌≡◌, ◌∙◌, sym, subst, ap, arith, ℕ, zero, Some, Ok, IfSome, nat_lt}
+use Rattle.std.proofs.Common.{◌≡◌, ◌∙◌, sym, subst, arith, Some, Ok, IfSome}
 use Rattle.std.proofs.lemmas.Bool.Decides.{nat_tests}
 use Rattle.st_model.specs.Values.{word}
 use Rattle.st_model.specs.Lookup.{find}

@@ -1,4 +1,4 @@
-use Rattle.std.proofs.Common.{◌≤◌, length, sym, ◌∙◌, arith}
+use Rattle.std.proofs.Common.{sym, ◌∙◌}
 use Rattle.std.proofs.lemmas.Result.{err_from_is_err_and}
 use Rattle.st_model.specs.Values.{word}
 use Rattle.st_memory.specs.Drafts.{after_change}
@@ -6,6 +6,7 @@ use Rattle.st_memory.specs.Noted.{noted, drafted}
 use Rattle.st_memory.proofs.Keeping.{closed_field}
 use Rattle.st_memory.proofs.Storing.{below_draft, stores_lacking, stores_absent, stores}
 use Rattle.st_memory.proofs.Exchanged.{live_names}
+use Rattle.st_memory.proofs.Behind.{made_fit}
 use Rattle.st_memory.proofs.Moved.{names_of, there_before, field_behind}
 use Rattle.st_memory.proofs.draft.DraftObjects.store_field.Goals as goal
 
@@ -25,11 +26,10 @@ returns-then-not-is_there-clause-stores g c =
 pub note-requires-clause-named : goal.note-requires-clause-named
 note-requires-clause-named g c =
     let d = c.args.self.now in
-    let few : d.notes.made_count ≤ length d.notes.made = let a = d.notes.few in let b = d.notes.sizes.0 in omega (arith, a, b) in
     let now = drafted (g.M.Memory.view d.base.now).objects d.notes d.exchanges in
     let before = noted (g.M.Memory.view d.base.now).objects d.notes in
     let names = names_of (noted (g.M.Memory.view d.base.now).objects d.notes) d.exchanges.pairs d.exchanges.count d.there (word c.args.o) (word c.word_before-before.result) c.word_before-before.ensures in
-    below_draft (g.M.Memory.view d.base.now).objects d.notes.made d.notes.made_count d.notes.changes d.notes.count c.word_before-before.result (g.met.M.Memory.whole d.base.now).places few
+    below_draft (g.M.Memory.view d.base.now).objects d.notes.made d.notes.made_count d.notes.changes d.notes.count c.word_before-before.result (g.met.M.Memory.whole d.base.now).places (made_fit d.notes)
     (sym (live_names now before (word c.args.o) (word c.word_before-before.result) names) ∙ c.in_ok-check_fields.ensures.has.live)
 
 pub note-requires-clause-closed : goal.note-requires-clause-closed

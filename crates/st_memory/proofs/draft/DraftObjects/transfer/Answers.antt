@@ -1,4 +1,4 @@
-use Rattle.std.proofs.Common.{◌+◌, ◌<◌, ◌≤◌, length, refl, sym, ◌∙◌, arith}
+use Rattle.std.proofs.Common.{◌+◌, ◌<◌, refl, sym, ◌∙◌, arith}
 use Rattle.std.specs.Prelude.{◌*◌}
 use Rattle.std.proofs.lemmas.Result.{err_from_is_err_and}
 use Rattle.st_model.specs.Values.{word}
@@ -6,6 +6,7 @@ use Rattle.st_memory.specs.Noted.{noted, drafted}
 use Rattle.st_memory.proofs.Keeping.{closed_fields}
 use Rattle.st_memory.proofs.Storing.{below_draft, copies_none, copies_unread, copies_unwritten, copies}
 use Rattle.st_memory.proofs.Exchanged.{live_names, closed_all}
+use Rattle.st_memory.proofs.Behind.{made_fit}
 use Rattle.st_memory.proofs.Moved.{names_of, fields_behind}
 use Rattle.st_memory.proofs.draft.DraftObjects.transfer.Goals as goal
 
@@ -33,14 +34,13 @@ returns-in_err-check_fields-2-clause-transfers g c =
 pub note-requires-clause-named : goal.note-requires-clause-named
 note-requires-clause-named g c =
     let d = c.args.self.now in
-    let few : d.notes.made_count ≤ length d.notes.made = let a = d.notes.few in let b = d.notes.sizes.0 in omega (arith, a, b) in
     let now = drafted (g.M.Memory.view d.base.now).objects d.notes d.exchanges in
     let before = noted (g.M.Memory.view d.base.now).objects d.notes in
     let first = names_of before d.exchanges.pairs d.exchanges.count d.there (word c.args.source) (word c.word_before-first.result) c.word_before-first.ensures in
     let second = names_of before d.exchanges.pairs d.exchanges.count d.there (word c.args.target) (word c.word_before-second.result) c.word_before-second.ensures in
-    let low : c.word_before-first.result.0 < 65536 + 2 * d.notes.made_count = below_draft (g.M.Memory.view d.base.now).objects d.notes.made d.notes.made_count d.notes.changes d.notes.count c.word_before-first.result (g.met.M.Memory.whole d.base.now).places few
+    let low : c.word_before-first.result.0 < 65536 + 2 * d.notes.made_count = below_draft (g.M.Memory.view d.base.now).objects d.notes.made d.notes.made_count d.notes.changes d.notes.count c.word_before-first.result (g.met.M.Memory.whole d.base.now).places (made_fit d.notes)
     (sym (live_names now before (word c.args.source) (word c.word_before-first.result) first) ∙ c.in_ok-check_fields.ensures.has.live) in
-    let high : c.word_before-second.result.0 < 65536 + 2 * d.notes.made_count = below_draft (g.M.Memory.view d.base.now).objects d.notes.made d.notes.made_count d.notes.changes d.notes.count c.word_before-second.result (g.met.M.Memory.whole d.base.now).places few
+    let high : c.word_before-second.result.0 < 65536 + 2 * d.notes.made_count = below_draft (g.M.Memory.view d.base.now).objects d.notes.made d.notes.made_count d.notes.changes d.notes.count c.word_before-second.result (g.met.M.Memory.whole d.base.now).places (made_fit d.notes)
     (sym (live_names now before (word c.args.target) (word c.word_before-second.result) second) ∙ c.in_ok-check_fields-2.ensures.has.live) in
     omega (arith, low, high)
 

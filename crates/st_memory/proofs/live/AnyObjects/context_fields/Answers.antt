@@ -10,16 +10,14 @@ use Rattle.st_memory.proofs.live.AnyObjects.context_fields.Goals as goal
 
 pub returns-clause-stack_pointer : goal.returns-clause-stack_pointer
 returns-clause-stack_pointer g c =
-    let t = (g.M.Memory.view c.args.self.now).objects in
     let o = c.in-Ok.ensures in
-    field_read t (word c.args.context) (value c.in-Ok.object) (value c.placed_pointer-2.result) (word c.from-2.result) 2 o.same o.live
+    field_read _ (word c.args.context) (value c.in-Ok.object) (value c.placed_pointer-2.result) (word c.from-2.result) 2 o.same o.live
     (ap is_pointers (sym c.kind.ensures.kind) ∙ sym c.if-not-is_pointers.ensures) c.placed_pointer-2.ensures.field c.from-2.ensures
 
 pub returns-clause-method : goal.returns-clause-method
 returns-clause-method g c =
-    let t = (g.M.Memory.view c.args.self.now).objects in
     let o = c.in-Ok.ensures in
-    field_read t (word c.args.context) (value c.in-Ok.object) (value c.placed_pointer-3.result) (word c.from-3.result) 3 o.same o.live
+    field_read _ (word c.args.context) (value c.in-Ok.object) (value c.placed_pointer-3.result) (word c.from-3.result) 3 o.same o.live
     (ap is_pointers (sym c.kind.ensures.kind) ∙ sym c.if-not-is_pointers.ensures) c.placed_pointer-3.ensures.field c.from-3.ensures
 
 pub returns-clause-context_there : goal.returns-clause-context_there

@@ -1,9 +1,9 @@
-use Rattle.std.proofs.Common.{◌≡◌, true, false, sym, ap, ◌∙◌, subst}
+use Rattle.std.proofs.Common.{◌≡◌, true, sym, ap, ◌∙◌, subst}
 use Rattle.std.proofs.lemmas.Result.{err_from_is_err_and}
-use Rattle.st_model.specs.Values.{Value, word, value, is_small}
+use Rattle.st_model.specs.Values.{Value, word, value}
 use Rattle.st_model.specs.View.{is_live, with_exchanged}
 use Rattle.st_memory.specs.Tabular.{bounded_tabular}
-use Rattle.st_memory.proofs.Swapping.{gone_kind, exchanges_small_first, exchanges_small_second, exchanges_gone_first, exchanges_gone_second, exchanges}
+use Rattle.st_memory.proofs.Swapping.{exchanges_small_first, exchanges_small_second, exchanges_err_first, exchanges_err_second, exchanges}
 use Rattle.st_memory.proofs.live.AnyObjects.exchange.Goals as goal
 
 pub returns-then-is_small-clause-exchanges : goal.returns-then-is_small-clause-exchanges
@@ -19,20 +19,14 @@ returns-then-is_small-2-clause-exchanges g c =
 pub returns-in_err-first-clause-exchanges : goal.returns-in_err-first-clause-exchanges
 returns-in_err-first-clause-exchanges g c =
     let v = g.M.Memory.view c.args.self.now in
-    let even_a : is_small (word c.args.a) ≡ false = sym c.is_small.ensures ∙ c.if-is_small.false in
-    let even_b : is_small (word c.args.b) ≡ false = sym c.is_small-2.ensures ∙ c.if-is_small-2.false in
-    let e = c.in_err-first.ensures in
     let p = err_from_is_err_and c.from_residual.result c.from_residual.ensures.1 in
-    rw (p.1, p.2, gone_kind v.objects (word c.args.a) c.in_err-first.field-0.0 even_a e.gone (e.lacks 0 0)) (exchanges_gone_first bounded_tabular v.objects v.objects (word c.args.a) (word c.args.b) v.head even_a even_b e.gone)
+    rw (p.1, p.2) (exchanges_err_first bounded_tabular v.objects v.objects (word c.args.a) (word c.args.b) v.head c.in_err-first.field-0.0 (sym c.is_small.ensures ∙ c.if-is_small.false) (sym c.is_small-2.ensures ∙ c.if-is_small-2.false) c.in_err-first.ensures.gone (c.in_err-first.ensures.lacks 0 0))
 
 pub returns-in_err-second-clause-exchanges : goal.returns-in_err-second-clause-exchanges
 returns-in_err-second-clause-exchanges g c =
     let v = g.M.Memory.view c.args.self.now in
-    let even_a : is_small (word c.args.a) ≡ false = sym c.is_small.ensures ∙ c.if-is_small.false in
-    let even_b : is_small (word c.args.b) ≡ false = sym c.is_small-2.ensures ∙ c.if-is_small-2.false in
-    let e = c.in_err-second.ensures in
     let p = err_from_is_err_and c.from_residual-in_err-second.result c.from_residual-in_err-second.ensures.1 in
-    rw (p.1, p.2, gone_kind v.objects (word c.args.b) c.in_err-second.field-0.0 even_b e.gone (e.lacks 0 0)) (exchanges_gone_second bounded_tabular v.objects v.objects (word c.args.a) (word c.args.b) v.head even_a even_b e.gone)
+    rw (p.1, p.2) (exchanges_err_second bounded_tabular v.objects v.objects (word c.args.a) (word c.args.b) v.head c.in_err-second.field-0.0 (sym c.is_small.ensures ∙ c.if-is_small.false) (sym c.is_small-2.ensures ∙ c.if-is_small-2.false) c.in_err-second.ensures.gone (c.in_err-second.ensures.lacks 0 0))
 
 pub returns-clause-exchanges : goal.returns-clause-exchanges
 returns-clause-exchanges g c =

@@ -1,11 +1,10 @@
-use Rattle.std.proofs.Common.{rules, ◌≡◌, true, sym, ap, ◌∙◌, subst}
+use Rattle.std.proofs.Common.{rules, ◌≡◌, true, sym, ◌∙◌, subst}
 use Rattle.st_model.specs.Values.{Value, word}
-use Rattle.st_model.specs.Objects.{words_of}
-use Rattle.st_model.specs.View.{is_live, fits}
-use Rattle.st_model.specs.Formed.{fresh, IsMakeable}
+use Rattle.st_model.specs.View.{is_live}
+use Rattle.st_model.specs.Formed.{IsMakeable}
 use Rattle.st_memory.proofs.Bodies.{live_small}
 use Rattle.st_memory.proofs.Fresh.{made_of}
-use Rattle.st_memory.proofs.Wide.{new_died, made_here, full_here, half_same}
+use Rattle.st_memory.proofs.Wide.{new_died, made_here, full_here, half_same, fits_made}
 use Rattle.st_memory.proofs.live.AnyObjects.make.Goals as goal
 
 pub returns-in_err-object-clause-makes : goal.returns-in_err-object-clause-makes
@@ -28,19 +27,15 @@ make-requires-clause-makeable g c =
 pub returns-then-room-clause-makes : goal.returns-then-room-clause-makes
 returns-then-room-clause-makes g c =
     let v = g.M.Memory.view c.args.self.now in
-    let half = half_same v.objects c.in_ok-object.object.0 c.args.class.0 c.in_ok-object.ensures.same c.in_ok-object.ensures.live in
-    let size = ap (λ n. words_of (fresh n c.args.kind c.args.size c.args.literals)) half in
     λ s e a.
     made_here c.args.kind c.args.size c.args.literals v (word c.args.class) c.in_ok-object.object.0 s e a c.in_ok-object.ensures.same c.in_ok-object.ensures.live
     (g.M.Memory.view c.make.new.self).objects (word c.from.result)
-    (ap (λ n. fits v (record { entries = 1; words = n })) (size ∙ sym c.words.ensures.words) ∙ sym c.room.ensures ∙ c.if-room.true)
+    (fits_made v c.in_ok-object.object.0 c.args.class.0 c.args.kind c.args.size c.args.literals c.words.result c.in_ok-object.ensures.same c.in_ok-object.ensures.live c.words.ensures.words ∙ sym c.room.ensures ∙ c.if-room.true)
     (c.from.ensures ∙ c.make.ensures.pointer) c.make.ensures.objects
 
 pub returns-else-room-clause-makes : goal.returns-else-room-clause-makes
 returns-else-room-clause-makes g c =
     let v = g.M.Memory.view c.args.self.now in
-    let half = half_same v.objects c.in_ok-object.object.0 c.args.class.0 c.in_ok-object.ensures.same c.in_ok-object.ensures.live in
-    let size = ap (λ n. words_of (fresh n c.args.kind c.args.size c.args.literals)) half in
     λ s e a.
     full_here c.args.kind c.args.size c.args.literals v (word c.args.class) c.in_ok-object.object.0 s e a c.in_ok-object.ensures.same c.in_ok-object.ensures.live
-    (ap (λ n. fits v (record { entries = 1; words = n })) (size ∙ sym c.words.ensures.words) ∙ sym c.room.ensures ∙ c.if-room.false)
+    (fits_made v c.in_ok-object.object.0 c.args.class.0 c.args.kind c.args.size c.args.literals c.words.result c.in_ok-object.ensures.same c.in_ok-object.ensures.live c.words.ensures.words ∙ sym c.room.ensures ∙ c.if-room.false)

@@ -1,4 +1,4 @@
-use Rattle.std.proofs.Common.{◌≡◌, ◌+◌, ◌-◌, length, take, drop, refl, sym, ap, ◌∙◌, arith}
+use Rattle.std.proofs.Common.{◌≡◌, ◌+◌, ◌-◌, length, take, drop, sym, ap, ◌∙◌, arith}
 use Rattle.std.specs.Prelude.{slice_get}
 use Rattle.std.proofs.lemmas.List.{take_all}
 use Rattle.st_model.specs.Values.{value}
@@ -8,29 +8,10 @@ use Rattle.st_memory.proofs.Stretches.{most_size, read_more}
 use Rattle.st_memory.proofs.memory.Memory.read_bytes.Goals as goal
 
 pub overflow_cast-i-end : goal.overflow_cast-i-end
-overflow_cast-i-end g c =
-    let most = most_size (value c.args.o) (g.met.Self.Memory.whole c.args.self.now) c.requires.live in
-    let l = c.requires.range in
-    record { fits = omega (arith, most, l) }
-
-pub loop-i-init : goal.loop-i-init
-loop-i-init g c = record { read = refl }
+overflow_cast-i-end g c = record { fits = omega (arith, most_size (value c.args.o) (g.met.Self.Memory.whole c.args.self.now) c.requires.live, c.requires.range) }
 
 pub overflow_add-at : goal.overflow_add-at
-overflow_add-at g c =
-    let most = most_size (value c.args.o) (g.met.Self.Memory.whole c.args.self.now) c.requires.live in
-    let l = c.requires.range in
-    let t = c.loop-i-test.true in
-    record { fits = omega (arith, most, l, t) }
-
-pub byte-requires-clause-above : goal.byte-requires-clause-above
-byte-requires-clause-above g c = let a = c.requires.above in omega (arith, a)
-
-pub byte-requires-clause-range : goal.byte-requires-clause-range
-byte-requires-clause-range g c =
-    let l = c.requires.range in
-    let t = c.loop-i-test.true in
-    omega (arith, l, t)
+overflow_add-at g c = record { fits = omega (arith, most_size (value c.args.o) (g.met.Self.Memory.whole c.args.self.now) c.requires.live, c.requires.range, c.loop-i-test.true) }
 
 pub loop-i-preserved : goal.loop-i-preserved
 loop-i-preserved g c =

@@ -2,49 +2,29 @@ use Rattle.std.proofs.Common.{◌≡◌, ◌+◌, ◌<◌, suc, refl, length, ta
 use Rattle.std.proofs.lemmas.List.{take_all, length-take-le}
 use Rattle.std.proofs.Math.Seq.{take-suc}
 use Rattle.st_model.specs.Values.{value}
-use Rattle.st_model.specs.Objects.{is_words, size_of}
-use Rattle.st_model.specs.View.{object_of, with_unit}
+use Rattle.st_model.specs.Objects.{is_words}
+use Rattle.st_model.specs.View.{with_unit}
 use Rattle.st_memory.specs.Copied.{with_run}
 use Rattle.st_memory.proofs.Stretches.{most_size, none_run, live_run, kind_run, size_run, run_more, words_within}
 use Rattle.st_memory.proofs.memory.Memory.write_words.Goals as goal
 
 pub overflow_cast-i-end : goal.overflow_cast-i-end
-overflow_cast-i-end g c =
-    let most = most_size (value c.args.o) (g.met.Self.Memory.whole c.args.self.now) c.requires.live in
-    let l = c.requires.range in
-    record { fits = omega (arith, most, l) }
+overflow_cast-i-end g c = record { fits = omega (arith, most_size (value c.args.o) (g.met.Self.Memory.whole c.args.self.now) c.requires.live, c.requires.range) }
 
 pub loop-i-init : goal.loop-i-init
 loop-i-init g c = record { objects = none_run (g.Self.Memory.view c.args.self.now).objects (value c.args.o) c.args.at c.requires.live; held = refl; head = refl }
 
 pub overflow_add-at : goal.overflow_add-at
-overflow_add-at g c =
-    let most = most_size (value c.args.o) (g.met.Self.Memory.whole c.args.self.now) c.requires.live in
-    let l = c.requires.range in
-    let t = c.loop-i-test.true in
-    record { fits = omega (arith, most, l, t) }
+overflow_add-at g c = record { fits = omega (arith, most_size (value c.args.o) (g.met.Self.Memory.whole c.args.self.now) c.requires.live, c.requires.range, c.loop-i-test.true) }
 
 pub set_word-requires-clause-live : goal.set_word-requires-clause-live
-set_word-requires-clause-live g c =
-    let old = (g.Self.Memory.view c.args.self.now).objects in
-    let now = (g.Self.Memory.view c.loop-i.self).objects in
-    live_run old now (value c.args.o) c.args.at (take c.loop-i.i c.args.words.now) c.requires.live c.loop-i.invariant.objects
+set_word-requires-clause-live g c = live_run _ _ (value c.args.o) _ _ c.requires.live c.loop-i.invariant.objects
 
 pub set_word-requires-clause-kind : goal.set_word-requires-clause-kind
-set_word-requires-clause-kind g c =
-    let old = (g.Self.Memory.view c.args.self.now).objects in
-    let now = (g.Self.Memory.view c.loop-i.self).objects in
-    ap is_words (kind_run old now (value c.args.o) c.args.at (take c.loop-i.i c.args.words.now) c.requires.live c.loop-i.invariant.objects) ∙ c.requires.kind
+set_word-requires-clause-kind g c = ap is_words (kind_run _ _ (value c.args.o) _ _ c.requires.live c.loop-i.invariant.objects) ∙ c.requires.kind
 
 pub set_word-requires-clause-range : goal.set_word-requires-clause-range
-set_word-requires-clause-range g c =
-    let old = (g.Self.Memory.view c.args.self.now).objects in
-    let now = (g.Self.Memory.view c.loop-i.self).objects in
-    let same : size_of (object_of now (value c.args.o)) ≡ size_of (object_of old (value c.args.o)) =
-    size_run old now (value c.args.o) c.args.at (take c.loop-i.i c.args.words.now) c.requires.live c.loop-i.invariant.objects in
-    let l = c.requires.range in
-    let t = c.loop-i-test.true in
-    subst (λ n. c.args.at + c.loop-i.i < n) (sym same) (omega (arith, l, t))
+set_word-requires-clause-range g c = subst (λ n. c.args.at + c.loop-i.i < n) (sym (size_run _ _ (value c.args.o) _ _ c.requires.live c.loop-i.invariant.objects)) (omega (arith, c.requires.range, c.loop-i-test.true))
 
 pub loop-i-preserved : goal.loop-i-preserved
 loop-i-preserved g c =

@@ -1,9 +1,8 @@
-use Rattle.std.proofs.Common.{◌≡◌, ◌/◌, true, subst}
-use Rattle.st_model.specs.Values.{Value, Ref, value}
+use Rattle.std.proofs.Common.{◌/◌}
+use Rattle.st_model.specs.Values.{value}
 use Rattle.st_model.specs.Formed.{fresh}
-use Rattle.st_model.specs.View.{is_live}
-use Rattle.st_model.proofs.Pointers.{value_of-even}
 use Rattle.st_model.proofs.Making.{first_free_within, live_even, whole_made}
+use Rattle.st_counted.proofs.Instances.{live_half}
 use Rattle.st_plain.specs.Plain.{plain_view}
 use Rattle.st_plain.proofs.memory.PlainMemoryMemory.make.Goals as goal
 
@@ -17,12 +16,9 @@ make-requires-clause-class c = live_even (plain_view c.args.self.now.contents).o
 
 pub invariant_of-self : goal.invariant_of-self
 invariant_of-self c =
-    let m = c.args.self.now in
-    let v = plain_view m.contents in
-    let even = live_even v.objects (value c.args.class) c.requires.class in
-    let class : is_live v.objects (Ref (c.args.class.0 / 2)) ≡ true = subst (λ (x : Value). is_live v.objects x ≡ true) (value_of-even c.args.class.0 even) c.requires.class in
+    let v = plain_view c.args.self.now.contents in
     let e = c.make.ensures in
     record {
-      whole = whole_made v (plain_view c.make.new.self) (c.args.class.0 / 2) c.args.kind c.args.size c.args.literals m.whole class c.requires.makeable c.requires.room e.objects e.held e.head;
+      whole = whole_made v (plain_view c.make.new.self) (c.args.class.0 / 2) c.args.kind c.args.size c.args.literals c.args.self.now.whole (live_half v.objects c.args.class c.requires.class) c.requires.makeable c.requires.room e.objects e.held e.head;
       long = e.long;
     }

@@ -1,16 +1,12 @@
-use Rattle.std.proofs.Common.{◌≡◌, ◌-◌, ◌<◌, ◌≤◌, false}
-use Rattle.st_model.specs.declared.oop.Oop.{Oop}
+use Rattle.std.proofs.Common.{◌-◌}
 use Rattle.st_model.specs.Values.{value}
-use Rattle.st_model.specs.View.{is_instance}
+use Rattle.st_counted.proofs.Instances.{HasNone}
 use Rattle.st_plain.specs.Plain.{plain_view}
 use Rattle.st_plain.proofs.memory.PlainMemoryMemory.next_of.Given as goal
 
 -- no instance so far
 abbrev pub invariant-loop-o : goal.invariant-loop-o
-invariant-loop-o l = record {
-  on : l.fn.after ≤ l.after;
-  none : (p : Oop) → l.fn.after < p.0 → p.0 ≤ l.after → is_instance (plain_view l.self.contents).objects (value l.class) (value p) ≡ false;
-}
+invariant-loop-o l = HasNone (plain_view l.self.contents).objects (value l.class) l.fn.after l.after
 
 abbrev pub decreases-loop-o : goal.decreases-loop-o
 decreases-loop-o l = 65536 - l.after

@@ -11,16 +11,13 @@ pub overflow_add-self-3 : goal.overflow_add-self-3
 overflow_add-self-3 c =
     let o = c.args.self.now in
     let most = count_bound o.entries.items (length o.pointers.items) (length o.units.items) o.table_end o.next_field o.next_unit o.laid_out in
-    let counted = o.counted.count in
-    omega (arith, most, counted)
+    omega (arith, most, o.counted.count)
 
 pub overflow_add-self-4 : goal.overflow_add-self-4
 overflow_add-self-4 c =
     let o = c.args.self.now in
     let most = words_bound o.entries.items (length o.pointers.items) (length o.units.items) o.table_end o.next_field o.next_unit o.laid_out in
-    let counted = o.counted.words in
-    let more = c.words.ensures.small in
-    omega (arith, most, counted, more)
+    omega (arith, most, o.counted.words, c.words.ensures.small)
 
 pub invariant_of-self : goal.invariant_of-self
 invariant_of-self c =

@@ -23,7 +23,7 @@ invariant_of-self c =
     ] in
     let long : length es ≡ 32768 = ap length left ∙ c.clear_places.auto.entries ∙ ap length read ∙ o.laid_out.places in
     record {
-      laid_out = none_laid_out es (length o.pointers.items) (length o.units.items) long none o.laid_out.few_fields o.laid_out.few_units;
+      laid_out = none_laid_out es (length o.pointers.items) (length o.units.items) long none o.laid_out.bounded;
       counted = none_counted es none;
       full = λ k low high. absurd (omega (arith, low, high));
     }

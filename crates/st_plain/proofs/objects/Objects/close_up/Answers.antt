@@ -22,27 +22,17 @@ loop-k-init c =
       units = ap (λ (g : Extent). g.units) e;
     }
 
-pub copy_from-requires-clause-free : goal.copy_from-requires-clause-free
-copy_from-requires-clause-free c = slot_none c.loop-k.self c.loop-k.k (c.loop-k.invariant.above c.loop-k.k (omega arith))
-
-pub copy_from-requires-clause-fields_end : goal.copy_from-requires-clause-fields_end
-copy_from-requires-clause-fields_end c =
+pub copy_from-requires : goal.copy_from-requires
+copy_from-requires c =
     let l = c.loop-k.self in
     let i = c.loop-k.invariant in
     let fits = next_fits c.args.other.now c.loop-k.k l.next_field l.next_unit c.loop-k-test.true i.taken (length c.args.self.now.pointers.items) c.requires.fits in
-    let a = fits.0 in
-    let b = i.fields in
-    omega (arith, a, b)
-
-pub copy_from-requires-clause-units_end : goal.copy_from-requires-clause-units_end
-copy_from-requires-clause-units_end c =
-    let l = c.loop-k.self in
-    let i = c.loop-k.invariant in
-    let fits = next_fits c.args.other.now c.loop-k.k l.next_field l.next_unit c.loop-k-test.true i.taken (length c.args.self.now.pointers.items) c.requires.fits in
-    let a = fits.1 in
-    let b = i.units in
-    let long = c.requires.long in
-    omega (arith, a, b, long)
+    record {
+      within = let w = c.args.other.now.laid_out.within in let t = c.loop-k-test.true in omega (arith, w, t);
+      free = slot_none l c.loop-k.k (i.above c.loop-k.k (omega arith));
+      fields_end = omega (arith, fits.0, i.fields);
+      units_end = omega (arith, fits.1, i.units, c.requires.long);
+    }
 
 pub loop-k-preserved : goal.loop-k-preserved
 loop-k-preserved c =

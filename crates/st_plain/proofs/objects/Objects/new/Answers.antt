@@ -21,7 +21,7 @@ invariant_of-result c =
     let fields : length c.in_ok-pointers.pointers.items ≤ most_words = let n = c.in_ok-pointers.ensures.len in omega (arith, n, few) in
     let units : length c.in_ok-units.units.items ≤ 2 * most_words = let n = c.in_ok-units.ensures in omega (arith, n, few) in
     record {
-      laid_out = none_laid_out es (length c.in_ok-pointers.pointers.items) (length c.in_ok-units.units.items) c.in_ok-entries.ensures.len none fields units;
+      laid_out = none_laid_out es (length c.in_ok-pointers.pointers.items) (length c.in_ok-units.units.items) c.in_ok-entries.ensures.len none (record { fields_most = fields; units_most = units });
       counted = none_counted es none;
       full = λ k low high. absurd (omega (arith, low, high));
     }

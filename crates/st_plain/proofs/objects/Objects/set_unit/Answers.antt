@@ -7,6 +7,5 @@ use Rattle.st_plain.proofs.objects.Objects.set_unit.Goals as goal
 pub returns-clause-objects : goal.returns-clause-objects
 returns-clause-objects c =
     let o = c.args.self.now in
-    let entry = c.live_entry-entry.result in
-    let within : c.args.at < entry.units = grind (arith, common_steps) in
-    store_unit o.pointers.items o.units.items o.entries.items (value c.args.o) entry c.args.at c.live_entry-entry.ensures.entry o.laid_out.apart c.args.v within
+    let within : c.args.at < c.live_entry-entry.result.units = grind (arith, common_steps) in
+    store_unit o.pointers.items o.units.items o.entries.items (value c.args.o) c.live_entry-entry.result c.args.at c.live_entry-entry.ensures.entry o.laid_out.apart c.args.v within

@@ -5,6 +5,7 @@ use Rattle.st_chunk.specs.Definitions.{Definition, IsDefinition, entries}
 use Rattle.st_chunk.specs.ScriptDefinitions.{definition_of}
 use Rattle.st_store.specs.Names.{changes_file, roots_file, IsNoFileOf}
 use Rattle.st_store.specs.Stored.{StoreState}
+use Rattle.st_changes.specs.Last.{HasSelector}
 use Rattle.st_changes.specs.Views.{definition_of as kept_definition}
 use Rattle.st_protocol.specs.declared.status.Status.TheVariants.{DiskFault, TooLarge}
 use Rattle.st_protocol.proofs.Joins.{obeys_as}
@@ -23,8 +24,8 @@ returns-in_default-clause-obeys g c x holds =
     let old = c.args.self.now in
     accept_starved H (OpensAs old.name) (IsNoFileOf old.name) _ x (definition_of c.args.definition.now) a (λ f s told left. g.met.H.Host.only_now a f s told left) (holds_rest H a old x holds)
 
-pub returns-in_default-reserve-clause-obeys : goal.returns-in_default-reserve-clause-obeys
-returns-in_default-reserve-clause-obeys g c x holds =
+pub returns-in_default-reserve_as-clause-obeys : goal.returns-in_default-reserve_as-clause-obeys
+returns-in_default-reserve_as-clause-obeys g c x holds =
     let H = g.H.Host in
     let a = c.args.host.now in
     let old = c.args.self.now in
@@ -36,7 +37,7 @@ returns-then-not-fits-clause-obeys g c x holds =
     let a = c.args.host.now in
     let old = c.args.self.now in
     let kept = kept_definition c.in-Ok.definition in
-    let is : kept ≡ definition_of c.args.definition.now = c.in-Ok.ensures in
+    let is : kept ≡ definition_of c.args.definition.now = c.in-Ok.ensures.definition in
     let listed = ap (λ (s : ArchiveState). s.listed) c.self.view_is ∙ holds.listed in
     let long = it_is_too_long x kept c.self.inside.changes.listed listed (λ low. true≢false (sym (c.fits.ensures.1 low) ∙ c.if-not-fits.true)) in
     obeys_as H (OpensAs old.name) (IsNoFileOf old.name) _ (λ d. d) x (accepting x kept) (accepting x (definition_of c.args.definition.now)) (Err TooLarge) a a (ap (accepting x) is)
@@ -48,7 +49,7 @@ returns-in_default-append-clause-obeys g c x holds =
     let a = c.args.host.now in
     let old = c.args.self.now in
     let kept = kept_definition c.in-Ok.definition in
-    let is : kept ≡ definition_of c.args.definition.now = c.in-Ok.ensures in
+    let is : kept ≡ definition_of c.args.definition.now = c.in-Ok.ensures.definition in
     let listed = ap (λ (s : ArchiveState). s.listed) c.self.view_is ∙ holds.listed in
     let b = c.append.new.host in
     let st = c.in-Some.store in
@@ -74,9 +75,9 @@ invariant_of-self-2 g c =
     let kept = kept_definition c.in-Ok.definition in
     let inside = c.self.inside.changes in
     let was : IsStoreOf inside.name inside.second inside.listed c.in-Some.store = c.self.invariant c.in-Some.store (sym c.take.ensures.value ∙ c.in-Some.is) in
-    let more : c.append.new.self.listed ≡ inside.listed ++ kept ∷ [] = c.in-Ok-append.ensures.listed ∙ ap (λ (ds : List Definition). ds ++ kept ∷ []) c.reserve.ensures.listed in
+    let more : c.append.new.self.listed ≡ inside.listed ++ kept ∷ [] = c.in-Ok-append.ensures.listed ∙ ap (λ (ds : List Definition). ds ++ kept ∷ []) c.reserve_as.ensures.listed in
     let next = store_grown inside.name c.append.new.self.name inside.second c.append.new.self.second inside.listed c.append.new.self.listed kept c.in-Some.store c.in-Ok-append.store was c.in-Ok-append.ensures.store
-    (c.append.ensures.named ∙ c.reserve.ensures.named) (c.append.ensures.second ∙ c.reserve.ensures.second) more in
+    (c.append.ensures.named ∙ c.reserve_as.ensures.named) (c.append.ensures.second ∙ c.reserve_as.ensures.second) more in
     λ y e. subst (λ (s : StoreState). IsStoreOf c.append.new.self.name c.append.new.self.second c.append.new.self.listed s) (some_same e) next
 
 pub returns-clause-obeys : goal.returns-clause-obeys
@@ -85,7 +86,7 @@ returns-clause-obeys g c x holds =
     let a = c.args.host.now in
     let old = c.args.self.now in
     let kept = kept_definition c.in-Ok.definition in
-    let is : kept ≡ definition_of c.args.definition.now = c.in-Ok.ensures in
+    let is : kept ≡ definition_of c.args.definition.now = c.in-Ok.ensures.definition in
     let listed = ap (λ (s : ArchiveState). s.listed) c.self.view_is ∙ holds.listed in
     let b = c.append.new.host in
     let st = c.in-Some.store in
@@ -97,8 +98,8 @@ returns-clause-obeys g c x holds =
     let spares = both_spare H (changes_file old.name slot) (roots_file old.name) (IsNoFileOf old.name) a b (λ n no. no.changes slot) (λ n no. no.roots) both in
     let good = subst IsDefinition (sym is) c.requires.good in
     let makes = accept_makes H a old st x holds there kept b (Ok c.in-Ok-append.store) good (λ y told keeps. c.in-Ok-append.ensures.makes y told keeps) in
-    let more = c.in-Ok-append.ensures.listed ∙ ap (λ (ds : List Definition). ds ++ kept ∷ []) (c.reserve.ensures.listed ∙ ap (λ (s : ArchiveState). s.listed) c.self.view_is) in
-    let held = accept_holds H a old st x holds there kept b _ c.in-Ok-append.store good (c.append.ensures.named ∙ c.reserve.ensures.named ∙ ap (λ (s : ArchiveState). s.name) c.self.view_is) refl more
+    let more = c.in-Ok-append.ensures.listed ∙ ap (λ (ds : List Definition). ds ++ kept ∷ []) (c.reserve_as.ensures.listed ∙ ap (λ (s : ArchiveState). s.listed) c.self.view_is) in
+    let held = accept_holds H a old st x holds there kept b _ c.in-Ok-append.store good (c.append.ensures.named ∙ c.reserve_as.ensures.named ∙ ap (λ (s : ArchiveState). s.name) c.self.view_is) refl more
     c.in-Ok-append.ensures.store (λ y told keeps. c.in-Ok-append.ensures.kept y told keeps) in
     obeys_as H (OpensAs old.name) (IsNoFileOf old.name) _ (λ d. d) x (accepting x kept) (accepting x (definition_of c.args.definition.now)) (Ok tt) a b (ap (accepting x) is)
     (accept_kept H (OpensAs old.name) (IsNoFileOf old.name) _ x kept a b c.in-Ok-append.store fits held makes spares)
@@ -106,7 +107,7 @@ returns-clause-obeys g c x holds =
 pub invariant_of-self : goal.invariant_of-self
 invariant_of-self g c x is =
     let was = c.self.invariant x is in
-    let reserved = c.reserve.ensures in
+    let reserved = c.reserve_as.ensures in
     record {
       named = was.named ∙ sym reserved.named;
       file = reserved.second ∙ was.file;
@@ -116,4 +117,10 @@ invariant_of-self g c x is =
 pub append-requires-clause-place : goal.append-requires-clause-place
 append-requires-clause-place g c =
     let was = c.self.invariant c.in-Some.store (sym c.take.ensures.value ∙ c.in-Some.is) in
-    was.whole ∙ ap (λ (ds : List Definition). length (entries ds)) (sym c.reserve.ensures.listed)
+    was.whole ∙ ap (λ (ds : List Definition). length (entries ds)) (sym c.reserve_as.ensures.listed)
+
+pub reserve_as-requires-clause-finds : goal.reserve_as-requires-clause-finds
+reserve_as-requires-clause-finds g c =
+    let own = c.in-Ok.ensures in
+    let text = ap (λ (d : Definition). d.text) own.definition in
+    subst (λ (t : List ℕ). HasSelector t c.in-Ok.selector.items) (sym text) (subst (HasSelector (definition_of c.args.definition.now).text) (sym own.selector) c.requires.selector)

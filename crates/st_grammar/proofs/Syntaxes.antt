@@ -1,5 +1,5 @@
 -- A text has one tree or one first fault, which is what `syntax` says.
-use Rattle.std.proofs.Common.{◌≡◌, ℕ, List, Option, Some, None, Result, Ok, Err, Bool, true, false, refl, ap}
+use Rattle.std.proofs.Common.{◌≡◌, ℕ, List, Option, Some, None, Result, Ok, Err, Bool, true, false, refl, sym, ap, subst}
 use Rattle.std.specs.Prelude.{if◌then◌else◌}
 use Rattle.st_scan.specs.declared.fault.Fault.{Fault}
 use Rattle.st_scan.specs.declared.token.Token.{Token}
@@ -8,11 +8,11 @@ use Rattle.st_scan.specs.Views.{MethodView}
 use Rattle.st_scan.specs.Scans.{ScansTo, tokens_from}
 use Rattle.st_grammar.specs.Faults.{most}
 use Rattle.st_grammar.specs.Reading.{Stop, whole_at}
-use Rattle.st_grammar.specs.Texts.{HasFirst, HasFault, words, first_fault, is_before}
+use Rattle.st_grammar.specs.Texts.{Means, HasFirst, HasFault, words, first_fault, is_before}
 use Rattle.st_grammar.proofs.Theorems.{whole_method, whole_fault}
 use Rattle.st_grammar.proofs.Faulty.{tree_determined, first_determined, tree_or_fault}
-use Rattle.st_install.specs.Syntax.{IsSyntax, scan_of, words_of, stopped, tree_or_first, syntax}
-use Rattle.st_install.proofs.Scanned.{scans}
+use Rattle.st_grammar.specs.Syntax.{IsSyntax, scan_of, words_of, stopped, tree_or_first, syntax}
+use Rattle.st_grammar.proofs.Scanned.{scans}
 
 either : (b : Bool) (f g : Fault) → (if b then Some g else Some f) ≡ Some (if b then g else f)
 either true f g = refl
@@ -66,3 +66,11 @@ one text (Err f) (Err g) a b = ap Err (first_determined text f g a b)
 
 pub only : (text : List ℕ) (r : Result MethodView Fault) → IsSyntax text r → r ≡ syntax text
 only text r h = one text r (syntax text) h (is text)
+
+-- a tree that is read is meant, and one that is meant is read
+
+pub means_tree : (text : List ℕ) (t : MethodView) → syntax text ≡ Ok t → Means text t
+means_tree text t e = subst (IsSyntax text) e (is text)
+
+pub reads_tree : (text : List ℕ) (t : MethodView) → Means text t → syntax text ≡ Ok t
+reads_tree text t h = sym (only text (Ok t) h)

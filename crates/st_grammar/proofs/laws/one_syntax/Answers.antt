@@ -1,5 +1,5 @@
-use Rattle.st_install.proofs.Syntaxes.{is, only}
-use Rattle.st_install.proofs.definition_laws.one_syntax.Goals as goal
+use Rattle.st_grammar.proofs.Syntaxes.{is, only}
+use Rattle.st_grammar.proofs.laws.one_syntax.Goals as goal
 
 pub returns-clause-is : goal.returns-clause-is
 returns-clause-is c text = is text

@@ -8,13 +8,13 @@ use Rattle.st_changes.specs.States.{IsTotal}
 use Rattle.st_changes.specs.Last.{Answers, IsReady}
 use Rattle.st_changes.specs.declared.changes.Ready.{Ready}
 use Rattle.st_changes.proofs.Lasts.{answers_same, ready_on, ready_of}
-use Rattle.st_changes.proofs.changes.Changes.reserve.Goals as goal
+use Rattle.st_changes.proofs.changes.Changes.reserve_as.Goals as goal
 
 some_same : {x y : Ready} → Some x ≡ Some y → x ≡ y
 some_same {x} e = ap (λ (o : Option Ready). unwrap_or o x) e
 
-pub invariant_of-self-in_err-selector : goal.invariant_of-self-in_err-selector
-invariant_of-self-in_err-selector c =
+pub invariant_of-self-in_err-prepare : goal.invariant_of-self-in_err-prepare
+invariant_of-self-in_err-prepare c =
     let inv = c.self.invariant in
     let old = c.self.inside in
     let e : definitions_of c.reserve.new.self.items ≡ definitions_of old.listed.items = ap definitions_of c.in_ok-reserve.ensures.items in
@@ -31,11 +31,11 @@ invariant_of-self-2 c =
     let inv = c.self.invariant in
     let old = c.self.inside in
     let e : definitions_of c.reserve.new.self.items ≡ definitions_of old.listed.items = ap definitions_of c.in_ok-reserve.ensures.items in
-    let p = c.in_ok-selector.ensures in (
+    let p = c.in_ok-prepare.ensures in (
       subst (IsTotal old.length) (sym e) inv.0,
       λ r is. omega (arith, c.in_ok-reserve.ensures.ok, c.in_ok-reserve.ensures.len),
       subst (λ (ds : List Definition). Answers ds (found c.prepare.new.index)) (sym e) (answers_same (definitions_of old.listed.items) (found old.index) (found c.prepare.new.index) p.same inv.2),
       λ r is. subst (λ (q : Ready). IsReady c.prepare.new.index q.entry.items (option_map (λ v. v.items) q.selector)) (some_same is)
-          (ready_of c.prepare.new.index (definition_of c.args.definition.now) c.in_ok-entry.entry.items (option_map (λ v. v.items) c.in_ok-selector.selector) c.requires c.in_ok-entry.ensures p.prepared),
+          (ready_of c.prepare.new.index (definition_of c.args.definition.now) c.in_ok-entry.entry.items (option_map (λ v. v.items) c.args.selector) c.requires.good c.in_ok-entry.ensures p.prepared),
       subst (λ (ds : List Definition). All IsDefinition ds) (sym e) inv.4,
     )

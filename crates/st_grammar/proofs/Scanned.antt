@@ -6,7 +6,7 @@ use Rattle.st_scan.specs.Fronts.{Found, piece, fault, front_of}
 use Rattle.st_scan.specs.Scans.{Context, start, signs, after, after_all, joined, AllStand, tokens_from, EndsBy, ScansTo}
 use Rattle.st_scan.proofs.Sound.{IsFront, sound}
 use Rattle.st_scan.proofs.Scanning.{has_bytes}
-use Rattle.st_install.specs.Syntax.{Scan, with_found, scan_from, scan_of}
+use Rattle.st_grammar.specs.Syntax.{Scan, with_found, scan_from, scan_of}
 
 -- these are the pieces of a text, up to its end or its first fault
 record Reaches (c : Context) (at : ℕ) (text : List ℕ) (s : Scan) : Type 0 where

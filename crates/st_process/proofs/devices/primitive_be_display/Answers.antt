@@ -1,8 +1,0 @@
-use Rattle.st_process.proofs.InputTries.{tried-be_display}
-use Rattle.st_process.proofs.devices.primitive_be_display.Goals as goal
-
-pub returns-in-Ok-clause-does : goal.returns-in-Ok-clause-does
-returns-in-Ok-clause-does g c = record {
-  does = tried-be_display _ _ _ _ c.in_ok-receiver.ensures.does c.in-Ok.ensures.does c.answer_held.ensures.does.does;
-  world = c.answer_held.ensures.does.world;
-}

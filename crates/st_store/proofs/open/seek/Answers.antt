@@ -1,0 +1,49 @@
+use Rattle.std.proofs.lemmas.Result.{err_from_is_err_and}
+use Rattle.std.proofs.Common.{◌≡◌, ◌⊎◌, inr, List, ℕ, string_bytes, subst}
+use Rattle.st_host.specs.Runs.{Syncs}
+use Rattle.st_store.specs.Refusals.{RefusesFront}
+use Rattle.st_store.specs.Faults.{SyncsFirst}
+use Rattle.st_store.proofs.Opening.{looked_at, front_refuses, refused_at, spared}
+use Rattle.st_store.proofs.Settling.{when_err, first_more}
+use Rattle.st_store.proofs.open.seek.Goals as goal
+
+pub returns-in_err-chosen-clause-refused : goal.returns-in_err-chosen-clause-refused
+returns-in_err-chosen-clause-refused g c =
+    let fault = c.in_err-chosen.field-0.0 in
+    let p = err_from_is_err_and c.from_residual.result c.from_residual.ensures.1 in
+    rw (p.1, p.2) (λ told. front_refuses (string_bytes c.args.names.now.name) (g.H.Host.files c.args.host.now) fault
+    (subst (λ (x : List ℕ). RefusesFront (g.H.Host.files c.args.host.now x) fault) c.roots.ensures (c.in_err-chosen.ensures.refused told)))
+
+pub returns-in_err-chosen-clause-tried : goal.returns-in_err-chosen-clause-tried
+returns-in_err-chosen-clause-tried g c = when_err _ _
+    (subst (λ (y : List ℕ). Syncs g.H.Host y c.args.host.now c.look.new.host ⊎ SyncsFirst g.H.Host y c.args.host.now c.look.new.host) c.roots.ensures c.in_err-chosen.ensures.tried)
+
+pub returns-in_err-make_firm-clause-refused : goal.returns-in_err-make_firm-clause-refused
+returns-in_err-make_firm-clause-refused g c =
+    let look = c.in_ok-chosen.ensures in
+    let p = err_from_is_err_and c.from_residual-in_err-make_firm.result c.from_residual-in_err-make_firm.ensures.1 in
+    rw (p.1, p.2) (λ told. refused_at g.H.Host _ _ c.look.new.host _ _ _ c.in_ok-chosen.chosen.root c.in_ok-chosen.chosen.number c.in_err-make_firm.field-0.0
+    told c.roots.ensures c.image.ensures c.changes.ensures look.slot (look.chooses told) look.alike (c.in_err-make_firm.ensures.refused told))
+
+pub returns-in_err-make_firm-clause-tried : goal.returns-in_err-make_firm-clause-tried
+returns-in_err-make_firm-clause-tried g c = when_err _ _
+    (inr (first_more g.H.Host _ _ _ _ (subst (λ (y : List ℕ). SyncsFirst g.H.Host y c.args.host.now c.look.new.host) c.roots.ensures c.in_ok-chosen.ensures.first) c.make_firm.ensures.narrows))
+
+pub returns-in_err-make_firm-clause-spares : goal.returns-in_err-make_firm-clause-spares
+returns-in_err-make_firm-clause-spares g c =
+    spared g.H.Host _ _ _ _ _ _ _ c.in_ok-chosen.chosen.root.slot c.roots.ensures c.image.ensures c.changes.ensures c.look.ensures.only c.make_firm.ensures.spares
+
+pub returns-clause-chosen : goal.returns-clause-chosen
+returns-clause-chosen g c told =
+    let look = c.in_ok-chosen.ensures in
+    let firm = c.in_ok-make_firm.ensures in
+    looked_at g.H.Host _ _ _ _ _ _ _ c.in_ok-chosen.chosen.root c.in_ok-chosen.chosen.number told c.roots.ensures c.image.ensures c.changes.ensures
+    look.number look.slot (look.chooses told) look.synced look.alike c.make_firm.ensures.narrows firm.alike (firm.fit told) firm.image firm.changes
+
+pub returns-clause-first : goal.returns-clause-first
+returns-clause-first g c =
+    first_more g.H.Host _ _ _ _ (subst (λ (y : List ℕ). SyncsFirst g.H.Host y c.args.host.now c.look.new.host) c.roots.ensures c.in_ok-chosen.ensures.first) c.make_firm.ensures.narrows
+
+pub returns-clause-spares : goal.returns-clause-spares
+returns-clause-spares g c =
+    spared g.H.Host _ _ _ _ _ _ _ c.in_ok-chosen.chosen.root.slot c.roots.ensures c.image.ensures c.changes.ensures c.look.ensures.only c.make_firm.ensures.spares
