@@ -11,15 +11,15 @@ use Rattle.st_chunk.specs.Asks.{Side, Ask, Object, Display, Classes, Methods, So
 use Rattle.st_chunk.specs.Definitions.{Definition}
 use Rattle.st_changes.specs.Last.{IsNowhere, IsLastText}
 use Rattle.st_browse.specs.Naming.{Named}
-use Rattle.st_browse.specs.Classes.{classes}
+use Rattle.st_browse.specs.Classes.{classes, class_named, on_side}
 use Rattle.st_browse.specs.Methods.{has_method, if_method, method_named}
 use Rattle.st_browse.specs.Display.{display_reply}
 use Rattle.st_browse.specs.Sources.{source_text}
-use Rattle.st_browse.specs.Replies.{object_reply, classes_text, methods_text, side_named, bytecodes_text, senders_text}
+use Rattle.st_browse.specs.Replies.{object_reply, classes_text, methods_text, bytecodes_text, senders_text}
 
 -- the class that a side names
 abbrev pub class_of_side : View → Side → Option Value
-class_of_side v side = side_named v.objects v.head.globals side.class side.meta
+class_of_side v side = option_map (on_side v.objects side.meta) (class_named v.objects v.head.globals side.class)
 
 abbrev pub bytecodes_of : Table → Named → Option (List ℕ)
 bytecodes_of t n = if has_method t n.value then Some (bytecodes_text (object_of t n.value)) else None
