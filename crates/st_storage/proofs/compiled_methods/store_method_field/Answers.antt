@@ -4,7 +4,7 @@ use Rattle.st_model.specs.Machine.{is_there}
 use Rattle.st_frames.proofs.Doing.{row-memory}
 use Rattle.st_frames.proofs.Leaves.{leaves-died}
 use Rattle.st_storage.proofs.Left.{field-missing, field-unfetched}
-use Rattle.st_storage.proofs.methods.store_method_field.Goals as goal
+use Rattle.st_storage.proofs.compiled_methods.store_method_field.Goals as goal
 
 pub returns-in_err-fetch_method_field : goal.returns-in_err-fetch_method_field
 returns-in_err-fetch_method_field g c =

@@ -2,7 +2,7 @@ use Rattle.std.proofs.Common.{rules, refl}
 use Rattle.st_frames.proofs.Leaves.{leaves-died}
 use Rattle.st_storage.proofs.PutTries.{put-by}
 use Rattle.st_storage.proofs.MethodTries.{tried-object_at_put, died-object_at_put}
-use Rattle.st_storage.proofs.methods.primitive_object_at_put.Goals as goal
+use Rattle.st_storage.proofs.compiled_methods.primitive_object_at_put.Goals as goal
 
 pub returns-in_err-put-clause-does : goal.returns-in_err-put-clause-does
 returns-in_err-put-clause-does g c = leaves-died _ _ _ _ _ _ _ _ _ _ (search rules) refl (died-object_at_put _ _ _ c.in_err-put.ensures.does)

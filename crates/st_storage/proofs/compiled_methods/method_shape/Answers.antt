@@ -3,7 +3,7 @@ use Rattle.st_model.specs.Values.{word}
 use Rattle.st_model.specs.Steps.{same_value}
 use Rattle.st_frames.proofs.Doing.{row-memory}
 use Rattle.st_storage.proofs.MethodTries.{shape-is}
-use Rattle.st_storage.proofs.methods.method_shape.Goals as goal
+use Rattle.st_storage.proofs.compiled_methods.method_shape.Goals as goal
 
 pub returns-clause-does : goal.returns-clause-does
 returns-clause-does g c =

@@ -1,7 +1,7 @@
 use Rattle.std.proofs.Common.{rules, ◌≡◌, Err, refl}
 use Rattle.st_frames.proofs.Leaves.{leaves-died}
 use Rattle.st_storage.proofs.MethodTries.{tried-new_method, died-new_method}
-use Rattle.st_storage.proofs.methods.primitive_new_method.Goals as goal
+use Rattle.st_storage.proofs.compiled_methods.primitive_new_method.Goals as goal
 
 pub returns-in_err-answer-in-Ok-clause-does : goal.returns-in_err-answer-in-Ok-clause-does
 returns-in_err-answer-in-Ok-clause-does g c =

@@ -1,10 +1,9 @@
+//! The primitives on CompiledMethods: 68 and 69, by which header and literals are read and stored, and 79, which makes a new one.
+
 ghost use Rattle.std.specs.Prelude.{◌≡◌, ◌<◌, ◌≤◌, ◌+◌, ◌-◌, ◌^◌, Ok, IfOk, false};
 ghost use Rattle.st_model.specs.Values.{word};
 ghost use Rattle.st_model.specs.Calls.{itself};
 ghost use Rattle.st_model.specs.Storage.{method_place, place_in_method, header_or_literal, primitive_object_at, check_header, place_to_store, store_in_method, primitive_object_at_put, method_words, method_shape, new_method, primitive_new_method};
-ghost use Rattle.st_model.specs.Values.{Ref};
-ghost use Rattle.st_model.specs.Objects.{place_of};
-ghost use Rattle.st_model.specs.declared.page.PageObject.TheVariants.{MethodClass};
 ghost use Rattle.st_model.specs.Steps.{store_method_field};
 ghost use Rattle.st_frames.specs.Answering.{succeed_by, answer_word, answer_deed, no_word};
 ghost use Rattle.st_storage.specs.Storing.{method_shape_in};
