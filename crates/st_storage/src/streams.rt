@@ -3,7 +3,7 @@ ghost use Rattle.st_model.specs.declared.kind.Kind.TheVariants.{Bytes};
 ghost use Rattle.st_model.specs.Values.{Small, word};
 ghost use Rattle.st_model.specs.Calls.{itself};
 ghost use Rattle.st_model.specs.Primitives.{truth};
-ghost use Rattle.st_model.specs.Storage.{has_characters, is_at_end, primitive_at_end, place_of_object, place_of_character, stream_place, position_below, standing_at, stream_standing, stream_element, take_next, primitive_next, stream_unit, putting_at, stream_putting, put_next, primitive_next_put};
+ghost use Rattle.st_model.specs.Storage.{has_characters, is_at_end, primitive_at_end, place_of_object, place_of_character, stream_place, position_below, stream_standing, stream_element, take_next, primitive_next, stream_unit, stream_putting, put_next, primitive_next_put};
 ghost use Rattle.st_model.specs.Steps.{store_field};
 ghost use Rattle.st_model.specs.Deeds.{is_done, deed_of_trial, copies_pixels};
 ghost use Rattle.st_frames.specs.Answering.{IsOfKind, succeed_by, answer_word, answer_deed};
@@ -14,7 +14,7 @@ use crate::elements::place_of_element;
 use crate::fetching::fetch_element;
 use crate::numbers::fixed_fields;
 use crate::putting::store_element;
-use crate::shapes::{Element, Elements, Placed, Putting, Standing, Storing};
+use crate::shapes::{Element, Elements, Putting, Standing, Storing};
 use crate::storing::unit_of_element;
 use crate::strings::{character_byte, fetch_character};
 use st_frames::{
@@ -181,11 +181,7 @@ fn stream_element<O: Objects>(m: &mut O, r: &Registers, s: Standing) -> Result<A
     ensures plain { IfOk result (λ a. copies_pixels a.deed ≡ false) }
 {
     match s.elements {
-        Elements::Objects => {
-            let object = s.collection;
-            let place = s.place;
-            fetch_element(m, r, Placed { object, place })
-        }
+        Elements::Objects => fetch_element(m, r, s.collection, s.place),
         Elements::Characters => {
             let word = fetch_character(m, r, s.collection, s.place)?;
             Ok(Answer {
