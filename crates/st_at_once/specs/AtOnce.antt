@@ -253,13 +253,20 @@ bytecode_at_once m (code.PrimitiveSend k) = primitive_at_once m k
 bytecode_at_once m (code.LiteralSend i n) = literal_send_at_once m i n
 bytecode_at_once m b = answer false
 
+-- 198 and 199 as special sends, which count from 176: == and class
+abbrev pub equivalence_send : ℕ
+equivalence_send = 22
+
+abbrev pub class_send : ℕ
+class_send = 23
+
 -- whether a row that is done at once may leave its context: it returns, computes the value of a block (not 198 and 199) or sends
 abbrev pub may_leave : Bytecode → Bool
 may_leave code.ReturnReceiver = true
 may_leave (code.ReturnConstant c) = true
 may_leave code.ReturnTopToSender = true
 may_leave code.ReturnTopToCaller = true
-may_leave (code.PrimitiveSend k) = if k == 22 then false else if k == 23 then false else true
+may_leave (code.PrimitiveSend k) = if k == equivalence_send then false else if k == class_send then false else true
 may_leave (code.LiteralSend i n) = true
 may_leave b = false
 

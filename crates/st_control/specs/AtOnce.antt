@@ -48,14 +48,12 @@ return_past_at_once m context v = do
 unfoldable pub return_to_sender_at_once : {H : Type 0} → ObjectMemory H → Value → Step H Bool
 return_to_sender_at_once m v = do
   home ← get_home
-  c ← fetch_field m home 0
-  return_at_once m c v
+  return_past_at_once m home v
 
 unfoldable pub return_to_caller_at_once : {H : Type 0} → ObjectMemory H → Value → Step H Bool
 return_to_caller_at_once m v = do
   active ← get_active
-  c ← fetch_field m active 0
-  return_at_once m c v
+  return_past_at_once m active v
 
 -- a new context of the method becomes the active one
 unfoldable pub enter_context : {H : Type 0} → ObjectMemory H → Value → Value → ℕ → Step H Unit
