@@ -47,7 +47,7 @@ module _ {H : Type 0} (m : ObjectMemory H) where
 
   -- 1 to 18
   unfoldable pub arithmetic : ℕ → Step H Bool
-  arithmetic n = primitive m 1 (integer_answer n) (value_of_answer)
+  arithmetic n = primitive m 1 (integer_answer n) value_of_answer
 
   -- the integer from 0 up, of at most 16 bytes, k words below the top
   unfoldable pub large_under : ℕ → Step H ℕ
@@ -68,7 +68,7 @@ module _ {H : Type 0} (m : ObjectMemory H) where
 
   -- 21 to 36
   unfoldable pub large_arithmetic : ℕ → Step H Bool
-  large_arithmetic n = primitive m 1 (large_answer n) (value_of_large)
+  large_arithmetic n = primitive m 1 (large_answer n) value_of_large
 
   unfoldable pub shift_answer : Step H ℕ
   shift_answer = do
@@ -78,7 +78,7 @@ module _ {H : Type 0} (m : ObjectMemory H) where
 
   -- 37
   unfoldable pub shift_large : Step H Bool
-  shift_large = primitive m 1 (shift_answer) (number m)
+  shift_large = primitive m 1 shift_answer (number m)
 
   -- 110: whether receiver and argument are the same word
   unfoldable pub equivalence : Step H Unit

@@ -136,6 +136,6 @@ module _ {H : Type 0} (m : ObjectMemory H) where
   -- the primitives of this file by their numbers, each with its number of arguments; 81 takes any
   unfoldable pub blocks : ℕ → ℕ → Step H Bool
   blocks k n =
-      if k == 80 then taking 1 n (primitive_block_copy) else
+      if k == 80 then taking 1 n primitive_block_copy else
       if k == 81 then primitive_value n else
-      if k == 82 then taking 1 n (primitive_value_with) else answer false
+      if k == 82 then taking 1 n primitive_value_with else answer false

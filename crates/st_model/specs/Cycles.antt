@@ -119,7 +119,7 @@ module _ {H : Type 0} (m : ObjectMemory H) where
   cycle s = cycle_from ((check_process_switch).run s)
 
   unfoldable pub run : ℕ → State H → Transition (State H) Ending
-  run n s = run_of (cycle) n s
+  run n s = run_of cycle n s
 
   unfoldable pub finished : ℕ → State H → ℕ
-  finished n s = finished_of (cycle) n s
+  finished n s = finished_of cycle n s

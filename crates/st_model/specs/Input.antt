@@ -247,15 +247,15 @@ module _ {H : Type 0} (m : ObjectMemory H) where
   -- the primitives of this file by their numbers, each with its number of arguments
   unfoldable pub input : ℕ → ℕ → Step H Bool
   input k n =
-      if k == 90 then taking 0 n (primitive_mouse_point) else
-      if k == 91 then taking 1 n (primitive_move_mouse) else
-      if k == 92 then taking 1 n (primitive_link_cursor) else
-      if k == 93 then taking 1 n (primitive_input_semaphore) else
-      if k == 94 then taking 1 n (primitive_sample_interval) else
-      if k == 95 then taking 0 n (primitive_input_word) else
-      if k == 98 then taking 1 n (primitive_second_clock) else
-      if k == 99 then taking 1 n (primitive_millisecond_clock) else
-      if k == 100 then taking 2 n (primitive_timer) else
-      if k == 101 then taking 0 n (primitive_be_cursor) else
-      if k == 102 then taking 0 n (primitive_be_display) else
-      if k == 116 then taking 3 n (primitive_low_space) else answer false
+      if k == 90 then taking 0 n primitive_mouse_point else
+      if k == 91 then taking 1 n primitive_move_mouse else
+      if k == 92 then taking 1 n primitive_link_cursor else
+      if k == 93 then taking 1 n primitive_input_semaphore else
+      if k == 94 then taking 1 n primitive_sample_interval else
+      if k == 95 then taking 0 n primitive_input_word else
+      if k == 98 then taking 1 n primitive_second_clock else
+      if k == 99 then taking 1 n primitive_millisecond_clock else
+      if k == 100 then taking 2 n primitive_timer else
+      if k == 101 then taking 0 n primitive_be_cursor else
+      if k == 102 then taking 0 n primitive_be_display else
+      if k == 116 then taking 3 n primitive_low_space else answer false

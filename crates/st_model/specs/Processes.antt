@@ -255,7 +255,7 @@ module _ {H : Type 0} (m : ObjectMemory H) where
   -- the primitives of this file by their numbers, each with its number of arguments
   unfoldable pub processes : ℕ → ℕ → Step H Bool
   processes k n =
-      if k == 85 then taking 0 n (primitive_signal) else
-      if k == 86 then taking 0 n (primitive_wait) else
-      if k == 87 then taking 0 n (primitive_resume) else
-      if k == 88 then taking 0 n (primitive_suspend) else answer false
+      if k == 85 then taking 0 n primitive_signal else
+      if k == 86 then taking 0 n primitive_wait else
+      if k == 87 then taking 0 n primitive_resume else
+      if k == 88 then taking 0 n primitive_suspend else answer false

@@ -643,27 +643,27 @@ module _ {H : Type 0} (m : ObjectMemory H) where
   -- the primitives of this file that only go on, by their numbers, each with its number of arguments
   unfoldable pub storage : ℕ → ℕ → Step H Bool
   storage k n =
-      if k == 60 then taking 1 n (primitive_at) else
-      if k == 61 then taking 2 n (primitive_at_put) else
-      if k == 62 then taking 0 n (primitive_size) else
-      if k == 63 then taking 1 n (primitive_string_at) else
-      if k == 64 then taking 2 n (primitive_string_at_put) else
-      if k == 65 then taking 0 n (primitive_next) else
-      if k == 66 then taking 1 n (primitive_next_put) else
-      if k == 67 then taking 0 n (primitive_at_end) else
-      if k == 68 then taking 1 n (primitive_object_at) else
-      if k == 69 then taking 2 n (primitive_object_at_put) else
-      if k == 70 then taking 0 n (primitive_new) else
-      if k == 71 then taking 1 n (primitive_new_with) else
-      if k == 72 then taking 1 n (primitive_become) else
-      if k == 73 then taking 1 n (primitive_instance_variable_at) else
-      if k == 74 then taking 2 n (primitive_instance_variable_at_put) else
-      if k == 75 then taking 0 n (primitive_as_oop) else
-      if k == 76 then taking 0 n (primitive_as_object) else
-      if k == 77 then taking 0 n (primitive_some_instance) else
-      if k == 78 then taking 0 n (primitive_next_instance) else
-      if k == 79 then taking 2 n (primitive_new_method) else
+      if k == 60 then taking 1 n primitive_at else
+      if k == 61 then taking 2 n primitive_at_put else
+      if k == 62 then taking 0 n primitive_size else
+      if k == 63 then taking 1 n primitive_string_at else
+      if k == 64 then taking 2 n primitive_string_at_put else
+      if k == 65 then taking 0 n primitive_next else
+      if k == 66 then taking 1 n primitive_next_put else
+      if k == 67 then taking 0 n primitive_at_end else
+      if k == 68 then taking 1 n primitive_object_at else
+      if k == 69 then taking 2 n primitive_object_at_put else
+      if k == 70 then taking 0 n primitive_new else
+      if k == 71 then taking 1 n primitive_new_with else
+      if k == 72 then taking 1 n primitive_become else
+      if k == 73 then taking 1 n primitive_instance_variable_at else
+      if k == 74 then taking 2 n primitive_instance_variable_at_put else
+      if k == 75 then taking 0 n primitive_as_oop else
+      if k == 76 then taking 0 n primitive_as_object else
+      if k == 77 then taking 0 n primitive_some_instance else
+      if k == 78 then taking 0 n primitive_next_instance else
+      if k == 79 then taking 2 n primitive_new_method else
       if k == 96 then taking 0 n (primitive_copy_bits m) else
-      if k == 105 then taking 4 n (primitive_replace) else
-      if k == 112 then taking 0 n (primitive_core_left) else
-      if k == 115 then taking 0 n (primitive_oops_left) else answer false
+      if k == 105 then taking 4 n primitive_replace else
+      if k == 112 then taking 0 n primitive_core_left else
+      if k == 115 then taking 0 n primitive_oops_left else answer false
