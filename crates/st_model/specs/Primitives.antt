@@ -72,6 +72,27 @@ module _ {H : Type 0} (m : ObjectMemory H) where
     a ← tried conditions
     succeed n effect a
 
+  -- a primitive of a receiver r alone
+  abbrev pub of_receiver : {A : Type 0} → (Value → Step H A) → (Value → A → Step H Value) → Step H Bool
+  of_receiver conditions effect = do
+    r ← top m
+    primitive 0 (conditions r) (effect r)
+
+  -- a primitive of a receiver r and an argument a
+  abbrev pub of_one : {A : Type 0} → (Value → Value → Step H A) → (Value → Value → A → Step H Value) → Step H Bool
+  of_one conditions effect = do
+    r ← under m 1
+    a ← top m
+    primitive 1 (conditions r a) (effect r a)
+
+  -- a primitive of a receiver r and two arguments a and b
+  abbrev pub of_two : {A : Type 0} → (Value → Value → Value → Step H A) → (Value → Value → Value → A → Step H Value) → Step H Bool
+  of_two conditions effect = do
+    r ← under m 2
+    a ← under m 1
+    b ← top m
+    primitive 2 (conditions r a b) (effect r a b)
+
   -- true or false, as an answer
   unfoldable pub truth : Bool → Step H Value
   truth true = of_page m TrueObject
