@@ -5,7 +5,7 @@ use Rattle.st_model.specs.declared.kind.Kind.TheVariants as kind
 use Rattle.st_model.specs.Values.{Value, Small, Ref, small_integer}
 use Rattle.st_model.specs.Objects.{PageObject, FalseObject, TrueObject, LargeClass, is_pointers, is_bytes}
 use Rattle.st_model.specs.Machine.{ObjectMemory, Step, answer, die, tried, ◌>>=◌, ◌>>◌}
-use Rattle.st_model.specs.Steps.{of_page, class_of, same_value, check, fetch_kind, fetch_size, fetch_field, fetch_bytes, store_bytes, make, push, pop}
+use Rattle.st_model.specs.Steps.{of_page, class_of, same_value, check, fetch_kind, fetch_size, fetch_field, fetch_bytes, store_bytes, make, push, pop, top, under}
 
 -- it is tried with this number of arguments alone, and fails with any other
 unfoldable pub taking : {H : Type 0} → ℕ → ℕ → Step H Bool → Step H Bool
