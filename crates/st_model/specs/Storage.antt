@@ -11,7 +11,7 @@ use Rattle.st_model.specs.Steps.{of_page, class_of, same_value, check, or_die, f
 use Rattle.st_model.specs.Methods.{literal_count, method_header}
 use Rattle.st_model.specs.Lookup.{half_word}
 use Rattle.st_model.specs.BitBlt.{primitive_copy_bits}
-use Rattle.st_model.specs.Primitives.{primitive, taking, truth, check_class, check_bytes, bits_or_die, positive_small, byte_or_die, positive_value, number, number_of, has_pointers, has_words, is_indexable, fixed_count, specification, fixed_fields}
+use Rattle.st_model.specs.Primitives.{primitive, of_receiver, of_one, of_two, taking, truth, check_class, check_bytes, bits_or_die, positive_small, byte_or_die, positive_value, number, number_of, has_pointers, has_words, is_indexable, fixed_count, specification, fixed_fields}
 
 -- where an element is stored, and the word or byte
 pub record Storing : Type 0 where
@@ -47,8 +47,7 @@ kind_of_indexed specification = if has_pointers specification then kind.Pointers
 abbrev pub body_words : Kind → ℕ → ℕ
 body_words kind.Pointers n = n
 body_words kind.Words n = n
-body_words kind.Bytes n = (n + 1) / 2
-body_words kind.Method n = (n + 1) / 2
+body_words k n = (n + 1) / 2
 
 -- the kind and the size of a new object
 pub record Shape : Type 0 where
@@ -112,9 +111,7 @@ module _ {H : Type 0} (m : ObjectMemory H) where
 
   -- the place that an index names, a SmallInteger
   unfoldable pub place_at : Value → ℕ → Value → Step H ℕ
-  place_at v fixed index = do
-    i ← positive_small index
-    place_of_element v fixed i
+  place_at v fixed index = positive_small index >>= place_of_element v fixed
 
   -- the same behind the fixed fields that the class gives
   unfoldable pub place_behind_fixed : Value → Value → Step H ℕ
@@ -123,9 +120,7 @@ module _ {H : Type 0} (m : ObjectMemory H) where
     place_at v fixed index
 
   unfoldable pub word_number : Value → ℕ → Step H Value
-  word_number v i = do
-    w ← fetch_word m v i
-    number m w
+  word_number v i = fetch_word m v i >>= number m
 
   unfoldable pub byte_number : Value → ℕ → Step H Value
   byte_number v i = do
@@ -135,14 +130,11 @@ module _ {H : Type 0} (m : ObjectMemory H) where
   unfoldable pub element_by : Value → ℕ → Kind → Step H Value
   element_by v i kind.Pointers = fetch_field m v i
   element_by v i kind.Words = word_number v i
-  element_by v i kind.Bytes = byte_number v i
-  element_by v i kind.Method = byte_number v i
+  element_by v i k = byte_number v i
 
   -- the element at a place: a field, or the number of a word or byte
   unfoldable pub fetch_element : Value → ℕ → Step H Value
-  fetch_element v i = do
-    k ← fetch_kind m v
-    element_by v i k
+  fetch_element v i = fetch_kind m v >>= element_by v i
 
   -- a number that fits a word
   unfoldable pub word_of_value : Value → Step H ℕ
@@ -155,25 +147,19 @@ module _ {H : Type 0} (m : ObjectMemory H) where
   unfoldable pub unit_by : Value → Kind → Step H ℕ
   unit_by x kind.Pointers = answer 0
   unit_by x kind.Words = word_of_value x
-  unit_by x kind.Bytes = byte_or_die x
-  unit_by x kind.Method = byte_or_die x
+  unit_by x k = byte_or_die x
 
   unfoldable pub unit_of_element : Value → Value → Step H ℕ
-  unit_of_element v x = do
-    k ← fetch_kind m v
-    unit_by x k
+  unit_of_element v x = fetch_kind m v >>= unit_by x
 
   unfoldable pub store_by : Value → ℕ → Value → ℕ → Kind → Step H Unit
   store_by v i x unit kind.Pointers = store_field m v i x
   store_by v i x unit kind.Words = store_word m v i unit
-  store_by v i x unit kind.Bytes = store_byte m v i unit
-  store_by v i x unit kind.Method = store_byte m v i unit
+  store_by v i x unit k = store_byte m v i unit
 
   -- x, or the word or byte that it is, at a place
   unfoldable pub store_element : Value → ℕ → Value → ℕ → Step H Unit
-  store_element v i x unit = do
-    k ← fetch_kind m v
-    store_by v i x unit k
+  store_element v i x unit = fetch_kind m v >>= store_by v i x unit
 
   unfoldable pub storing_at : Value → Value → ℕ → Step H Storing
   storing_at v x i = do
@@ -181,29 +167,18 @@ module _ {H : Type 0} (m : ObjectMemory H) where
     answer (record { place = i; unit = unit })
 
   unfoldable pub store_and_answer : Value → Value → Storing → Step H Value
-  store_and_answer v x s = do
-    store_element v s.place x s.unit
-    answer x
+  store_and_answer v x s = store_element v s.place x s.unit >> answer x
 
   -- 60: element a of r
   unfoldable pub primitive_at : Step H Bool
-  primitive_at = do
-    r ← under m 1
-    a ← top m
-    primitive m 1 (place_behind_fixed r a) (λ i. fetch_element r i)
+  primitive_at = of_one m place_behind_fixed (λ r a i. fetch_element r i)
 
   unfoldable pub storing_behind_fixed : Value → Value → Value → Step H Storing
-  storing_behind_fixed r a b = do
-    i ← place_behind_fixed r a
-    storing_at r b i
+  storing_behind_fixed r a b = place_behind_fixed r a >>= storing_at r b
 
   -- 61: b becomes element a of r
   unfoldable pub primitive_at_put : Step H Bool
-  primitive_at_put = do
-    r ← under m 2
-    a ← under m 1
-    b ← top m
-    primitive m 2 (storing_behind_fixed r a b) (λ s. store_and_answer r b s)
+  primitive_at_put = of_two m storing_behind_fixed (λ r a b s. store_and_answer r b s)
 
   unfoldable pub count_elements : Value → Step H ℤ
   count_elements r = do
@@ -213,9 +188,7 @@ module _ {H : Type 0} (m : ObjectMemory H) where
 
   -- 62: how many elements r has; below 0 where it has fewer fields than its class says
   unfoldable pub primitive_size : Step H Bool
-  primitive_size = do
-    r ← top m
-    primitive m 0 (count_elements r) (λ n. number_of m n)
+  primitive_size = of_receiver m count_elements (λ r n. number_of m n)
 
   -- Strings, whose elements are Characters: each is the field of the character table that its byte numbers.
 
@@ -227,21 +200,14 @@ module _ {H : Type 0} (m : ObjectMemory H) where
 
   -- the place that an index names in an object of kind Bytes
   unfoldable pub place_in_bytes : Value → Value → Step H ℕ
-  place_in_bytes v index = do
-    check_bytes m v
-    place_at v 0 index
+  place_in_bytes v index = check_bytes m v >> place_at v 0 index
 
   unfoldable pub character_at : Value → Value → Step H Value
-  character_at r a = do
-    i ← place_in_bytes r a
-    fetch_character r i
+  character_at r a = place_in_bytes r a >>= fetch_character r
 
   -- 63: character a of r
   unfoldable pub primitive_string_at : Step H Bool
-  primitive_string_at = do
-    r ← under m 1
-    a ← top m
-    primitive m 1 (character_at r a) answer
+  primitive_string_at = of_one m character_at (λ r a. answer)
 
   -- the byte of a Character, from 0 to 255, which is its field 0
   unfoldable pub character_byte : Value → Step H ℕ
@@ -256,17 +222,11 @@ module _ {H : Type 0} (m : ObjectMemory H) where
     answer (record { place = i; unit = b })
 
   unfoldable pub storing_character : Value → Value → Value → Step H Storing
-  storing_character r a b = do
-    i ← place_in_bytes r a
-    character_storing_at b i
+  storing_character r a b = place_in_bytes r a >>= character_storing_at b
 
   -- 64: the Character b becomes character a of r
   unfoldable pub primitive_string_at_put : Step H Bool
-  primitive_string_at_put = do
-    r ← under m 2
-    a ← under m 1
-    b ← top m
-    primitive m 2 (storing_character r a b) (λ s. store_and_answer r b s)
+  primitive_string_at_put = of_two m storing_character (λ r a b s. store_and_answer r b s)
 
   -- whether the elements of a collection are Characters, those of a String; else it is an Array
   unfoldable pub has_characters : Value → Step H Bool
@@ -330,9 +290,7 @@ module _ {H : Type 0} (m : ObjectMemory H) where
 
   -- 65: the next element of the stream r, whose position rises by 1
   unfoldable pub primitive_next : Step H Bool
-  primitive_next = do
-    r ← top m
-    primitive m 0 (stream_standing r 2) (λ s. take_next r s)
+  primitive_next = of_receiver m (λ r. stream_standing r 2) take_next
 
   unfoldable pub stream_unit : Value → Value → Bool → Step H ℕ
   stream_unit v x true = character_byte x
@@ -345,9 +303,7 @@ module _ {H : Type 0} (m : ObjectMemory H) where
     answer (record { standing = s; unit = unit })
 
   unfoldable pub stream_putting : Value → Value → Step H Putting
-  stream_putting r a = do
-    s ← stream_standing r 3
-    putting_at r a s
+  stream_putting r a = stream_standing r 3 >>= putting_at r a
 
   -- the position rises from what it was, also where the element was just stored into it
   unfoldable pub put_next : Value → Value → Putting → Step H Value
@@ -359,10 +315,7 @@ module _ {H : Type 0} (m : ObjectMemory H) where
 
   -- 66: a becomes the next element of the stream r, whose position rises by 1
   unfoldable pub primitive_next_put : Step H Bool
-  primitive_next_put = do
-    r ← under m 1
-    a ← top m
-    primitive m 1 (stream_putting r a) (λ p. put_next r a p)
+  primitive_next_put = of_one m stream_putting put_next
 
   unfoldable pub is_at_end : Value → Step H Bool
   is_at_end r = do
@@ -375,9 +328,7 @@ module _ {H : Type 0} (m : ObjectMemory H) where
 
   -- 67: whether the stream r is at its limit, or at the end of its collection
   unfoldable pub primitive_at_end : Step H Bool
-  primitive_at_end = do
-    r ← top m
-    primitive m 0 (is_at_end r) (λ b. truth m b)
+  primitive_at_end = of_receiver m is_at_end (λ r b. truth m b)
 
   -- Methods. Index 1 is the header, and index 2 the first literal.
 
@@ -390,21 +341,14 @@ module _ {H : Type 0} (m : ObjectMemory H) where
     answer (i - 1)
 
   unfoldable pub place_in_method : Value → Value → Step H ℕ
-  place_in_method r a = do
-    i ← positive_small a
-    method_place r i
+  place_in_method r a = positive_small a >>= method_place r
 
   unfoldable pub header_or_literal : Value → Value → Step H Value
-  header_or_literal r a = do
-    i ← place_in_method r a
-    fetch_method_field m r i
+  header_or_literal r a = place_in_method r a >>= fetch_method_field m r
 
   -- 68: the header of the Method r, or the literal that the index a names
   unfoldable pub primitive_object_at : Step H Bool
-  primitive_object_at = do
-    r ← under m 1
-    a ← top m
-    primitive m 1 (header_or_literal r a) answer
+  primitive_object_at = of_one m header_or_literal (λ r a. answer)
 
   -- a header, which counts as many literals as the one before
   unfoldable pub check_header : Value → Value → Step H Unit
@@ -425,17 +369,11 @@ module _ {H : Type 0} (m : ObjectMemory H) where
     answer i
 
   unfoldable pub store_in_method : Value → Value → ℕ → Step H Value
-  store_in_method r b i = do
-    store_method_field m r i b
-    answer b
+  store_in_method r b i = store_method_field m r i b >> answer b
 
   -- 69: b becomes the header of the Method r, or the literal that the index a names
   unfoldable pub primitive_object_at_put : Step H Bool
-  primitive_object_at_put = do
-    r ← under m 2
-    a ← under m 1
-    b ← top m
-    primitive m 2 (place_to_store r a b) (λ i. store_in_method r b i)
+  primitive_object_at_put = of_two m place_to_store (λ r a b i. store_in_method r b i)
 
   -- New objects. No instance of CompiledMethod is made by its class's specification.
 
@@ -453,9 +391,7 @@ module _ {H : Type 0} (m : ObjectMemory H) where
 
   -- 70: a new instance of the class r, whose instances have no indexed fields
   unfoldable pub primitive_new : Step H Bool
-  primitive_new = do
-    r ← top m
-    primitive m 0 (fixed_specification r) (λ s. make m r (kind_of_fixed s) (fixed_count s) 0)
+  primitive_new = of_receiver m fixed_specification (λ r s. make m r (kind_of_fixed s) (fixed_count s) 0)
 
   unfoldable pub indexed_shape : Value → Value → Step H Shape
   indexed_shape r a = do
@@ -467,10 +403,7 @@ module _ {H : Type 0} (m : ObjectMemory H) where
 
   -- 71: a new instance of the class r with its fixed fields and a indexed ones
   unfoldable pub primitive_new_with : Step H Bool
-  primitive_new_with = do
-    r ← under m 1
-    a ← top m
-    primitive m 1 (indexed_shape r a) (λ s. make m r s.kind s.size 0)
+  primitive_new_with = of_one m indexed_shape (λ r a s. make m r s.kind s.size 0)
 
   -- an object, and no SmallInteger
   unfoldable pub check_object : Value → Step H Unit
@@ -479,55 +412,35 @@ module _ {H : Type 0} (m : ObjectMemory H) where
     answer tt
 
   unfoldable pub check_objects : Value → Value → Step H Unit
-  check_objects v w = do
-    check_object v
-    check_object w
+  check_objects v w = check_object v >> check_object w
 
   unfoldable pub exchange_and_answer : Value → Value → Step H Value
-  exchange_and_answer r a = do
-    exchange m r a
-    answer r
+  exchange_and_answer r a = exchange m r a >> answer r
 
   -- 72: what the pointers r and a name is exchanged
   unfoldable pub primitive_become : Step H Bool
-  primitive_become = do
-    r ← under m 1
-    a ← top m
-    primitive m 1 (check_objects r a) (λ u. exchange_and_answer r a)
+  primitive_become = of_one m check_objects (λ r a u. exchange_and_answer r a)
 
   -- 73: as 60, and fixed fields count
   unfoldable pub primitive_instance_variable_at : Step H Bool
-  primitive_instance_variable_at = do
-    r ← under m 1
-    a ← top m
-    primitive m 1 (place_at r 0 a) (λ i. fetch_element r i)
+  primitive_instance_variable_at = of_one m (λ r a. place_at r 0 a) (λ r a i. fetch_element r i)
 
   unfoldable pub storing_by_index : Value → Value → Value → Step H Storing
-  storing_by_index r a b = do
-    i ← place_at r 0 a
-    storing_at r b i
+  storing_by_index r a b = place_at r 0 a >>= storing_at r b
 
   -- 74: as 61, and fixed fields count
   unfoldable pub primitive_instance_variable_at_put : Step H Bool
-  primitive_instance_variable_at_put = do
-    r ← under m 2
-    a ← under m 1
-    b ← top m
-    primitive m 2 (storing_by_index r a b) (λ s. store_and_answer r b s)
+  primitive_instance_variable_at_put = of_two m storing_by_index (λ r a b s. store_and_answer r b s)
 
   -- Pointers.
 
   -- half of the pointer of an object
   unfoldable pub half_pointer : Value → Step H ℕ
-  half_pointer r = do
-    check_object r
-    half_word m r
+  half_pointer r = check_object r >> half_word m r
 
   -- 75: the pointer of r with its lowest bit set, a SmallInteger
   unfoldable pub primitive_as_oop : Step H Bool
-  primitive_as_oop = do
-    r ← top m
-    primitive m 0 (half_pointer r) (λ n. answer (Small n))
+  primitive_as_oop = of_receiver m half_pointer (λ r n. answer (Small n))
 
   unfoldable pub kept_object_at : Value → Step H Value
   kept_object_at r = do
@@ -537,20 +450,14 @@ module _ {H : Type 0} (m : ObjectMemory H) where
 
   -- 76: the kept object whose pointer is the word of the SmallInteger r less 1
   unfoldable pub primitive_as_object : Step H Bool
-  primitive_as_object = do
-    r ← top m
-    primitive m 0 (kept_object_at r) answer
+  primitive_as_object = of_receiver m kept_object_at (λ r. answer)
 
   unfoldable pub first_kept_instance : Value → Step H Value
-  first_kept_instance r = do
-    v ← next_instance m r 0
-    or_die dead.Kind v
+  first_kept_instance r = next_instance m r 0 >>= or_die dead.Kind
 
   -- 77: of the kept instances of the class r the one with the least pointer
   unfoldable pub primitive_some_instance : Step H Bool
-  primitive_some_instance = do
-    r ← top m
-    primitive m 0 (first_kept_instance r) answer
+  primitive_some_instance = of_receiver m first_kept_instance (λ r. answer)
 
   unfoldable pub instance_after : Value → Step H Value
   instance_after r = do
@@ -561,9 +468,7 @@ module _ {H : Type 0} (m : ObjectMemory H) where
 
   -- 78: of the kept instances of r's class with greater pointers than r the one with the least
   unfoldable pub primitive_next_instance : Step H Bool
-  primitive_next_instance = do
-    r ← top m
-    primitive m 0 (instance_after r) answer
+  primitive_next_instance = of_receiver m instance_after (λ r. answer)
 
   unfoldable pub method_shape : Value → Value → Value → Step H MethodShape
   method_shape r a b = do
@@ -585,11 +490,7 @@ module _ {H : Type 0} (m : ObjectMemory H) where
 
   -- 79: a new Method with the header b and a bytes
   unfoldable pub primitive_new_method : Step H Bool
-  primitive_new_method = do
-    r ← under m 2
-    a ← under m 1
-    b ← top m
-    primitive m 2 (method_shape r a b) (λ s. new_method r s)
+  primitive_new_method = of_two m method_shape (λ r a b s. new_method r s)
 
   unfoldable pub checked_replacing : Value → Value → Replacing → Step H Replacing
   checked_replacing r c p = do
