@@ -4,7 +4,7 @@
 -- suspended context in field 1, its priority in field 2, and the list that it is in in field 3. A semaphore is a list, with its
 -- excess signals in field 2. The scheduler has the lists of those that are ready, by priority, in field 0, and the active
 -- process in field 1.
-use Rattle.std.specs.Prelude.{ℕ, zero, suc, ◌==◌, ◌&&◌, Bool, true, false, nat_le, if◌then◌else◌, ℤ, pos, negsuc, ◌+ℤ◌, int_lt, int_le}
+use Rattle.std.specs.Prelude.{ℕ, zero, suc, ◌==◌, ◌&&◌, Bool, true, false, nat_le, if◌then◌else◌, ℤ, pos, ◌+ℤ◌, int_lt, int_le}
 use Rattle.st_model.specs.declared.dead.Dead.TheVariants as dead
 use Rattle.st_model.specs.declared.device.Device.TheVariants.{NewProcess}
 use Rattle.st_model.specs.Values.{Value, Small, small_integer}
