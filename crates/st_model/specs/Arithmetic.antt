@@ -34,9 +34,7 @@ module _ {H : Type 0} (m : ObjectMemory H) where
 
   -- the integer of the SmallInteger k words below the top
   unfoldable pub integer_under : ℕ → Step H ℤ
-  integer_under k = do
-    v ← under m k
-    integer_or_die v
+  integer_under k = under m k >>= integer_or_die
 
   -- receiver and argument are SmallIntegers, of which the primitive has an answer
   unfoldable pub integer_answer : ℕ → Step H IntAnswer
@@ -51,9 +49,7 @@ module _ {H : Type 0} (m : ObjectMemory H) where
 
   -- the integer from 0 up, of at most 16 bytes, k words below the top
   unfoldable pub large_under : ℕ → Step H ℕ
-  large_under k = do
-    v ← under m k
-    positive_value m 16 v
+  large_under k = under m k >>= positive_value m 16
 
   -- receiver and argument are such integers, of which the primitive has an answer
   unfoldable pub large_answer : ℕ → Step H LargeAnswer
@@ -97,6 +93,4 @@ module _ {H : Type 0} (m : ObjectMemory H) where
 
   -- 89, which is for a cache of methods: nothing is seen of it. The arguments leave, and the receiver stays as the answer.
   unfoldable pub flush_cache : ℕ → Step H Unit
-  flush_cache n = do
-    look_at_words m n
-    drop_words n
+  flush_cache n = look_at_words m n >> drop_words n

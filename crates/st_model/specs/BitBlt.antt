@@ -8,8 +8,8 @@ use Rattle.st_model.specs.Lists.{made}
 use Rattle.st_model.specs.Values.{Value}
 use Rattle.st_model.specs.Objects.{NilObject, is_words}
 use Rattle.st_model.specs.Machine.{ObjectMemory, Step, answer, ◌>>=◌, ◌>>◌}
-use Rattle.st_model.specs.Steps.{of_page, object, same_value, check, fetch_field, fetch_integer, set_units, top}
-use Rattle.st_model.specs.Primitives.{primitive, positive_small}
+use Rattle.st_model.specs.Steps.{of_page, object, same_value, check, fetch_field, fetch_integer, set_units}
+use Rattle.st_model.specs.Primitives.{of_receiver, positive_small}
 use Rattle.st_model.specs.Pixels.{pixel, combine, number_by, row_words, pixel_place}
 
 -- A Form: rows of pixels from the top, each of whole words, as they are before the copy.
@@ -111,9 +111,7 @@ module _ {H : Type 0} (m : ObjectMemory H) where
 
   -- a field that holds a SmallInteger of at least 0
   unfoldable pub fetch_positive : Value → ℕ → Step H ℕ
-  fetch_positive v i = do
-    x ← fetch_field m v i
-    positive_small x
+  fetch_positive v i = fetch_field m v i >>= positive_small
 
   -- Field 0 of a Form is its bits, field 1 its width and field 2 its height. The bits are words, at least as many as the rows have.
   unfoldable pub read_form : Value → Step H Form
@@ -139,14 +137,10 @@ module _ {H : Type 0} (m : ObjectMemory H) where
 
   -- the Form in field i of a BitBlt, or none
   unfoldable pub fetch_form : Value → ℕ → Step H (Option Form)
-  fetch_form r i = do
-    v ← fetch_field m r i
-    read_form_if_any v
+  fetch_form r i = fetch_field m r i >>= read_form_if_any
 
   unfoldable pub fetch_destination : Value → Step H Form
-  fetch_destination r = do
-    v ← fetch_field m r 0
-    read_form v
+  fetch_destination r = fetch_field m r 0 >>= read_form
 
   unfoldable pub fetch_halftone : Value → Step H (Option Form)
   fetch_halftone r = do
@@ -191,17 +185,11 @@ module _ {H : Type 0} (m : ObjectMemory H) where
 
   -- the pixels are copied that a BitBlt tells
   unfoldable pub copy_bits : Value → Step H Unit
-  copy_bits r = do
-    c ← read_copy r
-    store_painted r c
+  copy_bits r = read_copy r >>= store_painted r
 
   unfoldable pub paint_and_answer : Value → Copy → Step H Value
-  paint_and_answer r c = do
-    store_painted r c
-    answer r
+  paint_and_answer r c = store_painted r c >> answer r
 
   -- 96: the pixels are copied that the BitBlt r tells, and r is the answer
   unfoldable pub primitive_copy_bits : Step H Bool
-  primitive_copy_bits = do
-    r ← top m
-    primitive m 0 (read_copy r) (λ c. paint_and_answer r c)
+  primitive_copy_bits = of_receiver m read_copy paint_and_answer

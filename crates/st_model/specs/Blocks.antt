@@ -6,7 +6,7 @@ use Rattle.st_model.specs.Objects.{MethodContextClass, BlockContextClass, ArrayC
 use Rattle.st_model.specs.Machine.{ObjectMemory, Step, answer, tried, ◌>>=◌, ◌>>◌}
 use Rattle.st_model.specs.Steps.{of_page, class_of, same_value, check, new_object, count_fields, fetch_field, store_field, fetch_integer, transfer, get_active, get_ip, get_sp, top, under, drop_words}
 use Rattle.st_model.specs.Contexts.{home_of, switch}
-use Rattle.st_model.specs.Primitives.{primitive, taking, check_class, positive_small}
+use Rattle.st_model.specs.Primitives.{of_one, taking, check_class, positive_small}
 
 -- a block that takes as many arguments as an Array has fields
 pub record Passing : Type 0 where
@@ -60,10 +60,7 @@ module _ {H : Type 0} (m : ObjectMemory H) where
 
   -- 80: a block of the receiver's home
   unfoldable pub primitive_block_copy : Step H Bool
-  primitive_block_copy = do
-    r ← under m 1
-    a ← top m
-    primitive m 1 (home_of_block r a) (λ home. new_block home a)
+  primitive_block_copy = of_one m home_of_block (λ r a home. new_block home a)
 
   -- A block takes n arguments, and has fields for them. It gives its first instruction pointer.
   unfoldable pub start_of : Value → ℕ → Step H ℤ

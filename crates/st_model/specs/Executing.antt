@@ -20,9 +20,7 @@ use Rattle.st_model.specs.Input.{input, is_input}
 
 -- a step that goes on
 unfoldable pub goes_on : {H : Type 0} → Step H Unit → Step H Outcome
-goes_on m = do
-  m
-  answer outcome.Went
+goes_on m = m >> answer outcome.Went
 
 abbrev pub is_from : ℕ → ℕ → ℕ → Bool
 is_from first last n = nat_le first n && nat_le n last
@@ -81,9 +79,7 @@ module _ {H : Type 0} (m : ObjectMemory H) where
       if is_input primitive then or_activate call header (input m primitive call.arguments) else respond_last call header primitive
 
   unfoldable pub respond_by_extension : (ℕ → Step H Outcome) → Call → Step H Outcome
-  respond_by_extension respond call = do
-    primitive ← method_primitive m call.method
-    respond primitive
+  respond_by_extension respond call = method_primitive m call.method >>= respond
 
   -- By the header's flag: 5 answers the receiver, which stays; 6 answers the field that the temporary count names; with 7
   -- there is a header extension, and the method responds by its primitive; with all others the method is activated.
@@ -111,9 +107,7 @@ module _ {H : Type 0} (m : ObjectMemory H) where
   -- it is executed with the n arguments at the top, or the message isn't understood
   unfoldable pub execute_found : Value → Value → ℕ → Option Value → Step H Outcome
   execute_found class selector n (Some method) = execute_performed (record { method = method; arguments = n })
-  execute_found class selector n None = do
-    call ← not_understood m class selector n
-    execute_performed call
+  execute_found class selector n None = not_understood m class selector n >>= execute_performed
 
   -- the selector leaves, which has n arguments above it
   unfoldable pub drop_selector : ℕ → Step H Unit
@@ -134,9 +128,7 @@ module _ {H : Type 0} (m : ObjectMemory H) where
 
   -- where the method doesn't take n arguments, the performing method is activated
   unfoldable pub perform_if : Call → Value → Value → Value → ℕ → Step H Unit → Option Value → Bool → Step H Outcome
-  perform_if call header class selector n arrange found true = do
-    arrange
-    execute_found class selector n found
+  perform_if call header class selector n arrange found true = arrange >> execute_found class selector n found
   perform_if call header class selector n arrange found false = goes_on (activate m call.method header call.arguments)
 
   -- the selector is performed with n arguments, once these stand at the top
@@ -196,9 +188,7 @@ module _ {H : Type 0} (m : ObjectMemory H) where
 
   -- what a step calls is executed
   unfoldable pub executed : Step H Call → Step H Outcome
-  executed step = do
-    call ← step
-    execute call
+  executed step = step >>= execute
 
   unfoldable pub execute_if_any : Option Call → Step H Outcome
   execute_if_any None = answer outcome.Went
@@ -206,6 +196,4 @@ module _ {H : Type 0} (m : ObjectMemory H) where
 
   -- what a step calls is executed, if it calls anything
   unfoldable pub executed_if_any : Step H (Option Call) → Step H Outcome
-  executed_if_any step = do
-    call ← step
-    execute_if_any call
+  executed_if_any step = step >>= execute_if_any

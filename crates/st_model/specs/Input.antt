@@ -8,7 +8,7 @@ use Rattle.st_model.specs.Objects.{NilObject, FalseObject, TrueObject, is_pointe
 use Rattle.st_model.specs.Surroundings.{Hold, AddSignal, SetDue, SetLow, MoveMouse, TakeWord}
 use Rattle.st_model.specs.Machine.{ObjectMemory, Step, answer, ◌>>=◌, ◌>>◌}
 use Rattle.st_model.specs.Steps.{of_page, same_value, check, or_die, object, fetch_size, fetch_field, fetch_bytes, store_bytes, count_signals, oldest_word, get_mouse_x, get_mouse_y, get_second_clock, get_millisecond_clock, change_world, top, under}
-use Rattle.st_model.specs.Primitives.{primitive, taking, check_bytes, bits_or_die, positive_small, positive_value, number_of_bytes, number}
+use Rattle.st_model.specs.Primitives.{primitive, of_receiver, of_one, of_two, taking, check_bytes, bits_or_die, positive_small, positive_value, number_of_bytes, number}
 use Rattle.st_model.specs.Arithmetic.{new_point}
 use Rattle.st_model.specs.Processes.{check_fields}
 
@@ -22,9 +22,7 @@ pub record Place : Type 0 where
   pub y : ℕ
 
 unfoldable pub word_that_waits : {H : Type 0} → Step H ℕ
-word_that_waits = do
-  w ← oldest_word
-  or_die dead.Field w
+word_that_waits = oldest_word >>= or_die dead.Field
 
 -- of a number below 2^32, the low byte first
 abbrev pub four_bytes : ℕ → List ℕ
@@ -78,16 +76,11 @@ module _ {H : Type 0} (m : ObjectMemory H) where
     answer (record { x = x; y = y })
 
   unfoldable pub move_mouse : Value → Place → Step H Value
-  move_mouse r p = do
-    change_world m (MoveMouse p.x p.y)
-    answer r
+  move_mouse r p = change_world m (MoveMouse p.x p.y) >> answer r
 
   -- 91: the mouse is moved to a
   unfoldable pub primitive_move_mouse : Step H Bool
-  primitive_move_mouse = do
-    r ← under m 1
-    a ← top m
-    primitive m 1 (place_in a) (λ p. move_mouse r p)
+  primitive_move_mouse = of_one m (λ r a. place_in a) (λ r a p. move_mouse r p)
 
   unfoldable pub check_truth : Value → Step H Unit
   check_truth a = do
@@ -97,39 +90,26 @@ module _ {H : Type 0} (m : ObjectMemory H) where
 
   -- 92, which links the cursor to the mouse or no more: nothing is seen of it
   unfoldable pub primitive_link_cursor : Step H Bool
-  primitive_link_cursor = do
-    r ← under m 1
-    a ← top m
-    primitive m 1 (check_truth a) (λ u. answer r)
+  primitive_link_cursor = of_one m (λ r a. check_truth a) (λ r a u. answer r)
 
   -- a device holds x from now on, and the receiver is the answer
   unfoldable pub hold_and_answer : Device → Value → Value → Step H Value
-  hold_and_answer d x r = do
-    change_world m (Hold d x)
-    answer r
+  hold_and_answer d x r = change_world m (Hold d x) >> answer r
 
   -- 93: a is the semaphore that is signalled at each input word
   unfoldable pub primitive_input_semaphore : Step H Bool
-  primitive_input_semaphore = do
-    r ← under m 1
-    a ← top m
-    primitive m 1 (check_fields m a 3) (λ u. hold_and_answer device.InputSemaphore a r)
+  primitive_input_semaphore = of_one m (λ r a. check_fields m a 3) (λ r a u. hold_and_answer device.InputSemaphore a r)
 
   -- 94, which sets how often the mouse is looked at: nothing is seen of it
   unfoldable pub primitive_sample_interval : Step H Bool
-  primitive_sample_interval = do
-    r ← under m 1
-    a ← top m
-    primitive m 1 (bits_or_die a) (λ n. answer r)
+  primitive_sample_interval = of_one m (λ r a. bits_or_die a) (λ r a n. answer r)
 
   unfoldable pub take_word : ℕ → Step H Value
-  take_word w = do
-    change_world m TakeWord
-    number m w
+  take_word w = change_world m TakeWord >> number m w
 
   -- 95: the oldest input word is taken
   unfoldable pub primitive_input_word : Step H Bool
-  primitive_input_word = primitive m 0 word_that_waits (λ w. take_word w)
+  primitive_input_word = primitive m 0 word_that_waits take_word
 
   -- four bytes or more, in an object of kind Bytes
   unfoldable pub check_four_bytes : Value → Step H Unit
@@ -139,9 +119,7 @@ module _ {H : Type 0} (m : ObjectMemory H) where
     check dead.Field (nat_le 4 n)
 
   unfoldable pub store_time : Value → ℕ → Value → Step H Value
-  store_time a time r = do
-    store_bytes m a 0 (four_bytes time)
-    answer r
+  store_time a time r = store_bytes m a 0 (four_bytes time) >> answer r
 
   unfoldable pub store_seconds : Value → Value → Step H Value
   store_seconds a r = do
@@ -150,10 +128,7 @@ module _ {H : Type 0} (m : ObjectMemory H) where
 
   -- 98: the first four bytes of a become the second clock
   unfoldable pub primitive_second_clock : Step H Bool
-  primitive_second_clock = do
-    r ← under m 1
-    a ← top m
-    primitive m 1 (check_four_bytes a) (λ u. store_seconds a r)
+  primitive_second_clock = of_one m (λ r a. check_four_bytes a) (λ r a u. store_seconds a r)
 
   unfoldable pub store_milliseconds : Value → Value → Step H Value
   store_milliseconds a r = do
@@ -162,10 +137,7 @@ module _ {H : Type 0} (m : ObjectMemory H) where
 
   -- 99: the first four bytes of a become the millisecond clock
   unfoldable pub primitive_millisecond_clock : Step H Bool
-  primitive_millisecond_clock = do
-    r ← under m 1
-    a ← top m
-    primitive m 1 (check_four_bytes a) (λ u. store_milliseconds a r)
+  primitive_millisecond_clock = of_one m (λ r a. check_four_bytes a) (λ r a u. store_milliseconds a r)
 
   -- an object of kind Pointers with three fields or more can be a semaphore
   unfoldable pub can_be_signalled : Value → Step H Bool
@@ -190,37 +162,25 @@ module _ {H : Type 0} (m : ObjectMemory H) where
 
   unfoldable pub set_timer : Value → Timing → Step H Unit
   set_timer a Rings = signal_once device.Timer a
-  set_timer a (Waits time) = do
-    change_world m (Hold device.Timer a)
-    change_world m (SetDue time)
+  set_timer a (Waits time) = change_world m (Hold device.Timer a) >> change_world m (SetDue time)
   set_timer a LetsGo = do
     nil ← of_page m NilObject
     change_world m (Hold device.Timer nil)
 
   unfoldable pub set_timer_and_answer : Value → Timing → Value → Step H Value
-  set_timer_and_answer a t r = do
-    set_timer a t
-    answer r
+  set_timer_and_answer a t r = set_timer a t >> answer r
 
   -- 100: a is to be signalled once the millisecond clock is at least b
   unfoldable pub primitive_timer : Step H Bool
-  primitive_timer = do
-    r ← under m 2
-    a ← under m 1
-    b ← top m
-    primitive m 2 (timing a b) (λ t. set_timer_and_answer a t r)
+  primitive_timer = of_two m (λ r a b. timing a b) (λ r a b t. set_timer_and_answer a t r)
 
   -- 101: r is the cursor
   unfoldable pub primitive_be_cursor : Step H Bool
-  primitive_be_cursor = do
-    r ← top m
-    primitive m 0 (check_fields m r 3) (λ u. hold_and_answer device.Cursor r r)
+  primitive_be_cursor = of_receiver m (λ r. check_fields m r 3) (λ r u. hold_and_answer device.Cursor r r)
 
   -- 102: r is the display
   unfoldable pub primitive_be_display : Step H Bool
-  primitive_be_display = do
-    r ← top m
-    primitive m 0 (check_fields m r 3) (λ u. hold_and_answer device.Display r r)
+  primitive_be_display = of_receiver m (λ r. check_fields m r 3) (λ r u. hold_and_answer device.Display r r)
 
   unfoldable pub low_space : Value → Value → Value → Step H Low
   low_space a b c = do

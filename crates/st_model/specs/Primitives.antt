@@ -54,9 +54,7 @@ module _ {H : Type 0} (m : ObjectMemory H) where
 
   -- receiver and n arguments are popped, and then the answer is pushed
   unfoldable pub answer_with : ℕ → Value → Step H Unit
-  answer_with n v = do
-    pop_words (n + 1)
-    push m v
+  answer_with n v = pop_words (n + 1) >> push m v
 
   unfoldable pub succeed : {A : Type 0} → ℕ → (A → Step H Value) → Option A → Step H Bool
   succeed n effect None = answer false
@@ -68,9 +66,7 @@ module _ {H : Type 0} (m : ObjectMemory H) where
   -- A primitive of n arguments, and whether it succeeded. Its conditions are tried: where one of them would die, the primitive
   -- fails, and has changed nothing. Else its effect is made first, which gives the answer.
   unfoldable pub primitive : {A : Type 0} → ℕ → Step H A → (A → Step H Value) → Step H Bool
-  primitive n conditions effect = do
-    a ← tried conditions
-    succeed n effect a
+  primitive n conditions effect = tried conditions >>= succeed n effect
 
   -- a primitive of a receiver r alone
   abbrev pub of_receiver : {A : Type 0} → (Value → Step H A) → (Value → A → Step H Value) → Step H Bool
@@ -149,9 +145,7 @@ fixed_count specification = specification % 2048
 module _ {H : Type 0} (m : ObjectMemory H) where
   -- it is readable where the class is of kind Pointers and field 2 holds a SmallInteger
   unfoldable pub specification : Value → Step H ℕ
-  specification class = do
-    x ← fetch_field m class 2
-    bits_or_die x
+  specification class = fetch_field m class 2 >>= bits_or_die
 
   unfoldable pub fixed_of_class : Value → Step H ℕ
   fixed_of_class v = do

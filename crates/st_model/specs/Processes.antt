@@ -4,22 +4,21 @@
 -- suspended context in field 1, its priority in field 2, and the list that it is in in field 3. A semaphore is a list, with its
 -- excess signals in field 2. The scheduler has the lists of those that are ready, by priority, in field 0, and the active
 -- process in field 1.
-use Rattle.std.specs.Prelude.{ℕ, zero, suc, ◌==◌, ◌&&◌, Bool, true, false, nat_le, if◌then◌else◌, ℤ, pos, negsuc, ◌+ℤ◌, int_lt, int_le}
+use Rattle.std.specs.Prelude.{ℕ, zero, suc, ◌==◌, ◌&&◌, Bool, true, false, nat_le, if◌then◌else◌, ℤ, pos, ◌+ℤ◌, int_lt, int_le}
 use Rattle.st_model.specs.declared.dead.Dead.TheVariants as dead
 use Rattle.st_model.specs.declared.device.Device.TheVariants.{NewProcess}
 use Rattle.st_model.specs.Values.{Value, Small, small_integer}
 use Rattle.st_model.specs.Objects.{NilObject, SchedulerAssociation}
 use Rattle.st_model.specs.Surroundings.{Hold}
 use Rattle.st_model.specs.Machine.{ObjectMemory, Step, answer, die, ◌>>=◌, ◌>>◌}
-use Rattle.st_model.specs.Steps.{of_page, same_value, check, count_fields, fetch_field, store_field, fetch_integer, get_active, get_device, change_world, top}
+use Rattle.st_model.specs.Steps.{of_page, same_value, check, count_fields, fetch_field, store_field, fetch_integer, get_active, get_device, change_world}
 use Rattle.st_model.specs.Contexts.{switch}
-use Rattle.st_model.specs.Primitives.{primitive, taking}
+use Rattle.st_model.specs.Primitives.{of_receiver, taking}
 
 -- priorities count from 1
 unfoldable pub list_number : {H : Type 0} → ℤ → Step H ℕ
-list_number (pos zero) = die dead.Field
 list_number (pos (suc n)) = answer n
-list_number (negsuc n) = die dead.Field
+list_number priority = die dead.Field
 
 -- a number of these
 abbrev pub is_process : ℕ → Bool
@@ -65,12 +64,8 @@ module _ {H : Type 0} (m : ObjectMemory H) where
     store_field m p 3 l
 
   unfoldable pub unlink_first : Value → Value → Value → Bool → Step H Unit
-  unlink_first p l nil true = do
-    store_field m l 0 nil
-    store_field m l 1 nil
-  unlink_first p l nil false = do
-    next ← fetch_field m p 0
-    store_field m l 0 next
+  unlink_first p l nil true = store_field m l 0 nil >> store_field m l 1 nil
+  unlink_first p l nil false = fetch_field m p 0 >>= store_field m l 0
 
   -- the first process of the list leaves it
   unfoldable pub take_first : Value → Step H Value
@@ -102,9 +97,7 @@ module _ {H : Type 0} (m : ObjectMemory H) where
   let_wait p = change_world m (Hold NewProcess p)
 
   unfoldable pub resume_over : Value → Value → Bool → Step H Unit
-  resume_over p active true = do
-    sleep active
-    let_wait p
+  resume_over p active true = sleep active >> let_wait p
   resume_over p active false = sleep p
 
   -- p goes on in place of the active process where its priority is greater, and else it is ready
@@ -123,9 +116,7 @@ module _ {H : Type 0} (m : ObjectMemory H) where
     store_field m s 2 (small_integer (n +ℤ pos 1))
 
   unfoldable pub wake_first : Value → Step H Unit
-  wake_first s = do
-    p ← take_first s
-    resume p
+  wake_first s = take_first s >>= resume
 
   -- the semaphore's first process is resumed, or where none waits there, a signal more is in excess
   unfoldable pub signal : Value → Step H Unit
@@ -135,9 +126,7 @@ module _ {H : Type 0} (m : ObjectMemory H) where
     if same_value first nil then add_excess s else wake_first s
 
   unfoldable pub go_on_with : Value → Step H Unit
-  go_on_with l = do
-    p ← take_first l
-    let_wait p
+  go_on_with l = take_first l >>= let_wait
 
   -- of so many lists the highest that has a process gives its first one
   unfoldable pub highest_goes_on : Value → ℕ → Step H Unit
@@ -168,15 +157,11 @@ module _ {H : Type 0} (m : ObjectMemory H) where
 
   -- the context of p becomes the active one
   unfoldable pub enter_process : Value → Step H Unit
-  enter_process p = do
-    context ← fetch_field m p 1
-    switch m context
+  enter_process p = fetch_field m p 1 >>= switch m
 
   -- the machine switches to p
   unfoldable pub switch_to_process : Value → Step H Unit
-  switch_to_process p = do
-    leave_process p
-    enter_process p
+  switch_to_process p = leave_process p >> enter_process p
 
   -- primitives
 
@@ -187,20 +172,14 @@ module _ {H : Type 0} (m : ObjectMemory H) where
     check dead.Field (nat_le n count)
 
   unfoldable pub signal_and_answer : Value → Step H Value
-  signal_and_answer r = do
-    signal r
-    answer r
+  signal_and_answer r = signal r >> answer r
 
   -- 85: r is signalled
   unfoldable pub primitive_signal : Step H Bool
-  primitive_signal = do
-    r ← top m
-    primitive m 0 (check_fields r 3) (λ u. signal_and_answer r)
+  primitive_signal = of_receiver m (λ r. check_fields r 3) (λ r u. signal_and_answer r)
 
   unfoldable pub excess_of : Value → Step H ℤ
-  excess_of r = do
-    check_fields r 3
-    fetch_integer m r 2
+  excess_of r = check_fields r 3 >> fetch_integer m r 2
 
   unfoldable pub wait_in : Value → Step H Unit
   wait_in r = do
@@ -211,30 +190,21 @@ module _ {H : Type 0} (m : ObjectMemory H) where
   -- a signal in excess is taken, or where there is none, the active process waits
   unfoldable pub take_excess : Value → ℤ → Step H Unit
   take_excess r (pos (suc n)) = store_field m r 2 (Small n)
-  take_excess r (pos zero) = wait_in r
-  take_excess r (negsuc n) = wait_in r
+  take_excess r excess = wait_in r
 
   unfoldable pub wait_and_answer : Value → ℤ → Step H Value
-  wait_and_answer r n = do
-    take_excess r n
-    answer r
+  wait_and_answer r n = take_excess r n >> answer r
 
   -- 86: the active process waits for a signal of r
   unfoldable pub primitive_wait : Step H Bool
-  primitive_wait = do
-    r ← top m
-    primitive m 0 (excess_of r) (λ n. wait_and_answer r n)
+  primitive_wait = of_receiver m excess_of wait_and_answer
 
   unfoldable pub resume_and_answer : Value → Step H Value
-  resume_and_answer r = do
-    resume r
-    answer r
+  resume_and_answer r = resume r >> answer r
 
   -- 87: r is resumed
   unfoldable pub primitive_resume : Step H Bool
-  primitive_resume = do
-    r ← top m
-    primitive m 0 (check_fields r 4) (λ u. resume_and_answer r)
+  primitive_resume = of_receiver m (λ r. check_fields r 4) (λ r u. resume_and_answer r)
 
   unfoldable pub check_active : Value → Step H Unit
   check_active r = do
@@ -242,15 +212,11 @@ module _ {H : Type 0} (m : ObjectMemory H) where
     check dead.Kind (same_value r p)
 
   unfoldable pub suspend_and_answer : Step H Value
-  suspend_and_answer = do
-    suspend
-    of_page m NilObject
+  suspend_and_answer = suspend >> of_page m NilObject
 
   -- 88: r, which is active, is suspended
   unfoldable pub primitive_suspend : Step H Bool
-  primitive_suspend = do
-    r ← top m
-    primitive m 0 (check_active r) (λ u. suspend_and_answer)
+  primitive_suspend = of_receiver m check_active (λ r u. suspend_and_answer)
 
   -- the primitives of this file by their numbers, each with its number of arguments
   unfoldable pub processes : ℕ → ℕ → Step H Bool
