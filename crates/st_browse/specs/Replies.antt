@@ -7,6 +7,7 @@ use Rattle.st_model.specs.Values.{Value, Small, Ref}
 use Rattle.st_model.specs.Objects.{Object, first_unit}
 use Rattle.st_model.specs.Table.{Table, entry}
 use Rattle.st_model.specs.Text.{numbers_text, object_text, escaped}
+use Rattle.st_chunk.specs.Groups.{side_text}
 use Rattle.st_browse.specs.Naming.{Named}
 use Rattle.st_browse.specs.Classes.{classes, class_named, on_side}
 use Rattle.st_browse.specs.Methods.{methods}
@@ -59,10 +60,6 @@ abbrev pub bytecodes_text : Object → List ℕ
 bytecodes_text o = count_text (codes "bytecodes") (length (codes_of o.units)) ++ codes_text (first_unit o + 1) (codes_of o.units)
 
 -- SENDERS
-
-abbrev pub side_text : (meta : Bool) → List ℕ
-side_text false = []
-side_text true = codes " class"
 
 abbrev pub sender_line : List ℕ → (meta : Bool) → List ℕ → List ℕ
 sender_line class meta selector = codes "sender " ++ (escaped class ++ (side_text meta ++ (codes " " ++ (escaped selector ++ codes "\n"))))

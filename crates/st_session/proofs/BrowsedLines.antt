@@ -12,12 +12,13 @@ use Rattle.st_model.specs.Text.{value_text, values_text, numbers_text, kind_text
 use Rattle.st_model.specs.View.{View, object_of}
 use Rattle.st_model.specs.BitBlt.{Form}
 use Rattle.st_chunk.specs.Asks.{Side, Ask, Object as AsksObject, Display, Classes, Methods, Source, Bytecodes, Senders, Until}
+use Rattle.st_chunk.specs.Groups.{side_text}
 use Rattle.st_browse.specs.Naming.{Named}
 use Rattle.st_browse.specs.Classes.{classes}
 use Rattle.st_browse.specs.Methods.{methods, has_method, method_named}
 use Rattle.st_browse.specs.Cutting.{codes_of}
 use Rattle.st_browse.specs.Display.{form_at, if_held, row_of, word_text, row_line, rows_text, form_text, display_reply}
-use Rattle.st_browse.specs.Replies.{count_text, object_reply, name_line, classes_text, methods_text, code_line, codes_text, bytecodes_text, side_text, sender_line, senders_lines, senders_on, senders_count, both_lines, senders_text}
+use Rattle.st_browse.specs.Replies.{count_text, object_reply, name_line, classes_text, methods_text, code_line, codes_text, bytecodes_text, sender_line, senders_lines, senders_on, senders_count, both_lines, senders_text}
 use Rattle.st_browse.specs.Sources.{lines_of, source_line, source_text}
 use Rattle.st_browse.specs.Asked.{class_of_side, bytecodes_of, bytecodes_in, source_in, reply}
 use Rattle.st_protocol.specs.Acknowledged.{counts, IsLines}
@@ -25,7 +26,7 @@ use Rattle.st_protocol.proofs.Lawful.{lines_both}
 use Rattle.st_install.proofs.Selectors.{IsInLine, both_in_line}
 use Rattle.st_call.specs.Replies.{missing_text}
 use Rattle.st_session.specs.Browsing.{asked_text}
-use Rattle.st_session.proofs.WholeLines.{one_line, no_text, put, hexadecimal_in_line, ends, behind, decimal_in_line, value_in_line, values_in_line, numbers_in_line, numbers_lines, escaped_in_line}
+use Rattle.st_session.proofs.WholeLines.{one_line, no_text, put, hexadecimal_in_line, ends, behind, decimal_in_line, value_in_line, values_in_line, numbers_in_line, numbers_lines, escaped_in_line, side_in_line}
 
 -- LINES
 
@@ -169,17 +170,13 @@ source_said t selector text class = then_there (λ n. option_map source_text tex
 
 -- SENDERS
 
-meta_in_line : (meta : Bool) → IsInLine (side_text meta)
-meta_in_line true = refl
-meta_in_line false = refl
-
 sender_lines : (class : List ℕ) (meta : Bool) (selector : List ℕ) → IsLines 0 (sender_line class meta selector)
 sender_lines class meta selector =
     let last = escaped selector ++ codes "\n" in
     let sided = side_text meta ++ (codes " " ++ last) in
     one_line 0 (sender_line class meta selector)
     (behind (codes "sender ") (escaped class ++ sided) refl (behind (escaped class) sided (escaped_in_line class)
-    (behind (side_text meta) (codes " " ++ last) (meta_in_line meta) (behind (codes " ") last refl (behind (escaped selector) (codes "\n") (escaped_in_line selector) ends))))) refl
+    (behind (side_text meta) (codes " " ++ last) (side_in_line meta) (behind (codes " ") last refl (behind (escaped selector) (codes "\n") (escaped_in_line selector) ends))))) refl
 
 one_side : (t : Table) (selector : List ℕ) (class : Named) (meta : Bool) → IsLines 0 (senders_lines t selector class meta)
 one_side t selector class meta = all_lines (λ n. sender_line class.name meta n.name) (senders_on t selector class meta) (λ n. sender_lines class.name meta n.name)

@@ -74,11 +74,19 @@ performs m receiver selector n arrange = do
   fits ← takes m n found
   perform_if_fits m class selector n arrange found fits
 
+-- with the n arguments above the selector, which leaves
+abbrev pub performs_above : {H : Type 0} → ObjectMemory H → Value → Value → ℕ → Step H (Option Outcome)
+performs_above m receiver selector n = performs m receiver selector n (drop_selector m n)
+
+-- with the n fields of an Array, which take the places of selector and Array
+abbrev pub performs_fields : {H : Type 0} → ObjectMemory H → Value → Value → Value → ℕ → Step H (Option Outcome)
+performs_fields m receiver selector array n = performs m receiver selector n (spread_array m array n)
+
 unfoldable pub performs_first : {H : Type 0} → ObjectMemory H → ℕ → Step H (Option Outcome)
 performs_first m n = do
   r ← under m (n + 1)
   a ← under m n
-  performs m r a n (drop_selector m n)
+  performs_above m r a n
 
 -- 83: the first argument is performed with the others
 unfoldable pub performs_selector : {H : Type 0} → ObjectMemory H → ℕ → Step H (Option Outcome)
@@ -87,7 +95,7 @@ performs_selector m zero = answer None
 
 unfoldable pub performs_spread : {H : Type 0} → ObjectMemory H → Value → Value → Value → Option ℕ → Step H (Option Outcome)
 performs_spread m r a b None = answer None
-performs_spread m r a b (Some n) = performs m r a n (spread_array m b n)
+performs_spread m r a b (Some n) = performs_fields m r a b n
 
 -- 84: the first argument is performed with the fields of the second
 unfoldable pub performs_with : {H : Type 0} → ObjectMemory H → Step H (Option Outcome)
