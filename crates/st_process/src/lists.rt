@@ -24,14 +24,14 @@ pub fn is_empty<O: Objects>(m: &O, list: Word) -> Result<bool, Dead>
 
 /// Links a process behind the last one of a list, or where its first one is nil, as the first.
 #[tactic(auto, using(st_frames::proofs::Doing::rows, st_frames::proofs::Doing::pages), unfolding(st_model::specs::Processes::link_first))]
-fn link_first<O: Objects>(m: &mut O, r: &Registers, listed: Listed, first: Word) -> Result<(), Dead>
+fn link_first<O: Objects>(m: &mut O, r: &Registers, p: Listed, first: Word) -> Result<(), Dead>
     requires room { 1 ≤ O.room m.old }
     ensures does { RowDoes O.Objects.own
-        (link_first O.names (word listed.process) (word listed.list)
+        (link_first O.names (word p.process) (word p.list)
         (same_value (word first) (Ref (place_of NilObject)))) itself m.old r.now result m.new r.now }
     ensures takes { Takes O.Objects.own 1 m.old m.new }
 {
-    let Listed { process, list } = listed;
+    let Listed { process, list } = p;
     if first.same(page(m, PageObject::NilObject)) {
         m.store_field(list, 0, process)
     } else {
@@ -56,19 +56,14 @@ pub fn add_last<O: Objects>(m: &mut O, r: &Registers, process: Word, list: Word)
 
 /// The first process of a list, which has this last one, leaves it to the one behind it.
 #[tactic(auto, using(st_frames::proofs::Doing::rows, st_frames::proofs::Doing::pages), unfolding(st_model::specs::Processes::unlink_first))]
-fn unlink_first<O: Objects>(
-    m: &mut O,
-    r: &Registers,
-    listed: Listed,
-    last: Word,
-) -> Result<(), Dead>
+fn unlink_first<O: Objects>(m: &mut O, r: &Registers, p: Listed, last: Word) -> Result<(), Dead>
     requires room { 2 ≤ O.room m.old }
     ensures does { RowDoes O.Objects.own
-        (unlink_first O.names (word listed.process) (word listed.list) (Ref (place_of NilObject))
-        (same_value (word last) (word listed.process))) itself m.old r.now result m.new r.now }
+        (unlink_first O.names (word p.process) (word p.list) (Ref (place_of NilObject))
+        (same_value (word last) (word p.process))) itself m.old r.now result m.new r.now }
     ensures takes { Takes O.Objects.own 2 m.old m.new }
 {
-    let Listed { process, list } = listed;
+    let Listed { process, list } = p;
     if last.same(process) {
         let nil = page(m, PageObject::NilObject);
         m.store_field(list, 0, nil)?;

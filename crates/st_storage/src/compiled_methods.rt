@@ -3,7 +3,7 @@
 ghost use Rattle.std.specs.Prelude.{◌≡◌, ◌<◌, ◌≤◌, ◌+◌, ◌-◌, ◌^◌, Ok, IfOk, false};
 ghost use Rattle.st_model.specs.Values.{word};
 ghost use Rattle.st_model.specs.Calls.{itself};
-ghost use Rattle.st_model.specs.Storage.{method_place, place_in_method, header_or_literal, primitive_object_at, check_header, place_to_store, store_in_method, primitive_object_at_put, method_words, method_shape, new_method, primitive_new_method};
+ghost use Rattle.st_model.specs.Storage.{place_in_method, header_or_literal, primitive_object_at, check_header, place_to_store, store_in_method, primitive_object_at_put, method_words, method_shape, new_method, primitive_new_method};
 ghost use Rattle.st_model.specs.Steps.{store_method_field};
 ghost use Rattle.st_frames.specs.Answering.{succeed_by, answer_word, answer_deed, no_word};
 ghost use Rattle.st_storage.specs.Storing.{method_shape_in};
@@ -20,13 +20,14 @@ use st_frames::{
 use st_memory::Objects;
 use st_model::{Dead, Deed, Kind, PageObject, Tried, Word};
 
-/// The field that index i names in a Method.
-#[tactic(auto, using(st_frames::proofs::Doing::checks), unfolding(st_model::specs::Storage::method_place))]
-fn method_place<O: Objects>(m: &O, r: &Registers, method: Word, i: u32) -> Result<u32, Dead>
-    ensures does { RowReads O.Objects.own (method_place O.names (word method) i)
+/// The field that a word names in a Method.
+#[tactic(auto, using(st_frames::proofs::Doing::checks), unfolding(st_model::specs::Storage::place_in_method, st_model::specs::Storage::method_place))]
+fn place_in_method<O: Objects>(m: &O, r: &Registers, x: Indexed) -> Result<u32, Dead>
+    ensures does { RowReads O.Objects.own (place_in_method O.names (word x.object) (word x.index))
         itself m.now r.now result }
 {
-    let n = count_literals(m, r, method)?;
+    let i = positive_small(m, r, x.index)?;
+    let n = count_literals(m, r, x.object)?;
     if i < 1 {
         return Err(Dead::Field);
     }
@@ -34,16 +35,6 @@ fn method_place<O: Objects>(m: &O, r: &Registers, method: Word, i: u32) -> Resul
         return Err(Dead::Field);
     }
     Ok(i - 1)
-}
-
-/// The field that a word names in a Method.
-#[tactic(auto, using(st_frames::proofs::Doing::rows), unfolding(st_model::specs::Storage::place_in_method))]
-fn place_in_method<O: Objects>(m: &O, r: &Registers, x: Indexed) -> Result<u32, Dead>
-    ensures does { RowReads O.Objects.own (place_in_method O.names (word x.object) (word x.index))
-        itself m.now r.now result }
-{
-    let i = positive_small(m, r, x.index)?;
-    method_place(m, r, x.object, i)
 }
 
 /// The header or literal that a word names in a Method.
