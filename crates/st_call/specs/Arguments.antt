@@ -1,7 +1,6 @@
 -- The words behind a command: its operands, and its options with their values.
-use Rattle.std.specs.Prelude.{ℕ, ◌==◌, Bool, false, ◌&&◌, nat_eq, nat_le, List, [], ◌∷◌, ◌++◌, length, codes, Option, Some, None, option_map, option_and_then, if◌then◌else◌}
+use Rattle.std.specs.Prelude.{ℕ, ◌==◌, Bool, false, ◌&&◌, bytes_eq, nat_le, List, [], ◌∷◌, ◌++◌, length, codes, Option, Some, None, option_map, option_and_then, if◌then◌else◌}
 use Rattle.std.specs.List.{position_or_len, before_first, after_first}
-use Rattle.std.specs.Cmp.Lexicographic.{pointwise}
 use Rattle.st_image.specs.declared.head.HeadValues.{HeadValues}
 use Rattle.st_chunk.specs.Lines.{number}
 use Rattle.st_call.specs.declared.arguments.Next.{Next}
@@ -10,19 +9,15 @@ use Rattle.st_call.specs.declared.arguments.Setting.{Setting}
 use Rattle.st_call.specs.declared.arguments.Setting.TheVariants.{Globals, Symbols, Entries, Words}
 use Rattle.st_image.specs.HeadValues.{no_values}
 
--- the word is this one
-abbrev pub spells : List ℕ → List ℕ → Bool
-spells w v = pointwise nat_eq w v
-
 -- OPTIONS
 
 -- the option of this name
 abbrev pub setting_named : List ℕ → Option Setting
 setting_named w =
-    if spells w (codes "--globals") then Some Globals else
-    if spells w (codes "--symbols") then Some Symbols else
-    if spells w (codes "--entries") then Some Entries else
-    if spells w (codes "--words") then Some Words else None
+    if bytes_eq w (codes "--globals") then Some Globals else
+    if bytes_eq w (codes "--symbols") then Some Symbols else
+    if bytes_eq w (codes "--entries") then Some Entries else
+    if bytes_eq w (codes "--words") then Some Words else None
 
 -- the value that it has so far
 abbrev pub value_of : Setting → HeadValues → Option ℕ
@@ -78,7 +73,7 @@ is_option (b ∷ bs) = (b == 45) && nat_le 1 (length bs)
 -- behind -- all are operands
 abbrev pub with_any : Arguments → List ℕ → Option Arguments
 with_any a w =
-    if spells w (codes "--") then Some (record a { next = Operand }) else
+    if bytes_eq w (codes "--") then Some (record a { next = Operand }) else
     if is_option w then with_option a w else with_operand a w
 
 abbrev pub with_next : Next → Arguments → List ℕ → Option Arguments
