@@ -111,7 +111,6 @@ fn make_firm<H: Host>(
 }
 
 /// Syncs the roots file and reads the root that it chooses, and then syncs and tests what this names.
-#[tactic(auto, using(crate::proofs::Looking::looks))]
 fn seek<H: Host>(host: &mut H, names: &Names) -> Result<Chosen, StoreFault>
     ensures number { IfOk result (λ r. r.number ≤ 1) }
     ensures sound { IfOk result (λ r. IsSound r.root) }
@@ -137,7 +136,6 @@ fn seek<H: Host>(host: &mut H, names: &Names) -> Result<Chosen, StoreFault>
 
 /// Writes the root that isn't chosen as a copy of the chosen one, and the gate afresh. Where no stop leaves another root
 /// chosen and what this one names is firm, it stays so at each moment.
-#[tactic(auto, using(crate::proofs::Looking::looks))]
 fn freshen<H: Host>(host: &mut H, names: &Names, number: u64, root: &Root) -> Result<(), HostFault>
     requires { number ≤ 1 }
     ensures makes { let name = string_bytes names.now.name in (c : Stored) → IsTrue H.is_told
