@@ -1,26 +1,21 @@
-use Rattle.std.proofs.Common.{List, ℕ, IsTrue, subst, ap, arith}
+use Rattle.std.proofs.Common.{List, ℕ, IsTrue, subst, ap}
 use Rattle.std.specs.Prelude.{◌↔◌}
 use Rattle.st_host.specs.Files.{bytes_of}
-use Rattle.st_host.proofs.Joining.{reads_narrow, alike_join, synced_on}
-use Rattle.st_host.proofs.Touching.{sync_changes}
+use Rattle.st_host.proofs.Joining.{reads_narrow, narrows_join, alike_join, synced_on}
+use Rattle.st_host.proofs.Touching.{sync_changes, changes_join}
 use Rattle.st_store.specs.Roots.{HasLetters}
 use Rattle.st_store.proofs.Causes.{cause_of_call}
 use Rattle.st_store.proofs.Fronts.{letters_found}
-use Rattle.st_store.proofs.Looking.{looks_at}
 use Rattle.st_store.proofs.create.find_store.Goals as goal
 
 pub returns-in_err-sync_file-clause-only : goal.returns-in_err-sync_file-clause-only
 returns-in_err-sync_file-clause-only g c = sync_changes g.H.Host _ _ _ c.sync_file.ensures.syncs
 
-pub returns-in_err-sync_file-clause-cause : goal.returns-in_err-sync_file-clause-cause
-returns-in_err-sync_file-clause-cause g c =
-    cause_of_call (g.H.Host.disk_faults c.args.host.now) (g.H.Host.disk_faults c.args.host.now) (g.H.Host.disk_faults c.sync_file.new.host) c.sync_file.result c.in_err-sync_file.field-0.0 _ (omega arith) c.in_err-sync_file.was c.sync_file.ensures.cause
-
 pub returns-in_err-count-clause-narrows : goal.returns-in_err-count-clause-narrows
-returns-in_err-count-clause-narrows g c = (looks_at g.H.Host _ _ _ _ c.sync_file.ensures.narrows c.sync_file.ensures.syncs c.in_ok-sync_file.ensures.synced c.read_from.ensures.reads c.read_from.ensures.changes).narrows
+returns-in_err-count-clause-narrows g c = narrows_join g.H.Host _ _ _ c.sync_file.ensures.narrows (reads_narrow g.H.Host _ _ c.read_from.ensures.reads)
 
 pub returns-in_err-count-clause-only : goal.returns-in_err-count-clause-only
-returns-in_err-count-clause-only g c = (looks_at g.H.Host _ _ _ _ c.sync_file.ensures.narrows c.sync_file.ensures.syncs c.in_ok-sync_file.ensures.synced c.read_from.ensures.reads c.read_from.ensures.changes).only
+returns-in_err-count-clause-only g c = changes_join g.H.Host _ _ _ _ (sync_changes g.H.Host _ _ _ c.sync_file.ensures.syncs) c.read_from.ensures.changes
 
 pub returns-in_err-count-clause-cause : goal.returns-in_err-count-clause-cause
 returns-in_err-count-clause-cause g c =
@@ -40,7 +35,7 @@ pub returns-clause-alike : goal.returns-clause-alike
 returns-clause-alike g c = alike_join g.H.Host _ _ _ c.in_ok-sync_file.ensures.alike c.in_ok-count.ensures.alike
 
 pub returns-clause-narrows : goal.returns-clause-narrows
-returns-clause-narrows g c = (looks_at g.H.Host _ _ _ _ c.sync_file.ensures.narrows c.sync_file.ensures.syncs c.in_ok-sync_file.ensures.synced c.read_from.ensures.reads c.read_from.ensures.changes).narrows
+returns-clause-narrows g c = narrows_join g.H.Host _ _ _ c.sync_file.ensures.narrows (reads_narrow g.H.Host _ _ c.read_from.ensures.reads)
 
 pub returns-clause-only : goal.returns-clause-only
-returns-clause-only g c = (looks_at g.H.Host _ _ _ _ c.sync_file.ensures.narrows c.sync_file.ensures.syncs c.in_ok-sync_file.ensures.synced c.read_from.ensures.reads c.read_from.ensures.changes).only
+returns-clause-only g c = changes_join g.H.Host _ _ _ _ (sync_changes g.H.Host _ _ _ c.sync_file.ensures.syncs) c.read_from.ensures.changes

@@ -1,10 +1,8 @@
-use Rattle.std.proofs.Common.{string_bytes, subst}
+use Rattle.std.proofs.Common.{string_bytes}
 use Rattle.st_host.proofs.Joining.{makes_then, makes_of}
 use Rattle.st_host.proofs.Touching.{changes_join}
 use Rattle.st_store.specs.Names.{roots_file}
-use Rattle.st_store.specs.Roots.{IsFresh}
 use Rattle.st_store.specs.Stored.{Opens}
-use Rattle.st_store.specs.declared.root.Root.{Root}
 use Rattle.st_store.proofs.Causes.{cause_of_call}
 use Rattle.st_store.proofs.Opening.{freshly}
 use Rattle.st_store.proofs.open.freshen.Goals as goal
@@ -38,12 +36,10 @@ returns-clause-chosen g c x told chosen is = c.in_ok-turn.ensures.same x told (c
 
 pub returns-clause-fresh : goal.returns-clause-fresh
 returns-clause-fresh g c x told chosen is =
-    let H = g.H.Host in
     let roots = roots_file (string_bytes c.args.names.now.name) in
     let staged = c.in_ok-stage.ensures.staged x x told chosen chosen.firm is in
-    subst (λ (r : Root). IsFresh c.args.number r (H.files c.turn.new.host roots)) is
-    (freshly H (string_bytes c.args.names.now.name) _ _ c.args.number x (g.met.H.Host.read_counts _ roots told) staged (g.met.H.Host.read_counts _ roots told)
-    (c.in_ok-turn.ensures.same x told staged) (c.in_ok-turn.ensures.written told))
+    freshly g.H.Host (string_bytes c.args.names.now.name) _ _ c.args.number x (g.met.H.Host.read_counts _ roots told) staged (g.met.H.Host.read_counts _ roots told)
+    (c.in_ok-turn.ensures.same x told staged) (c.in_ok-turn.ensures.written told)
 
 pub returns-clause-changes : goal.returns-clause-changes
 returns-clause-changes g c = changes_join g.H.Host _ _ _ _ c.stage.ensures.changes c.turn.ensures.changes
