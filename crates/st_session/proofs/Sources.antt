@@ -17,25 +17,25 @@ use Rattle.st_browse.specs.Decompiling.{IsKeptOrMade, IsShown}
 use Rattle.st_session.specs.Decompiled.{made_text}
 use Rattle.st_session.proofs.Written.{made_is}
 use Rattle.st_grammar.specs.Syntax.{syntax}
-use Rattle.st_session.specs.Sources.{selector_of, is_named, is_of, last_text, shown_text, text_for}
+use Rattle.st_session.specs.Sources.{is_named, is_of, last_text, shown_text, text_for}
 use Rattle.st_changes.proofs.KeptLast.{all_cons}
 use Rattle.st_changes.proofs.Lasts.{none_of}
 
 -- THE SELECTOR
 
-by_tree : (selector text : List ℕ) (r : Result MethodView Fault) → syntax text ≡ r → is_named selector (selector_of r) ≡ true → HasSelector text selector
+by_tree : (selector text : List ℕ) (r : Result MethodView Fault) → syntax text ≡ r → is_named selector r ≡ true → HasSelector text selector
 by_tree selector text (Ok tree) means e = record { tree = tree; means = means; is = (bytes_decides tree.selector selector).0 e }
 by_tree selector text (Err f) first e = cc
 
-named : (selector text : List ℕ) → HasSelector text selector → is_named selector (selector_of (syntax text)) ≡ true
+named : (selector text : List ℕ) → HasSelector text selector → is_named selector (syntax text) ≡ true
 named selector text h =
-    ap (λ (r : Result MethodView Fault). is_named selector (selector_of r)) h.means ∙ (bytes_decides h.tree.selector selector).1 h.is
+    ap (λ (r : Result MethodView Fault). is_named selector r) h.means ∙ (bytes_decides h.tree.selector selector).1 h.is
 
 -- ONE DEFINITION
 
 module _ (side : Side) (selector : List ℕ) (d : Definition) where
   test : Bool
-  test = is_named selector (selector_of (syntax d.text))
+  test = is_named selector (syntax d.text)
 
   meets : is_of side selector d ≡ true → IsOf side.class side.meta selector d
   unfolding test

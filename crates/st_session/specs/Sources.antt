@@ -10,18 +10,14 @@ use Rattle.st_chunk.specs.Asks.{Side, Ask, Source}
 use Rattle.st_grammar.specs.Syntax.{syntax}
 use Rattle.st_session.specs.Decompiled.{made_text}
 
--- the selector of a method's tree, if there is one
-abbrev pub selector_of : Result MethodView Fault → Option (List ℕ)
-selector_of (Ok tree) = Some tree.selector
-selector_of (Err fault) = None
-
-abbrev pub is_named : List ℕ → Option (List ℕ) → Bool
-is_named selector None = false
-is_named selector (Some name) = bytes_eq name selector
+-- a text means a tree of this selector
+abbrev pub is_named : List ℕ → Result MethodView Fault → Bool
+is_named selector (Ok tree) = bytes_eq tree.selector selector
+is_named selector (Err fault) = false
 
 -- a definition of this class, this side of it and this selector
 abbrev pub is_of : Side → List ℕ → Definition → Bool
-is_of side selector d = bytes_eq d.class side.class && (beq d.meta side.meta && is_named selector (selector_of (syntax d.text)))
+is_of side selector d = bytes_eq d.class side.class && (beq d.meta side.meta && is_named selector (syntax d.text))
 
 -- the text of the last of these definitions that is of this class, this side of it and this selector
 abbrev pub last_text : List Definition → Side → List ℕ → Option (List ℕ)

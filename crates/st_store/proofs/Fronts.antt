@@ -1,5 +1,5 @@
 -- The first bytes of a roots file tell what the file chooses, or where it is wrong.
-use Rattle.std.proofs.Common.{◌≡◌, inl, inr, ⊎_elim, ℕ, ◌+◌, ◌%◌, ◌<◌, ◌≤◌, min, List, length, take, drop, slice_index, Option, Some, refl, sym, subst, ◌∙◌, ap, arith, lit<, length-take}
+use Rattle.std.proofs.Common.{◌≡◌, inl, inr, ⊎_elim, ℕ, ◌+◌, ◌%◌, ◌<◌, ◌≤◌, min, List, length, take, drop, slice_index, Option, Some, unwrap_or, refl, sym, subst, ◌∙◌, ap, arith, lit<, length-take}
 use Rattle.std.proofs.Math.Nat.{mod-lt}
 use Rattle.std.proofs.lemmas.List.{get_or-take, get_or-drop, get_or_past}
 use Rattle.std.proofs.lemmas.Bool.{cases_lt}
@@ -14,6 +14,11 @@ use Rattle.st_store.proofs.Bytes.{root_same}
 pub is_there : (l : Option ℕ) (file : Option (List ℕ)) → l ≡ length_of file → IsSome l → IsSome file
 is_there l None is some = subst IsSome is some
 is_there l (Some bytes) is some = refl
+
+-- the length of a file, and 0 where it is absent
+pub length_read : (l : Option ℕ) (now was : Option (List ℕ)) → l ≡ length_of now → now ≡ was → unwrap_or l 0 ≡ length (bytes_of was)
+length_read l now None is same = ap (λ (x : Option ℕ). unwrap_or x 0) (is ∙ ap length_of same)
+length_read l now (Some bytes) is same = ap (λ (x : Option ℕ). unwrap_or x 0) (is ∙ ap length_of same)
 
 module _ (file : List ℕ) (k : ℕ) (into : List ℕ) (long : length into ≡ 80) (read : IsRead file 0 k into) where
   front_long : length (take k into) ≡ min 80 (length file)

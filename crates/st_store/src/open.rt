@@ -27,7 +27,6 @@ fn damaged(at: u64) -> StoreFault
 }
 
 /// Syncs the roots file, and reads the root that it chooses.
-#[tactic(auto, using(crate::proofs::Looking::looks))]
 fn look<H: Host>(host: &mut H, roots: &str) -> Result<Chosen, StoreFault>
     ensures number { IfOk result (λ r. r.number ≤ 1) }
     ensures slot { IfOk result (λ r. r.root.slot ≤ 3) }
@@ -46,11 +45,11 @@ fn look<H: Host>(host: &mut H, roots: &str) -> Result<Chosen, StoreFault>
 {
     sync_file(host, roots)?;
     let length = file_length(host, roots)?;
-    let mut front = [0; 80];
-    let count = read_from(host, roots, 0, &mut front)?;
     if length.is_none() {
         return Err(StoreFault::Missing);
     }
+    let mut front = [0; 80];
+    let count = read_from(host, roots, 0, &mut front)?;
     match choose(&front[..count]) {
         Ok(chosen) => Ok(chosen),
         Err(at) => Err(damaged(at)),
@@ -78,7 +77,6 @@ fn find_wrong_number(chosen: &Chosen, image: u64, changes: u64) -> Option<u64>
 }
 
 /// Syncs the files that a root names, and tests it against their lengths.
-#[tactic(auto, using(crate::proofs::Looking::looks))]
 fn make_firm<H: Host>(
     host: &mut H,
     image: &str,
