@@ -81,21 +81,15 @@ module _ {H : Type 0} (m : ObjectMemory H) where
 
   -- 0 to 95
   unfoldable pub push_operand : Operand → Step H Unit
-  push_operand operand = do
-    x ← fetch_operand operand
-    push m x
+  push_operand operand = fetch_operand operand >>= push m
 
   -- 96 to 111
   unfoldable pub store_and_pop : Operand → Step H Unit
-  store_and_pop operand = do
-    x ← pop m
-    store_operand operand x
+  store_and_pop operand = pop m >>= store_operand operand
 
   -- 112
   unfoldable pub push_receiver : Step H Unit
-  push_receiver = do
-    receiver ← get_receiver
-    push m receiver
+  push_receiver = get_receiver >>= push m
 
   -- a SmallInteger stands by its 15 bits, so that -1 is 32767
   unfoldable pub constant_value : Constant → Step H Value
@@ -109,9 +103,7 @@ module _ {H : Type 0} (m : ObjectMemory H) where
 
   -- 113 to 119
   unfoldable pub push_constant : Constant → Step H Unit
-  push_constant c = do
-    x ← constant_value c
-    push m x
+  push_constant c = constant_value c >>= push m
 
   -- 128
   unfoldable pub extended_push : Step H Unit
@@ -140,15 +132,11 @@ module _ {H : Type 0} (m : ObjectMemory H) where
 
   -- 136
   unfoldable pub duplicate_top : Step H Unit
-  duplicate_top = do
-    x ← top m
-    push m x
+  duplicate_top = top m >>= push m
 
   -- 137
   unfoldable pub push_active_context : Step H Unit
-  push_active_context = do
-    c ← get_active
-    push m c
+  push_active_context = get_active >>= push m
 
   -- 160 to 167
   unfoldable pub long_unconditional_jump : ℕ → Step H Unit
@@ -195,27 +183,19 @@ module _ {H : Type 0} (m : ObjectMemory H) where
 
   -- 120
   unfoldable pub return_receiver : Step H (Option Call)
-  return_receiver = do
-    receiver ← get_receiver
-    return_to_sender m receiver
+  return_receiver = get_receiver >>= return_to_sender m
 
   -- 121 to 123
   unfoldable pub return_constant : Constant → Step H (Option Call)
-  return_constant c = do
-    x ← constant_value c
-    return_to_sender m x
+  return_constant c = constant_value c >>= return_to_sender m
 
   -- 124
   unfoldable pub return_top_to_sender : Step H (Option Call)
-  return_top_to_sender = do
-    x ← pop m
-    return_to_sender m x
+  return_top_to_sender = pop m >>= return_to_sender m
 
   -- 125
   unfoldable pub return_top_to_caller : Step H (Option Call)
-  return_top_to_caller = do
-    x ← pop m
-    return_to_caller m x
+  return_top_to_caller = pop m >>= return_to_caller m
 
   -- 152 to 159
   unfoldable pub short_jump_on_false : ℕ → Step H (Option Call)
@@ -245,9 +225,7 @@ module _ {H : Type 0} (m : ObjectMemory H) where
   arithmetic_by k (Ref n) = executed m (special_send m k)
 
   unfoldable pub arithmetic_send : ℕ → Step H Outcome
-  arithmetic_send k = do
-    receiver ← under m 1
-    arithmetic_by k receiver
+  arithmetic_send k = under m 1 >>= arithmetic_by k
 
   -- 198 and 199: the primitives 110 and 111 are done. 200 tries 80, and 201 and 202 try 81 with no argument and with one.
   unfoldable pub primitive_send : ℕ → Step H Outcome

@@ -14,9 +14,7 @@ module _ {H : Type 0} (m : ObjectMemory H) where
   home_by c (Ref n) = answer c
 
   unfoldable pub home_of : Value → Step H Value
-  home_of c = do
-    method ← fetch_field m c 3
-    home_by c method
+  home_of c = fetch_field m c 3 >>= home_by c
 
   -- a stack pointer from 5, for an empty stack, to the last field, and at most 16388
   unfoldable pub stack_place : Value → ℤ → Step H ℕ
@@ -46,9 +44,7 @@ module _ {H : Type 0} (m : ObjectMemory H) where
 
   -- the context becomes the active one
   unfoldable pub fetch_context_registers : Value → Step H Unit
-  fetch_context_registers c = do
-    r ← context_registers c
-    set_registers m r
+  fetch_context_registers c = context_registers c >>= set_registers m
 
   -- the context of the scheduler's active process
   unfoldable pub scheduled_context : Step H Value
@@ -59,9 +55,7 @@ module _ {H : Type 0} (m : ObjectMemory H) where
     fetch_field m process 1
 
   unfoldable pub fetch_scheduled_registers : Step H Unit
-  fetch_scheduled_registers = do
-    c ← scheduled_context
-    fetch_context_registers c
+  fetch_scheduled_registers = scheduled_context >>= fetch_context_registers
 
   -- the instruction pointer is stored plus 1, and the stack pointer less 5
   unfoldable pub store_context_registers : Step H Unit
@@ -74,9 +68,7 @@ module _ {H : Type 0} (m : ObjectMemory H) where
 
   -- from the active context to this one
   unfoldable pub switch : Value → Step H Unit
-  switch c = do
-    store_context_registers
-    fetch_context_registers c
+  switch c = store_context_registers >> fetch_context_registers c
 
   -- The sender, the instruction pointer of the first bytecode as it is stored, the temporary count as stack pointer, and
   -- the method; field 4 isn't used.

@@ -57,22 +57,16 @@ finished_of one (suc n) s = counted (one s) (λ t. finished_of one n t)
 module _ {H : Type 0} (m : ObjectMemory H) where
   unfoldable pub signal_if_any : Option Value → Step H Unit
   signal_if_any None = answer tt
-  signal_if_any (Some s) = do
-    change_world m TakeSignal
-    signal m s
+  signal_if_any (Some s) = change_world m TakeSignal >> signal m s
 
   -- the newest pending signal is made
   unfoldable pub signal_next : Step H Unit
-  signal_next = do
-    s ← newest_signal
-    signal_if_any s
+  signal_next = newest_signal >>= signal_if_any
 
   -- so many pending signals are made, the newest first
   unfoldable pub signal_newest : ℕ → Step H Unit
   signal_newest zero = answer tt
-  signal_newest (suc n) = do
-    signal_next
-    signal_newest n
+  signal_newest (suc n) = signal_next >> signal_newest n
 
   unfoldable pub switch_unless_nil : Value → Bool → Step H Unit
   switch_unless_nil p true = answer tt

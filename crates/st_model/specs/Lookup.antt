@@ -70,9 +70,7 @@ module _ {H : Type 0} (m : ObjectMemory H) where
   -- what was found, or what the superclass gives
   unfoldable pub or_above : Value → Option Value → (Value → Step H (Option Value)) → Step H (Option Value)
   or_above class (Some method) otherwise = answer (Some method)
-  or_above class None otherwise = do
-    above ← fetch_field m class 0
-    otherwise above
+  or_above class None otherwise = fetch_field m class 0 >>= otherwise
 
   -- what the class itself gives, whose dictionary must have places
   unfoldable pub method_in_class : Value → Value → Step H (Option Value)

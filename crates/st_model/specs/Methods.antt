@@ -58,14 +58,10 @@ module _ {H : Type 0} (m : ObjectMemory H) where
 
   -- the extension is the next to last literal
   unfoldable pub method_primitive : Value → Step H ℕ
-  method_primitive v = do
-    extension ← literal_from_last v 1
-    primitive_number extension
+  method_primitive v = literal_from_last v 1 >>= primitive_number
 
   unfoldable pub arguments_by_extension : Value → Step H ℕ
-  arguments_by_extension v = do
-    extension ← literal_from_last v 1
-    extension_arguments extension
+  arguments_by_extension v = literal_from_last v 1 >>= extension_arguments
 
   unfoldable pub arguments_by : Value → ℕ → Step H ℕ
   arguments_by v flag = if flag == 7 then arguments_by_extension v else if nat_lt flag 5 then answer flag else answer 0

@@ -15,9 +15,7 @@ calls m = do
 
 -- a step that calls nothing
 unfoldable pub calls_nothing : {H : Type 0} → Step H Unit → Step H (Option Call)
-calls_nothing m = do
-  m
-  answer None
+calls_nothing m = m >> answer None
 
 module _ {H : Type 0} (m : ObjectMemory H) where
   -- the active context and the value are pushed, and cannotReturn: is sent

@@ -80,9 +80,7 @@ module _ {H : Type 0} (m : ObjectMemory H) where
 
   -- the search begins in this class
   unfoldable pub send_from : Value → Value → ℕ → Step H Call
-  send_from class selector n = do
-    method ← find m class selector
-    call_found class selector n method
+  send_from class selector n = find m class selector >>= call_found class selector n
 
   -- the receiver is the word n words below the top
   unfoldable pub send : Value → ℕ → Step H Call

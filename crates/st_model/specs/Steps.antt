@@ -104,9 +104,8 @@ named_or_not (Some n) = Some (Ref n)
 -- the same SmallInteger, or the same object
 abbrev pub same_value : Value → Value → Bool
 same_value (Small a) (Small b) = a == b
-same_value (Small a) (Ref b) = false
-same_value (Ref a) (Small b) = false
 same_value (Ref a) (Ref b) = a == b
+same_value v w = false
 
 -- fields
 
@@ -177,9 +176,8 @@ module _ {H : Type 0} (m : ObjectMemory H) where
 
   -- what the two objects are, class and body, is exchanged: each name then has what the other one had
   unfoldable pub exchange : Value → Value → Step H Unit
-  exchange (Small a) v = die dead.Small
-  exchange (Ref a) (Small b) = die dead.Small
   exchange (Ref a) (Ref b) = exchange_named a b
+  exchange v w = die dead.Small
 
   unfoldable pub units_set : ℕ → List ℕ → State H → Option Object → Bool → Transition (State H) Unit
   units_set n us s None fit = Died dead.Kind
@@ -278,9 +276,7 @@ module _ {H : Type 0} (m : ObjectMemory H) where
     set_field v i x
 
   unfoldable pub fetch_integer : Value → ℕ → Step H ℤ
-  fetch_integer v i = do
-    x ← fetch_field v i
-    integer_or_die x
+  fetch_integer v i = fetch_field v i >>= integer_or_die
 
   -- how many fields an object of kind Pointers has
   unfoldable pub count_fields : Value → Step H ℕ
@@ -300,15 +296,11 @@ module _ {H : Type 0} (m : ObjectMemory H) where
   -- these into the fields from one on
   unfoldable pub store_fields : Value → ℕ → List Value → Step H Unit
   store_fields v to [] = answer tt
-  store_fields v to (x ∷ xs) = do
-    store_field v to x
-    store_fields v (suc to) xs
+  store_fields v to (x ∷ xs) = store_field v to x >> store_fields v (suc to) xs
 
   -- n fields of one object are stored into fields of another, once all of them are fetched
   unfoldable pub transfer : ℕ → Value → ℕ → Value → ℕ → Step H Unit
-  transfer n source from target to = do
-    xs ← fetch_fields source from n
-    store_fields target to xs
+  transfer n source from target to = fetch_fields source from n >>= store_fields target to
 
   -- words and bytes
 
@@ -353,9 +345,7 @@ module _ {H : Type 0} (m : ObjectMemory H) where
   -- these into the bytes from one on
   unfoldable pub store_bytes : Value → ℕ → List ℕ → Step H Unit
   store_bytes v to [] = answer tt
-  store_bytes v to (b ∷ bs) = do
-    store_byte v to b
-    store_bytes v (suc to) bs
+  store_bytes v to (b ∷ bs) = store_byte v to b >> store_bytes v (suc to) bs
 
   -- the stack
 
