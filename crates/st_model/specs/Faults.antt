@@ -7,7 +7,7 @@ use Rattle.st_model.specs.declared.fault.ImageFault.{ImageFault}
 use Rattle.st_model.specs.declared.fault.ImageFault.TheVariants.{Short, Lengths, Capacity, Size, Overlap, Class, Field, Method, Root, Scheduler}
 use Rattle.st_model.specs.declared.head.ImageHead.{ImageHead}
 use Rattle.st_model.specs.Objects.{page, place_of}
-use Rattle.st_model.specs.Machine.{Transition, Died}
+use Rattle.st_model.specs.Machine.{Died}
 use Rattle.st_model.specs.Image.{table_end, form_of, entries_of, has_odd_length, has_pointers, is_used, place, size, class, body, literal_count, names}
 use Rattle.st_model.specs.Start.{start}
 
