@@ -49,6 +49,4 @@ module _ {H : Type 0} (m : ObjectMemory H) where
     with_room head p
 
   unfoldable pub ready : Head → Value → List ℕ → (meta : Bool) → PartsView → Step H (Result Plan InstallFault)
-  ready head class name meta parts = do
-    p ← tried (planned head class name meta parts)
-    with_room head p
+  ready head class name meta parts = tried (planned head class name meta parts) >>= with_room head

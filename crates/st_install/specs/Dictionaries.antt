@@ -92,16 +92,13 @@ module _ {H : Type 0} (m : ObjectMemory H) where
 
   unfoldable pub grows_at : Value → Ending → Step H Bool
   grows_at dictionary (Holds k) = answer false
-  grows_at dictionary (Vacant k) = is_nearly_full dictionary
-  grows_at dictionary Nowhere = is_nearly_full dictionary
+  grows_at dictionary _ = is_nearly_full dictionary
 
   -- Whether the dictionary grows for a selector: where that is added to it and would leave no place of nil. It has no Symbol that is
   -- made only now.
   unfoldable pub grows_for : Value → Part → Step H Bool
   grows_for dictionary (Made k) = is_nearly_full dictionary
-  grows_for dictionary (There selector) = do
-    end ← place_of_selector dictionary selector
-    grows_at dictionary end
+  grows_for dictionary (There selector) = place_of_selector dictionary selector >>= grows_at dictionary
 
   -- a dictionary of the same class, with the same tally and twice the places, which is object number next
   unfoldable pub grown_objects : Value → ℕ → Step H (List NewObject)
@@ -123,8 +120,7 @@ module _ {H : Type 0} (m : ObjectMemory H) where
   put_at dictionary selector method (Holds k) = do
     methods ← fetch_field m dictionary 1
     put_method dictionary methods k selector method
-  put_at dictionary selector method (Vacant k) = die dead.Places
-  put_at dictionary selector method Nowhere = die dead.Places
+  put_at dictionary selector method _ = die dead.Places
 
   unfoldable pub refill_unless : Value → Value → ℕ → Value → Bool → Step H Unit
   refill_unless old new k selector true = answer tt
@@ -145,11 +141,7 @@ module _ {H : Type 0} (m : ObjectMemory H) where
   -- so many places from k on, one after the other
   unfoldable pub refill_among : Value → Value → ℕ → ℕ → Step H Unit
   refill_among old new k zero = answer tt
-  refill_among old new k (suc left) = do
-    refill_from old new k
-    refill_among old new (suc k) left
+  refill_among old new k (suc left) = refill_from old new k >> refill_among old new (suc k) left
 
   unfoldable pub refill : Value → Value → Step H Unit
-  refill old new = do
-    places ← count_places old
-    refill_among old new 0 places
+  refill old new = count_places old >>= refill_among old new 0

@@ -16,15 +16,12 @@ use Rattle.st_install.specs.Dictionaries.{Ending, Holds, Vacant, Nowhere, place_
 -- how many fields, words or bytes it has; a Method's header and literals count as bytes
 abbrev pub size_by : Kind → NewObject → ℕ
 size_by kind.Pointers o = length o.fields
-size_by kind.Words o = length o.bytes
-size_by kind.Bytes o = length o.bytes
 size_by kind.Method o = 2 * length o.fields + length o.bytes
+size_by _ o = length o.bytes
 
 abbrev pub literals_by : Kind → NewObject → ℕ
-literals_by kind.Pointers o = 0
-literals_by kind.Words o = 0
-literals_by kind.Bytes o = 0
 literals_by kind.Method o = length o.fields - 1
+literals_by _ o = 0
 
 -- the object that a part is, once these are made
 abbrev pub part_value : (nil : Value) → List Value → Part → Value
@@ -57,14 +54,10 @@ module _ {H : Type 0} (m : ObjectMemory H) where
   -- header and literals of a method from one on
   unfoldable pub store_method_fields : Value → ℕ → List Value → Step H Unit
   store_method_fields v to [] = answer tt
-  store_method_fields v to (x ∷ xs) = do
-    store_method_field m v to x
-    store_method_fields v (suc to) xs
+  store_method_fields v to (x ∷ xs) = store_method_field m v to x >> store_method_fields v (suc to) xs
 
   unfoldable pub fill_method : Value → List Value → List ℕ → Step H Unit
-  fill_method v fields bytes = do
-    store_method_fields v 0 fields
-    store_bytes m v (2 * length fields) bytes
+  fill_method v fields bytes = store_method_fields v 0 fields >> store_bytes m v (2 * length fields) bytes
 
   unfoldable pub fill_by : Value → List Value → List ℕ → Kind → Step H Unit
   fill_by v fields bytes kind.Pointers = store_fields m v 0 fields
@@ -91,9 +84,7 @@ module _ {H : Type 0} (m : ObjectMemory H) where
   -- the dictionary that the method goes into: the class's, or the one that takes its place, refilled
   unfoldable pub target : (nil : Value) → List Value → Value → Option ℕ → Step H Value
   target nil made old None = answer old
-  target nil made old (Some k) = do
-    refill m old (get_or made k nil)
-    answer (get_or made k nil)
+  target nil made old (Some k) = refill m old (get_or made k nil) >> answer (get_or made k nil)
 
   -- where it goes, and what else is fetched before the first store
   unfoldable pub find_place : Value → Value → Step H Placing

@@ -29,9 +29,7 @@ grown_number false symbols literals = None
 
 -- the plan, where none of its objects has too many words
 unfoldable pub sized : {H : Type 0} → Plan → Step H Plan
-sized p = do
-  check_size p.objects
-  answer p
+sized p = check_size p.objects >> answer p
 
 module _ {H : Type 0} (m : ObjectMemory H) where
   unfoldable pub grown_if : Value → ℕ → Bool → Step H (List NewObject)

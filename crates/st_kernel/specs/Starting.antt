@@ -26,9 +26,7 @@ first_words header = if flag_of header == 6 then 0 else temporary_count header
 
 unfoldable pub fetch_if : Bool → Step Table Bool
 fetch_if false = answer false
-fetch_if true = do
-  fetch_scheduled_registers table
-  answer true
+fetch_if true = fetch_scheduled_registers table >> answer true
 
 module _ {H : Type 0} (m : ObjectMemory H) where
   -- WHAT IS THERE
