@@ -154,7 +154,7 @@ module _ {m : ObjectMemory Table} (h : IsTabular m) where
   unfolding primitive
   primitive-as A n conditions effect = rw (fun_ext (succeed-as A n effect)) refl
 
-  pub primitive-is : (A : Type 0) → primitive {H = Table} {A = A} m ≡ primitive {H = Table} {A = A} table
+  pub primitive-is : (A : Type 0) → primitive m {A = A} ≡ primitive table {A = A}
   primitive-is A = fun_ext (λ n. fun_ext (λ conditions. fun_ext (λ effect. primitive-as A n conditions effect)))
 
   check_fields-is : check_fields m ≡ check_fields table

@@ -42,7 +42,8 @@ use Rattle.st_at_once.specs.declared.ending.RowEnd.TheVariants.{ToForesee, Stays
 use Rattle.st_memory.specs.declared.objects.Objects.{Ghosts}
 use Rattle.st_control.specs.AtOnce.{AreStill, at_once, activate_at_once, jump_at_once, return_to_sender_at_once, return_to_caller_at_once}
 
--- with at most 16 bytes, with at most 2,047 fields, and with at most 65,533 words; two words say size and class
+-- how many words the largest new object takes: a number with at most 16 bytes, an object with at most 2,047 fields, and one with at most
+-- 65,533 words; two words say size and class
 abbrev pub largest_number : ℕ
 largest_number = 10
 
