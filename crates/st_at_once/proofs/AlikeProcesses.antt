@@ -154,7 +154,7 @@ module _ {m : ObjectMemory Table} (h : IsTabular m) where
   unfolding primitive
   primitive-as A n conditions effect = rw (fun_ext (succeed-as A n effect)) refl
 
-  pub primitive-is : (A : Type 0) → primitive {H = Table} {A = A} m ≡ primitive {H = Table} {A = A} table
+  pub primitive-is : (A : Type 0) → primitive m {A = A} ≡ primitive table {A = A}
   primitive-is A = fun_ext (λ n. fun_ext (λ conditions. fun_ext (λ effect. primitive-as A n conditions effect)))
 
   check_fields-is : check_fields m ≡ check_fields table
@@ -165,9 +165,13 @@ module _ {m : ObjectMemory Table} (h : IsTabular m) where
   unfolding primitive_signal signal_and_answer
   primitive_signal-is = rw (top-is h, primitive-is (Unit {0}), check_fields-is, signal-is) refl
 
+  wait_and_answer-is : wait_and_answer m ≡ wait_and_answer table
+  unfolding wait_and_answer
+  wait_and_answer-is = fun_ext (λ r. fun_ext (λ n. rw take_excess-is refl))
+
   primitive_wait-is : primitive_wait m ≡ primitive_wait table
-  unfolding primitive_wait excess_of wait_and_answer
-  primitive_wait-is = rw (top-is h, primitive-is ℤ, check_fields-is, integer-is h, take_excess-is) refl
+  unfolding primitive_wait excess_of
+  primitive_wait-is = rw (top-is h, primitive-is ℤ, check_fields-is, integer-is h, wait_and_answer-is) refl
 
   primitive_resume-is : primitive_resume m ≡ primitive_resume table
   unfolding primitive_resume resume_and_answer

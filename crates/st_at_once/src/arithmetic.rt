@@ -6,7 +6,6 @@ ghost use Rattle.st_ints.specs.Answers.{IsSmall, IsOfSmall};
 ghost use Rattle.st_control.specs.AtOnce.{IsStill};
 ghost use Rattle.st_frames.specs.Rows.{RowReads, RowDoes, Takes};
 ghost use Rattle.st_at_once.specs.AtOnce.{argument_answer, replace_pair, answered_at_once, arithmetic_at_once_by, arithmetic_at_once};
-ghost use Rattle.st_model.specs.declared.dead.Dead.TheVariants as dead;
 
 use st_control::{arithmetic_number, integer_under, word_of};
 use st_frames::{Registers, drop_words, page, push, under};

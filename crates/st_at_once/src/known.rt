@@ -9,15 +9,6 @@ pub(crate) struct Body {
     pub place: u32,
 }
 
-/// A field of an object.
-#[derive(Clone, Copy)]
-pub(crate) struct Field {
-    /// The object's word.
-    pub object: Word,
-    /// The field's number, from 0.
-    pub index: u32,
-}
-
 /// What is known of an object of kind Pointers. Nothing is where it has 0 fields.
 #[derive(Clone, Copy)]
 pub struct Fields {

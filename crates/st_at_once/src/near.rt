@@ -1,13 +1,13 @@
 ghost use Rattle.std.specs.Prelude.{◌≡◌, ◌<◌, ◌≤◌, IfSome};
 ghost use Rattle.st_model.specs.{Values.{value, word}, View.{Has, SettlesTo}, Table.bounded_table};
-ghost use Rattle.st_model.specs.{Steps.{store_field, transfer}, Calls.{Changes, itself}};
+ghost use Rattle.st_model.specs.{Steps.store_field, Calls.{Changes, itself}};
 ghost use Rattle.st_frames.specs.Shown.{IsFrame};
 ghost use Rattle.st_at_once.specs.Known.{IsNear, ArePlaced, IsCodeAt, HasLiteral, HasNumber};
 
-use crate::known::{Body, Code, Field, Known};
+use crate::known::{Body, Code, Known};
 use crate::looking::look;
 use st_frames::Frame;
-use st_memory::{Memory, live_value, store_live_field, transfer_live_fields};
+use st_memory::{Memory, live_value, store_live_field};
 use st_model::{Dead, Oop, Word};
 
 /// The objects of a memory, with what is known of the active context, its home and its method, which it holds. As long as they
@@ -195,38 +195,6 @@ impl<'a, M: Memory> Near<'a, M> {
         ensures same_memory { self.new.memory.ghost_name ≡ self.old.memory.ghost_name }
     {
         let done = store_live_field(self.memory, o, i, x);
-        if done.is_err() {
-            self.known = Known::NONE;
-        }
-        done
-    }
-
-    /// Stores n fields of one object in fields of another, once all of them are fetched, without asking whether they are near at hand.
-    /// Nothing is known any more where it dies.
-    #[inline(never)]
-    #[tactic(auto, using(crate::proofs::Keeping::near_nothing, crate::proofs::Placed::placed_nothing))]
-    pub(crate) fn transfer_elsewhere(
-        &mut self,
-        n: u32,
-        source: Field,
-        target: Field,
-    ) -> Result<(), Dead>
-        ensures transfers { Changes (transfer bounded_table n
-            (word source.object) source.index (word target.object) target.index) itself
-            (M.view self.old.memory.now).objects (M.view self.old.memory.now).head
-            result (M.view self.new.memory.now).objects }
-        ensures held { (M.view self.new.memory.now).held ≡ (M.view self.old.memory.now).held }
-        ensures head { (M.view self.new.memory.now).head ≡ (M.view self.old.memory.now).head }
-        ensures same_memory { self.new.memory.ghost_name ≡ self.old.memory.ghost_name }
-    {
-        let done = transfer_live_fields(
-            self.memory,
-            n,
-            source.object,
-            source.index,
-            target.object,
-            target.index,
-        );
         if done.is_err() {
             self.known = Known::NONE;
         }

@@ -1,10 +1,9 @@
-ghost use Rattle.std.specs.Prelude.{◌≡◌, ◌+◌, ◌≤◌};
 ghost use Rattle.st_model.specs.Table.{bounded_table};
 
-use crate::known::{Field, Known};
+use crate::known::Known;
 use crate::looking::{look_after_make, look_at_places};
 use crate::near::Near;
-use st_memory::{ContextFields, Memory, Objects, live_value};
+use st_memory::{ContextFields, Memory, Objects, live_value, transfer_live_fields};
 use st_model::{Dead, Demand, Kind, Word};
 
 impl<'a, M: Memory> Objects for Near<'a, M> {
@@ -132,6 +131,7 @@ impl<'a, M: Memory> Objects for Near<'a, M> {
         }
     }
 
+    #[tactic(auto, using(crate::proofs::Keeping::near_nothing, crate::proofs::Placed::placed_nothing))]
     fn transfer(
         &mut self,
         n: u32,
@@ -140,21 +140,18 @@ impl<'a, M: Memory> Objects for Near<'a, M> {
         target: Word,
         to: u32,
     ) -> Result<(), Dead> {
-        let source = Field {
-            object: source,
-            index: from,
-        };
-        let target = Field {
-            object: target,
-            index: to,
-        };
         if n == 1 {
-            return self.transfer_field(source, target);
+            return self.transfer_field(source, from, target, to);
         }
         if n == 2 && from < 65536 && to < 65536 {
-            return self.transfer_pair(source, target);
+            return self.transfer_pair(source, from, target, to);
         }
-        self.transfer_elsewhere(n, source, target)
+        // Elsewhere nothing is known any more where it dies.
+        let done = transfer_live_fields(self.memory, n, source, from, target, to);
+        if done.is_err() {
+            self.known = Known::NONE;
+        }
+        done
     }
 
     #[tactic(auto, using(crate::proofs::Keeping::near_nothing, crate::proofs::Placed::placed_nothing))]

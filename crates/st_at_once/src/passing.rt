@@ -1,46 +1,55 @@
-ghost use Rattle.std.specs.Prelude.{◌≡◌, ◌<◌, ◌+◌};
+ghost use Rattle.std.specs.Prelude.{◌≡◌, ◌<◌};
 ghost use Rattle.st_model.specs.{Values.word, Table.bounded_table, Steps.transfer};
 ghost use Rattle.st_model.specs.Calls.{Changes, itself};
 ghost use Rattle.st_at_once.specs.Known.{fixed_of};
 
-use crate::known::Field;
 use crate::near::Near;
 use st_memory::{Memory, Objects};
-use st_model::Dead;
+use st_model::{Dead, Word};
 
 impl<'a, M: Memory> Near<'a, M> {
     /// Stores a field of an object in a field of another.
     #[inline(always)]
     #[tactic(auto, using(st_model::proofs::Runs::runs), unfolding(st_model::specs::Steps::transfer, st_model::specs::Steps::fetch_fields, st_model::specs::Steps::store_fields))]
-    pub(crate) fn transfer_field(&mut self, source: Field, target: Field) -> Result<(), Dead>
-        ensures transfers { Changes (transfer bounded_table 1
-            (word source.object) source.index (word target.object) target.index) itself
+    pub(crate) fn transfer_field(
+        &mut self,
+        source: Word,
+        from: u32,
+        target: Word,
+        to: u32,
+    ) -> Result<(), Dead>
+        ensures transfers { Changes (transfer bounded_table 1 (word source) from (word target) to) itself
             (M.view self.old.memory.now).objects (M.view self.old.memory.now).head
             result (M.view self.new.memory.now).objects }
         ensures head { (M.view self.new.memory.now).head ≡ (M.view self.old.memory.now).head }
         ensures fixed { fixed_of (M.view self.new.memory.now) self.new.memory.ghost_name
             ≡ fixed_of (M.view self.old.memory.now) self.old.memory.ghost_name }
     {
-        let x = self.fetch_field(source.object, source.index)?;
-        self.store_field(target.object, target.index, x)
+        let x = self.fetch_field(source, from)?;
+        self.store_field(target, to, x)
     }
 
     /// Stores two fields of an object in fields of another, once both are fetched.
     #[inline(always)]
     #[tactic(auto, using(st_model::proofs::Runs::runs, crate::proofs::TwoFields::two_fields), unfolding(st_model::specs::Steps::transfer))]
-    pub(crate) fn transfer_pair(&mut self, source: Field, target: Field) -> Result<(), Dead>
-        requires small { (source.index < 65536) × (target.index < 65536) }
-        ensures transfers { Changes (transfer bounded_table 2
-            (word source.object) source.index (word target.object) target.index) itself
+    pub(crate) fn transfer_pair(
+        &mut self,
+        source: Word,
+        from: u32,
+        target: Word,
+        to: u32,
+    ) -> Result<(), Dead>
+        requires small { (from < 65536) × (to < 65536) }
+        ensures transfers { Changes (transfer bounded_table 2 (word source) from (word target) to) itself
             (M.view self.old.memory.now).objects (M.view self.old.memory.now).head
             result (M.view self.new.memory.now).objects }
         ensures head { (M.view self.new.memory.now).head ≡ (M.view self.old.memory.now).head }
         ensures fixed { fixed_of (M.view self.new.memory.now) self.new.memory.ghost_name
             ≡ fixed_of (M.view self.old.memory.now) self.old.memory.ghost_name }
     {
-        let first = self.fetch_field(source.object, source.index)?;
-        let second = self.fetch_field(source.object, source.index + 1)?;
-        self.store_field(target.object, target.index, first)?;
-        self.store_field(target.object, target.index + 1, second)
+        let first = self.fetch_field(source, from)?;
+        let second = self.fetch_field(source, from + 1)?;
+        self.store_field(target, to, first)?;
+        self.store_field(target, to + 1, second)
     }
 }

@@ -1,8 +1,8 @@
-ghost use Rattle.std.specs.Prelude.{◌≡◌, ◌<◌, ◌≤◌, Ok, Some};
+ghost use Rattle.std.specs.Prelude.{◌<◌, ◌≤◌, Ok};
 ghost use Rattle.st_model.specs.{Values.word, Calls.itself};
 ghost use Rattle.st_control.specs.AtOnce.{IsStill};
 ghost use Rattle.st_frames.specs.Rows.{RowReads, RowDoes, Takes};
-ghost use Rattle.st_at_once.specs.AtOnce.{changes_at_once, message_space, with_message_at_once, call_not_understood_at_once, not_understood_at_once};
+ghost use Rattle.st_at_once.specs.AtOnce.{changes_at_once, message_space, with_message_at_once, not_understood_at_once};
 
 use st_control::{Called, Sent, activate, find_method, replace_by_message};
 use st_frames::{Registers, page};

@@ -1,9 +1,11 @@
--- What a memory is once pixels of an object were put down, whatever the order in which they were.
-use Rattle.std.specs.Prelude.{◌≡◌, ◌≢◌, ℕ, ◌+◌, ◌-◌, ◌%◌, ◌<◌, ◌≤◌, ⊤, min, length, Option, Some, None}
+-- What a copy of pixels asks, and what a memory is once pixels of an object were put down, whatever the order in which they were.
+use Rattle.std.specs.Prelude.{◌≡◌, ◌≢◌, ℕ, ◌+◌, ◌*◌, ◌-◌, ◌%◌, ◌^◌, ◌<◌, ◌≤◌, ⊤, min, List, length, Option, Some, None}
 use Rattle.std.specs.Int.{bit_at}
 use Rattle.st_model.specs.Values.{Value, value}
 use Rattle.st_model.specs.View.{View}
 use Rattle.st_model.specs.Pixels.{AllFit, pixel, combine}
+use Rattle.st_bitblt.specs.declared.source.Ends.{Ends}
+use Rattle.st_bitblt.specs.declared.source.Places.{Places}
 use Rattle.st_bitblt.specs.declared.source.Source.{Source}
 use Rattle.st_bitblt.specs.declared.source.Source.TheVariants as source
 use Rattle.st_bitblt.specs.Words.{words, HasWords, with_words}
@@ -33,6 +35,16 @@ pixel_from v (Some o) q = pixel (words v o) q
 abbrev pub HasSource : View → Source → Type 0
 HasSource v source.Ones = ⊤
 HasSource v (source.Words object n) = HasWords v (value object) × (n ≡ length (words v (value object)))
+
+-- Pixels can be copied: the buffers have 129 words for those of the source and 128 for those of the destination, both ends have
+-- their words, the pixels lie within the destination, and all places are numbers of 32 bits, in the source with a word to spare.
+pub record CanCopy (v : View) (source_words dest_words : List ℕ) (ends : Ends) (a : Places) : Type 0 where
+  pub buffers : (length source_words ≡ 129) × (length dest_words ≡ 128)
+  pub source : HasSource v ends.source
+  pub dest : HasWords v (value ends.dest)
+  pub room : a.p + a.n ≤ 16 * length (words v (value ends.dest))
+  pub p_fits : a.p + a.n < 2 ^ 32
+  pub q_fits : a.q + a.n + 16 < 2 ^ 32
 
 -- the source's pixels from q on, where they go to those from p on through a word of the halftone
 abbrev pub shaded : ℕ → Option Value → View → ℕ → ℕ → ℕ → ℕ

@@ -1,7 +1,6 @@
-ghost use Rattle.std.specs.Prelude.{◌≡◌, ◌+◌, ◌*◌, ◌^◌, ◌<◌, ◌≤◌, length, Some, IsTrue, ◌↔◌};
+ghost use Rattle.std.specs.Prelude.{◌≡◌, ◌<◌, ◌≤◌, Some, IsTrue, ◌↔◌};
 ghost use Rattle.st_model.specs.Values.{value};
-ghost use Rattle.st_bitblt.specs.Copied.{Copied, HasSource, object_of_source};
-ghost use Rattle.st_bitblt.specs.Words.{words, HasWords};
+ghost use Rattle.st_bitblt.specs.Copied.{CanCopy, Copied, object_of_source};
 
 use crate::rule::Rule;
 use crate::source::{Ends, Places, Source};
@@ -18,13 +17,8 @@ fn copy_up<M: Memory>(
     ends: &Ends,
     a: Places,
 )
-    requires buffers { (length source.old ≡ 129) × (length dest.old ≡ 128) }
-    requires source { HasSource (M.view m.old) ends.now.source }
-    requires dest { HasWords (M.view m.old) (value ends.now.dest) }
+    requires can { CanCopy (M.view m.old) source.old dest.old ends.now a }
     requires order { object_of_source ends.now.source ≡ Some (value ends.now.dest) → a.p ≤ a.q }
-    requires room { a.p + a.n ≤ 16 * length (words (M.view m.old) (value ends.now.dest)) }
-    requires p_fits { a.p + a.n < 2 ^ 32 }
-    requires q_fits { a.q + a.n + 16 < 2 ^ 32 }
     ensures { Copied rule.now tone (object_of_source ends.now.source) (value ends.now.dest)
         (M.view m.old) (M.view m.new) a.p a.q a.n }
 {
@@ -51,13 +45,8 @@ fn copy_down<M: Memory>(
     ends: &Ends,
     a: Places,
 )
-    requires buffers { (length source.old ≡ 129) × (length dest.old ≡ 128) }
-    requires source { HasSource (M.view m.old) ends.now.source }
-    requires dest { HasWords (M.view m.old) (value ends.now.dest) }
+    requires can { CanCopy (M.view m.old) source.old dest.old ends.now a }
     requires order { object_of_source ends.now.source ≡ Some (value ends.now.dest) → a.q ≤ a.p }
-    requires room { a.p + a.n ≤ 16 * length (words (M.view m.old) (value ends.now.dest)) }
-    requires p_fits { a.p + a.n < 2 ^ 32 }
-    requires q_fits { a.q + a.n + 16 < 2 ^ 32 }
     ensures { Copied rule.now tone (object_of_source ends.now.source) (value ends.now.dest)
         (M.view m.old) (M.view m.new) a.p a.q a.n }
 {
@@ -100,12 +89,7 @@ fn copy_stretches<M: Memory>(
     ends: &Ends,
     a: Places,
 )
-    requires buffers { (length source.old ≡ 129) × (length dest.old ≡ 128) }
-    requires source { HasSource (M.view m.old) ends.now.source }
-    requires dest { HasWords (M.view m.old) (value ends.now.dest) }
-    requires room { a.p + a.n ≤ 16 * length (words (M.view m.old) (value ends.now.dest)) }
-    requires p_fits { a.p + a.n < 2 ^ 32 }
-    requires q_fits { a.q + a.n + 16 < 2 ^ 32 }
+    requires can { CanCopy (M.view m.old) source.old dest.old ends.now a }
     ensures { Copied rule.now tone (object_of_source ends.now.source) (value ends.now.dest)
         (M.view m.old) (M.view m.new) a.p a.q a.n }
 {
@@ -127,12 +111,7 @@ pub fn copy_row<M: Memory>(
     ends: &Ends,
     a: Places,
 )
-    requires buffers { (length source.old ≡ 129) × (length dest.old ≡ 128) }
-    requires source { HasSource (M.view m.old) ends.now.source }
-    requires dest { HasWords (M.view m.old) (value ends.now.dest) }
-    requires room { a.p + a.n ≤ 16 * length (words (M.view m.old) (value ends.now.dest)) }
-    requires p_fits { a.p + a.n < 2 ^ 32 }
-    requires q_fits { a.q + a.n + 16 < 2 ^ 32 }
+    requires can { CanCopy (M.view m.old) source.old dest.old ends.now a }
     ensures { Copied rule.now tone (object_of_source ends.now.source) (value ends.now.dest)
         (M.view m.old) (M.view m.new) a.p a.q a.n }
 {

@@ -1,6 +1,6 @@
-ghost use Rattle.std.specs.Prelude.{◌≡◌, ℕ, ◌+◌, ◌*◌, ◌^◌, ◌<◌, ◌≤◌, ◌/◌, length, take, slice_index};
+ghost use Rattle.std.specs.Prelude.{◌≡◌, ℕ, ◌+◌, ◌*◌, ◌<◌, ◌≤◌, ◌/◌, length, take, slice_index};
 ghost use Rattle.st_model.specs.{Values.value, Pixels.AllFit};
-ghost use Rattle.st_bitblt.specs.Copied.{Copied, HasSource, object_of_source};
+ghost use Rattle.st_bitblt.specs.Copied.{CanCopy, Copied, HasSource, object_of_source};
 ghost use Rattle.st_bitblt.specs.{Stretches.{Combined, IsStretch, Restored}, Words.{words, HasWords}};
 
 use crate::rule::{Rule, joined, masked};
@@ -144,14 +144,9 @@ pub fn copy_stretch<M: Memory>(
     ends: &Ends,
     a: Places,
 )
-    requires buffers { (length source.old ≡ 129) × (length dest.old ≡ 128) }
-    requires source { HasSource (M.view m.old) ends.now.source }
-    requires dest { HasWords (M.view m.old) (value ends.now.dest) }
-    requires room { a.p + a.n ≤ 16 * length (words (M.view m.old) (value ends.now.dest)) }
+    requires can { CanCopy (M.view m.old) source.old dest.old ends.now a }
     requires some { 0 < a.n }
     requires few { a.n ≤ 2032 }
-    requires p_fits { a.p + a.n < 2 ^ 32 }
-    requires q_fits { a.q + a.n + 16 < 2 ^ 32 }
     ensures { Copied rule.now tone (object_of_source ends.now.source) (value ends.now.dest)
         (M.view m.old) (M.view m.new) a.p a.q a.n }
 {

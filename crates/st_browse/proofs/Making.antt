@@ -1,6 +1,7 @@
 -- The text that is made of a method's code, under the names that it sees: names that tell no text apart give the same, and there is one.
 use Rattle.std.proofs.Common.{◌≡◌, ℕ, List, Option, Some, None, Ok, Err, refl, sym, ap, ◌∙◌, subst}
 use Rattle.std.specs.Prelude.{option_map, option_and_then, Result}
+use Rattle.std.specs.Result.{result_ok}
 use Rattle.st_model.specs.Values.{Value}
 use Rattle.st_model.specs.Table.{Table, table}
 use Rattle.st_model.specs.Machine.{Step}
@@ -27,7 +28,7 @@ use Rattle.st_decompile.specs.Whole.{candidate}
 use Rattle.st_decompile.specs.Answers.{IsPrintedRead}
 use Rattle.st_decompile.proofs.CallsAlike.{calls_alike}
 use Rattle.st_browse.specs.Display.{answer_in, answer_of}
-use Rattle.st_browse.specs.Decompiling.{names_of, names_at, IsTextOf, IsTextOfParts, IsTextUnder, IsTextAt}
+use Rattle.st_browse.specs.Decompiling.{names_at, IsTextOf, IsTextOfParts, IsTextUnder, IsTextAt}
 use Rattle.st_browse.specs.Placing.{AreNamesAt}
 
 -- NAMES
@@ -43,9 +44,9 @@ module _ (v : View) (at : Place) where
   abbrev step : Step Table (Result NamesView InstallFault)
   step = names table v.head at.class at.meta (mentioning v.objects vs)
 
-  at_answer : (x : Option (Result NamesView InstallFault)) → answer_in step v.objects ≡ x → names_at v at ≡ option_map (names_for v.objects vs) (option_and_then names_of x)
+  at_answer : (x : Option (Result NamesView InstallFault)) → answer_in step v.objects ≡ x → names_at v at ≡ option_map (names_for v.objects vs) (option_and_then result_ok x)
   unfolding names_at
-  at_answer x e = ap (λ (y : Option (Result NamesView InstallFault)). option_map (names_for v.objects vs) (option_and_then names_of y)) e
+  at_answer x e = ap (λ (y : Option (Result NamesView InstallFault)). option_map (names_for v.objects vs) (option_and_then result_ok y)) e
 
   pub names_found : (names : Names) → AnswersFor vs step v.objects (Ok names) → AreNamesAt v at names
   names_found names h = record {

@@ -1,10 +1,10 @@
 -- A text is said byte by byte as it is line by line.
 use Rattle.std.proofs.Common.{◌≡◌, ℕ, suc, ◌+◌, ◌<◌, List, [], ◌∷◌, ◌++◌, length, take, get_or, Bool, true, false, refl, sym, ap, ◌∙◌, arith, append_assoc}
 use Rattle.std.specs.Prelude.{codes, ◌==◌, if◌then◌else◌}
-use Rattle.std.specs.List.{flat_map}
+use Rattle.std.specs.List.{flat_map, onto_first}
 use Rattle.std.proofs.lemmas.List.{take_more}
 use Rattle.st_model.specs.Text.{escaped, escaped_byte}
-use Rattle.st_browse.specs.Sources.{with_byte, lines_of, source_line, source_byte}
+use Rattle.st_browse.specs.Sources.{lines_of, source_line, source_byte}
 
 -- HOW MANY LINES
 
@@ -13,18 +13,18 @@ feeds : List ℕ → ℕ
 feeds [] = 0
 feeds (b ∷ text) = if b == 10 then suc (feeds text) else feeds text
 
-with_byte_length : (b n : ℕ) (lines : List (List ℕ)) → length lines ≡ suc n → length (with_byte b lines) ≡ suc n
-with_byte_length b n [] e = absurd (omega (arith, e))
-with_byte_length b n (line ∷ lines) e = e
+onto_first_length : (b n : ℕ) (lines : List (List ℕ)) → length lines ≡ suc n → length (onto_first b lines) ≡ suc n
+onto_first_length b n [] e = absurd (omega (arith, e))
+onto_first_length b n (line ∷ lines) e = e
 
 lines_length : (text : List ℕ) → length (lines_of text) ≡ suc (feeds text)
 unfolding feeds
 lines_length [] = refl
 lines_length (b ∷ text) = over (b == 10) (lines_length text)
   where
-    over : (t : Bool) → length (lines_of text) ≡ suc (feeds text) → length (if t then [] ∷ lines_of text else with_byte b (lines_of text)) ≡ suc (if t then suc (feeds text) else feeds text)
+    over : (t : Bool) → length (lines_of text) ≡ suc (feeds text) → length (if t then [] ∷ lines_of text else onto_first b (lines_of text)) ≡ suc (if t then suc (feeds text) else feeds text)
     over true rest = ap suc rest
-    over false rest = with_byte_length b (feeds text) (lines_of text) rest
+    over false rest = onto_first_length b (feeds text) (lines_of text) rest
 
 feeds_both : (a c : List ℕ) → feeds (a ++ c) ≡ feeds a + feeds c
 unfolding feeds
@@ -65,7 +65,7 @@ behind : (x y : List ℕ) → codes "| " ++ x ≡ codes "| " ++ y → x ≡ y
 behind x y e = cc
 
 first_byte : (b : ℕ) (lines : List (List ℕ)) (bytes : List ℕ) (n : ℕ) → length lines ≡ suc n → all_lines lines ≡ codes "| " ++ bytes
-    → all_lines (with_byte b lines) ≡ codes "| " ++ (escaped_byte b ++ bytes)
+    → all_lines (onto_first b lines) ≡ codes "| " ++ (escaped_byte b ++ bytes)
 first_byte b [] bytes n l e = absurd (omega (arith, l))
 first_byte b (line ∷ lines) bytes n l e =
     let rest = all_lines lines in
@@ -78,7 +78,7 @@ pub lines_are : (text : List ℕ) → all_lines (lines_of text) ≡ codes "| " +
 lines_are [] = refl
 lines_are (b ∷ text) = over (b == 10) (lines_are text)
   where
-    over : (t : Bool) → all_lines (lines_of text) ≡ codes "| " ++ (flat_map source_byte text ++ codes "\n") → all_lines (if t then [] ∷ lines_of text else with_byte b (lines_of text)) ≡ codes "| " ++ (((if t then codes "\n| " else escaped_byte b) ++ flat_map source_byte text) ++ codes "\n")
+    over : (t : Bool) → all_lines (lines_of text) ≡ codes "| " ++ (flat_map source_byte text ++ codes "\n") → all_lines (if t then [] ∷ lines_of text else onto_first b (lines_of text)) ≡ codes "| " ++ (((if t then codes "\n| " else escaped_byte b) ++ flat_map source_byte text) ++ codes "\n")
     over true rest = ap (λ (t : List ℕ). codes "| \n" ++ t) rest
     over false rest =
         let bytes = flat_map source_byte text in

@@ -1,6 +1,6 @@
 -- What an image answers to what is asked of it, with the text of the method's last definition where that is asked for; nothing where
 -- what is asked for is missing.
-use Rattle.std.specs.Prelude.{◌≡◌, ℕ, List, [], Option, Some, None, MatchOption, Bool, Result, IfOk, OnOk, is_some, unwrap_or, option_map, option_and_then, if◌then◌else◌, ⊤}
+use Rattle.std.specs.Prelude.{◌≡◌, ℕ, List, [], Option, Some, MatchOption, Bool, Result, IfOk, OnOk, is_some, unwrap_or, option_map, option_and_then, ⊤}
 use Rattle.st_host.specs.Runs.{SaysAll}
 use Rattle.st_host.specs.Telling.{Says}
 use Rattle.st_host.specs.declared.host.Host.{Ghosts}
@@ -10,23 +10,15 @@ use Rattle.st_model.specs.View.{View, object_of}
 use Rattle.st_chunk.specs.Asks.{Side, Ask, Object, Display, Classes, Methods, Source, Bytecodes, Senders, Until}
 use Rattle.st_chunk.specs.Definitions.{Definition}
 use Rattle.st_changes.specs.Last.{IsNowhere, IsLastText}
-use Rattle.st_browse.specs.Naming.{Named}
-use Rattle.st_browse.specs.Classes.{classes}
-use Rattle.st_browse.specs.Methods.{has_method, if_method, method_named}
+use Rattle.st_browse.specs.Classes.{classes, class_named, on_side}
+use Rattle.st_browse.specs.Methods.{if_method, method_named}
 use Rattle.st_browse.specs.Display.{display_reply}
 use Rattle.st_browse.specs.Sources.{source_text}
-use Rattle.st_browse.specs.Replies.{object_reply, classes_text, methods_text, side_named, bytecodes_text, senders_text}
+use Rattle.st_browse.specs.Replies.{object_reply, classes_text, methods_text, bytecodes_text, senders_text}
 
 -- the class that a side names
 abbrev pub class_of_side : View → Side → Option Value
-class_of_side v side = side_named v.objects v.head.globals side.class side.meta
-
-abbrev pub bytecodes_of : Table → Named → Option (List ℕ)
-bytecodes_of t n = if has_method t n.value then Some (bytecodes_text (object_of t n.value)) else None
-
--- the bytecodes of a class's method
-abbrev pub bytecodes_in : Table → List ℕ → Value → Option (List ℕ)
-bytecodes_in t selector class = option_and_then (bytecodes_of t) (method_named t class selector)
+class_of_side v side = option_map (on_side v.objects side.meta) (class_named v.objects v.head.globals side.class)
 
 -- a class's method, where an object of kind Method is there
 abbrev pub method_in : Table → List ℕ → Value → Option Value
@@ -34,6 +26,10 @@ method_in t selector class = option_and_then (λ n. if_method t n.value) (method
 
 abbrev pub method_of_side : View → Side → List ℕ → Option Value
 method_of_side v side selector = option_and_then (method_in v.objects selector) (class_of_side v side)
+
+-- its bytecodes
+abbrev pub code_text : Table → Value → List ℕ
+code_text t method = bytecodes_text (object_of t method)
 
 -- a text, where the class has the method and there is a text
 abbrev pub source_in : Table → List ℕ → Option (List ℕ) → Value → Option (List ℕ)
@@ -46,8 +42,8 @@ reply v text Display = display_reply v
 reply v text Classes = Some (classes_text v.objects v.head.globals)
 reply v text (Methods side) = option_map (methods_text v.objects) (class_of_side v side)
 reply v text (Source side selector) = option_and_then (source_in v.objects selector text) (class_of_side v side)
-reply v text (Bytecodes side selector) = option_and_then (bytecodes_in v.objects selector) (class_of_side v side)
-reply v text (Until cycles side selector) = option_and_then (bytecodes_in v.objects selector) (class_of_side v side)
+reply v text (Bytecodes side selector) = option_map (code_text v.objects) (method_of_side v side selector)
+reply v text (Until cycles side selector) = option_map (code_text v.objects) (method_of_side v side selector)
 reply v text (Senders selector) = Some (senders_text v.objects selector (classes v.objects v.head.globals))
 
 -- Where a source is asked for: the text of the last of these definitions that is of this class, this side of it and this selector.

@@ -34,12 +34,9 @@ is_class t n = nat_le 9 (fields_in t n.value) && is_text n.name (text_in t n.val
 unfoldable pub classes : Table → Option Value → List Named
 classes t globals = filter (is_class t) (in_order (globals_in t globals))
 
-abbrev pub if_class : Table → Named → Option Value
-if_class t n = if is_class t n then Some n.value else None
-
 -- the class of this name
 unfoldable pub class_named : Table → Option Value → List ℕ → Option Value
-class_named t globals name = option_and_then (if_class t) (first_named name (globals_in t globals))
+class_named t globals name = option_and_then (λ n. if is_class t n then Some n.value else None) (first_named name (globals_in t globals))
 
 -- the class itself, or on the class side its own class
 unfoldable pub on_side : Table → (meta : Bool) → Value → Value

@@ -1,14 +1,14 @@
 -- The text that is shown of a method: that of its last definition where one is kept, else one that is made of its code. Such a text
 -- means a tree that has this code under the names that the method sees. There is none where its class hasn't the form that an
 -- installation asks, where a literal isn't what its place asks, or where no text has this code.
-use Rattle.std.specs.Prelude.{◌≡◌, ℕ, List, Option, Some, None, Result, Ok, Err, option_and_then, option_map}
+use Rattle.std.specs.Prelude.{◌≡◌, ℕ, List, Option, Some, None, option_and_then, option_map}
+use Rattle.std.specs.Result.{result_ok}
 use Rattle.st_model.specs.Values.{Value}
 use Rattle.st_model.specs.Table.{table}
 use Rattle.st_model.specs.View.{View}
 use Rattle.st_scan.specs.Views.{MethodView}
 use Rattle.st_emit.specs.Names.{NamesView}
 use Rattle.st_code.specs.Methods.{PartsView}
-use Rattle.st_scope.specs.declared.fault.InstallFault.{InstallFault}
 use Rattle.st_scope.specs.Calls.{names}
 use Rattle.st_parts.specs.Keys.{mentioning, literals_in, names_for}
 use Rattle.st_parts.specs.Parts.{Place, parts_at}
@@ -29,16 +29,12 @@ method_place v side selector = option_and_then (λ class. option_map (placed sid
 
 -- WHAT IT SEES
 
-abbrev pub names_of : Result NamesView InstallFault → Option NamesView
-names_of (Ok seen) = Some seen
-names_of (Err fault) = None
-
 -- The names that a method sees, where its class has the form that an installation asks: of those that are shared all that mean the
 -- value of one of its literals.
 unfoldable pub names_at : View → Place → Option NamesView
 names_at v at =
     let vs = literals_in v.objects at.method in
-    option_map (names_for v.objects vs) (option_and_then names_of (answer_in (names table v.head at.class at.meta (mentioning v.objects vs)) v.objects))
+    option_map (names_for v.objects vs) (option_and_then result_ok (answer_in (names table v.head at.class at.meta (mentioning v.objects vs)) v.objects))
 
 -- THE TEXT
 

@@ -9,21 +9,18 @@ use Rattle.st_browse.specs.declared.choice.Choice.{Choice}
 use Rattle.st_browse.specs.declared.choice.Choice.TheVariants.{Every, Classes}
 use Rattle.st_browse.specs.declared.line.Line.{Line}
 use Rattle.st_browse.specs.declared.line.Line.TheVariants.{Class, Method}
-use Rattle.st_browse.specs.declared.codes.Body.{Body}
 use Rattle.st_browse.specs.declared.names.Names.{Names}
 use Rattle.st_browse.specs.declared.sought.Sought.{Sought}
 use Rattle.st_browse.specs.declared.sought.Sought.TheVariants as sought
 use Rattle.st_browse.specs.Naming.{in_order}
 use Rattle.st_browse.specs.Classes.{is_class}
 use Rattle.st_browse.specs.Listing.{listed, lines_text}
-use Rattle.st_browse.specs.Replies.{count_text, bytecodes_text, senders_text}
+use Rattle.st_browse.specs.Replies.{count_text, senders_text}
+use Rattle.st_browse.specs.Asked.{code_text}
 use Rattle.st_browse.specs.Display.{form_text}
 use Rattle.st_browse.specs.Sources.{source_text}
 use Rattle.st_browse.specs.Shown.{IsForm, form_in}
 use Rattle.st_browse.specs.Entries.{IsBody, count_of, names_in}
-
-abbrev pub body_text : Table → Body → List ℕ
-body_text t b = bytecodes_text (object_of t (value b.method))
 
 -- how many names are chosen, and their lines
 abbrev pub listed_text : Table → List ℕ → Names → Choice → Line → List ℕ
@@ -35,7 +32,7 @@ sought_text t (sought.Display form) = form_text (form_in t form)
 sought_text t (sought.Classes names) = listed_text t (codes "classes") names Classes Class
 sought_text t (sought.Methods names) = listed_text t (codes "methods") names Every Method
 sought_text t (sought.Source text) = source_text text.now
-sought_text t (sought.Bytecodes body) = body_text t body
+sought_text t (sought.Bytecodes body) = code_text t (value body.method)
 sought_text t (sought.Senders globals selector) = senders_text t selector.now (filter (is_class t) (in_order (names_in t globals)))
 
 -- it is there

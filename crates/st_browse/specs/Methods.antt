@@ -25,14 +25,10 @@ formed t selectors tally methods =
     if is_small tally && is_power_of_two (places_in t selectors) && nat_le (places_in t selectors) (fields_in t methods)
     then Some (record { selectors = selectors; methods = methods; places = places_in t selectors }) else None
 
--- fields 0 and 1 of a dictionary
-abbrev pub formed_of : Table → Value → Option Value → Option Value → Option Dictionary
-formed_of t selectors None methods = None
-formed_of t selectors (Some tally) None = None
-formed_of t selectors (Some tally) (Some methods) = formed t selectors tally methods
-
+-- its fields 0 and 1
 abbrev pub as_dictionary : Table → Value → Option Dictionary
-as_dictionary t selectors = formed_of t selectors (field_at t selectors 0) (field_at t selectors 1)
+as_dictionary t selectors =
+    option_and_then (λ tally. option_and_then (formed t selectors tally) (field_at t selectors 1)) (field_at t selectors 0)
 
 -- the dictionary of a class, where it has the form
 unfoldable pub dictionary_of : Table → Value → Option Dictionary

@@ -7,8 +7,9 @@ use Rattle.st_model.specs.Values.{Value, Small, Ref}
 use Rattle.st_model.specs.Objects.{Object, first_unit}
 use Rattle.st_model.specs.Table.{Table, entry}
 use Rattle.st_model.specs.Text.{numbers_text, object_text, escaped}
+use Rattle.st_chunk.specs.Groups.{side_text}
 use Rattle.st_browse.specs.Naming.{Named}
-use Rattle.st_browse.specs.Classes.{classes, class_named, on_side}
+use Rattle.st_browse.specs.Classes.{classes, on_side}
 use Rattle.st_browse.specs.Methods.{methods}
 use Rattle.st_browse.specs.Cutting.{codes_of}
 use Rattle.st_browse.specs.Senders.{senders}
@@ -39,10 +40,6 @@ classes_text t globals = names_text (codes "classes") (codes "class ") (classes 
 abbrev pub methods_text : Table → Value → List ℕ
 methods_text t class = names_text (codes "methods") (codes "method ") (methods t class)
 
--- the class of a name, on its side
-abbrev pub side_named : Table → Option Value → List ℕ → (meta : Bool) → Option Value
-side_named t globals name meta = option_map (on_side t meta) (class_named t globals name)
-
 -- BYTECODES
 
 -- a place, counted from 1, and the bytes of the bytecode there
@@ -59,10 +56,6 @@ abbrev pub bytecodes_text : Object → List ℕ
 bytecodes_text o = count_text (codes "bytecodes") (length (codes_of o.units)) ++ codes_text (first_unit o + 1) (codes_of o.units)
 
 -- SENDERS
-
-abbrev pub side_text : (meta : Bool) → List ℕ
-side_text false = []
-side_text true = codes " class"
 
 abbrev pub sender_line : List ℕ → (meta : Bool) → List ℕ → List ℕ
 sender_line class meta selector = codes "sender " ++ (escaped class ++ (side_text meta ++ (codes " " ++ (escaped selector ++ codes "\n"))))

@@ -1,19 +1,13 @@
 -- The text of a method, line by line.
-use Rattle.std.specs.Prelude.{codes, ℕ, ◌==◌, List, [], ◌∷◌, ◌++◌, length, if◌then◌else◌}
-use Rattle.std.specs.List.{flat_map}
+use Rattle.std.specs.Prelude.{codes, ℕ, ◌==◌, List, ◌++◌, length, if◌then◌else◌}
+use Rattle.std.specs.List.{flat_map, slice_split}
 use Rattle.st_model.specs.Text.{escaped, escaped_byte}
 use Rattle.st_chunk.specs.Definitions.{line_feed}
 use Rattle.st_browse.specs.Replies.{count_text}
 
--- with one byte more before the first line
-abbrev pub with_byte : ℕ → List (List ℕ) → List (List ℕ)
-with_byte b [] = (b ∷ []) ∷ []
-with_byte b (line ∷ lines) = (b ∷ line) ∷ lines
-
 -- the lines of a text, between which line feeds stand
 abbrev pub lines_of : List ℕ → List (List ℕ)
-lines_of [] = [] ∷ []
-lines_of (b ∷ text) = if b == line_feed then [] ∷ lines_of text else with_byte b (lines_of text)
+lines_of text = slice_split (λ b. b == line_feed) text
 
 abbrev pub source_line : List ℕ → List ℕ
 source_line line = codes "| " ++ (escaped line ++ codes "\n")

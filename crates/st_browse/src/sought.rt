@@ -5,8 +5,8 @@ ghost use Rattle.st_model.specs.Values.{value};
 ghost use Rattle.st_scope.specs.Texts.{found};
 ghost use Rattle.st_chunk.specs.Asks.{ask_of, side_of};
 ghost use Rattle.st_browse.specs.{Display.display_reply, Replies.{methods_text, object_reply}};
-ghost use Rattle.st_browse.specs.Asked.{bytecodes_in, class_of_side, method_in, method_of_side, reply, source_in};
-ghost use Rattle.st_browse.specs.{Entries.IsBody, Founds.{IsSought, body_text, sought_text}};
+ghost use Rattle.st_browse.specs.Asked.{class_of_side, code_text, method_in, method_of_side, reply, source_in};
+ghost use Rattle.st_browse.specs.{Entries.IsBody, Founds.{IsSought, sought_text}};
 ghost use Rattle.st_browse.specs.{Decompiling.method_place, Placing.{IsCompiled, place_if}};
 
 use crate::classes::{globals, is_class, on_side};
@@ -55,8 +55,6 @@ fn class_of_side<M: Memory>(m: &M, side: Side<'_>) -> Option<Oop>
 /// The method of a class for a selector.
 #[tactic(auto, unfolding(crate::specs::Methods::method_named, crate::specs::Methods::if_method))]
 fn method_of<M: Memory>(m: &M, class: Oop, selector: &[u8]) -> Option<Body>
-    ensures method { let t = (M.view m.now).objects in
-        option_map (body_text t) result ≡ bytecodes_in t selector.now (value class) }
     ensures found { let t = (M.view m.now).objects in
         option_map (λ b. value b.method) result ≡ method_in t selector.now (value class) }
     ensures body { IfSome result (λ b. IsBody (M.view m.now).objects b) }
@@ -98,9 +96,8 @@ fn seek_source<'a, M: Memory>(
 /// Finds the bytecodes of a class's method for a selector.
 fn seek_bytecodes<'a, M: Memory>(m: &M, side: Side<'_>, selector: &[u8]) -> Option<Sought<'a>>
     ensures sought { let v = M.view m.now in
-        let found = class_of_side v (side_of side.entry) in
-        option_map (sought_text v.objects) result
-        ≡ option_and_then (bytecodes_in v.objects selector.now) found }
+        let method = method_of_side v (side_of side.entry) selector.now in
+        option_map (sought_text v.objects) result ≡ option_map (code_text v.objects) method }
     ensures there { IfSome result (λ s. IsSought (M.view m.now).objects s) }
 {
     let class = class_of_side(m, side)?;

@@ -1,7 +1,6 @@
 -- The words behind a command: its operands, and its options with their values.
-use Rattle.std.specs.Prelude.{ℕ, ◌==◌, Bool, true, false, ◌&&◌, nat_eq, nat_le, List, [], ◌∷◌, ◌++◌, length, codes, Option, Some, None, option_and_then, if◌then◌else◌}
+use Rattle.std.specs.Prelude.{ℕ, ◌==◌, Bool, false, ◌&&◌, bytes_eq, nat_le, List, [], ◌∷◌, ◌++◌, length, codes, Option, Some, None, option_map, option_and_then, if◌then◌else◌}
 use Rattle.std.specs.List.{position_or_len, before_first, after_first}
-use Rattle.std.specs.Cmp.Lexicographic.{pointwise}
 use Rattle.st_image.specs.declared.head.HeadValues.{HeadValues}
 use Rattle.st_chunk.specs.Lines.{number}
 use Rattle.st_call.specs.declared.arguments.Next.{Next}
@@ -10,19 +9,15 @@ use Rattle.st_call.specs.declared.arguments.Setting.{Setting}
 use Rattle.st_call.specs.declared.arguments.Setting.TheVariants.{Globals, Symbols, Entries, Words}
 use Rattle.st_image.specs.HeadValues.{no_values}
 
--- the word is this one
-abbrev pub spells : List ℕ → List ℕ → Bool
-spells w v = pointwise nat_eq w v
-
 -- OPTIONS
 
 -- the option of this name
 abbrev pub setting_named : List ℕ → Option Setting
 setting_named w =
-    if spells w (codes "--globals") then Some Globals else
-    if spells w (codes "--symbols") then Some Symbols else
-    if spells w (codes "--entries") then Some Entries else
-    if spells w (codes "--words") then Some Words else None
+    if bytes_eq w (codes "--globals") then Some Globals else
+    if bytes_eq w (codes "--symbols") then Some Symbols else
+    if bytes_eq w (codes "--entries") then Some Entries else
+    if bytes_eq w (codes "--words") then Some Words else None
 
 -- the value that it has so far
 abbrev pub value_of : Setting → HeadValues → Option ℕ
@@ -60,9 +55,6 @@ valued a s (Some m) n = None
 abbrev pub with_setting : Arguments → List ℕ → Setting → Option Arguments
 with_setting a w s = valued a s (value_of s a.options) (number 4294967295 w)
 
-abbrev pub awaits : Arguments → Setting → Option Arguments
-awaits a s = Some (record a { next = ValueOf s })
-
 abbrev pub is_equals : ℕ → Bool
 is_equals b = b == 61
 
@@ -70,7 +62,7 @@ is_equals b = b == 61
 abbrev pub with_option : Arguments → List ℕ → Option Arguments
 with_option a w =
     if position_or_len is_equals w == length w
-    then option_and_then (awaits a) (setting_named w)
+    then option_map (λ s. record a { next = ValueOf s }) (setting_named w)
     else option_and_then (with_setting a (after_first is_equals w)) (setting_named (before_first is_equals w))
 
 -- it begins with a minus sign, and isn't one
@@ -81,7 +73,7 @@ is_option (b ∷ bs) = (b == 45) && nat_le 1 (length bs)
 -- behind -- all are operands
 abbrev pub with_any : Arguments → List ℕ → Option Arguments
 with_any a w =
-    if spells w (codes "--") then Some (record a { next = Operand }) else
+    if bytes_eq w (codes "--") then Some (record a { next = Operand }) else
     if is_option w then with_option a w else with_operand a w
 
 abbrev pub with_next : Next → Arguments → List ℕ → Option Arguments
@@ -94,16 +86,13 @@ with_words a [] = Some a
 with_words a (w ∷ ws) = option_and_then (λ b. with_words b ws) (with_next a.next a w)
 
 -- no option is without its value
-abbrev pub is_whole : Next → Bool
-is_whole (ValueOf s) = false
-is_whole next = true
-
-abbrev pub whole : Arguments → Option Arguments
-whole a = if is_whole a.next then Some a else None
+abbrev pub whole : Next → Arguments → Option Arguments
+whole (ValueOf s) a = None
+whole next a = Some a
 
 abbrev pub no_arguments : Arguments
 no_arguments = record { operands = []; options = no_values; next = Any }
 
 -- what these words say; None where they say nothing
 abbrev pub arguments_of : List (List ℕ) → Option Arguments
-arguments_of ws = option_and_then whole (with_words no_arguments ws)
+arguments_of ws = option_and_then (λ a. whole a.next a) (with_words no_arguments ws)

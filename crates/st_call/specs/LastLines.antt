@@ -5,6 +5,7 @@ use Rattle.st_host.specs.Stops.{SaidPart}
 use Rattle.st_host.specs.declared.host.Host.{Ghosts}
 use Rattle.st_model.specs.declared.fault.ImageFault.{ImageFault}
 use Rattle.st_model.specs.declared.fault.ImageFault.TheVariants as fault
+use Rattle.st_model.specs.Faults.{row}
 use Rattle.st_model.specs.Text.{numbers_text}
 use Rattle.st_store.specs.declared.fault.StoreFault.{StoreFault}
 use Rattle.st_store.specs.declared.fault.StoreFault.TheVariants as store
@@ -13,21 +14,19 @@ use Rattle.st_store.specs.declared.fault.StorePlace.TheVariants.{Roots, Changes}
 use Rattle.st_protocol.specs.declared.status.Status.{Status}
 use Rattle.st_protocol.specs.declared.status.Status.TheVariants.{Done, Usage, Image, Script, ReadFault, SayFault, DiskFault, Store, Kernel, TooLarge, OutOfMemory}
 
--- a fault's row, then its pointer, and its second pointer or its index
+-- a fault's pointer, and its second pointer or its index, where it has them
 abbrev pub fault_numbers : ImageFault → List ℕ
-fault_numbers fault.Short = 1 ∷ []
-fault_numbers fault.Lengths = 2 ∷ []
-fault_numbers fault.Capacity = 3 ∷ []
-fault_numbers (fault.Size p) = 4 ∷ p ∷ []
-fault_numbers (fault.Overlap p q) = 5 ∷ p ∷ q ∷ []
-fault_numbers (fault.Class p) = 6 ∷ p ∷ []
-fault_numbers (fault.Field p i) = 7 ∷ p ∷ i ∷ []
-fault_numbers (fault.Method p) = 8 ∷ p ∷ []
-fault_numbers (fault.Root p) = 9 ∷ p ∷ []
-fault_numbers fault.Scheduler = 10 ∷ []
+fault_numbers (fault.Size p) = p ∷ []
+fault_numbers (fault.Overlap p q) = p ∷ q ∷ []
+fault_numbers (fault.Class p) = p ∷ []
+fault_numbers (fault.Field p i) = p ∷ i ∷ []
+fault_numbers (fault.Method p) = p ∷ []
+fault_numbers (fault.Root p) = p ∷ []
+fault_numbers _ = []
 
+-- behind its row
 abbrev pub fault_line : ImageFault → List ℕ
-fault_line f = codes "image" ++ (numbers_text (fault_numbers f) ++ codes "\n")
+fault_line f = codes "image" ++ (numbers_text (row f ∷ fault_numbers f) ++ codes "\n")
 
 -- the line of the script that isn't followed
 abbrev pub script_line : ℕ → List ℕ

@@ -39,11 +39,9 @@ status_of refusal.OutOfMemory = OutOfMemory
 
 -- the status after a store wasn't made, or not opened for its files
 abbrev pub store_status : StoreFault → Status
-store_status store.Missing = Store store.Missing
-store_status store.Exists = Store store.Exists
-store_status (store.NotAStore place) = Store (store.NotAStore place)
 store_status store.Disk = DiskFault
 store_status store.OutOfMemory = OutOfMemory
+store_status fault = Store fault
 
 -- WHAT IS SO OF THE BYTES
 

@@ -1,10 +1,11 @@
 -- The lines of a session besides those of a run and of a state.
-use Rattle.std.specs.Prelude.{ℕ, Bool, true, false, List, [], ◌∷◌, ◌++◌, length, codes}
+use Rattle.std.specs.Prelude.{ℕ, Bool, List, [], ◌∷◌, ◌++◌, length, codes}
 use Rattle.st_model.specs.declared.demand.Demand.{Demand}
 use Rattle.st_model.specs.Machine.{State}
 use Rattle.st_model.specs.Table.{Table}
 use Rattle.st_model.specs.Text.{numbers_text, registers_text, input_text, held_text}
 use Rattle.st_chunk.specs.Definitions.{Definition}
+use Rattle.st_chunk.specs.Groups.{side_text}
 use Rattle.st_protocol.specs.declared.refusal.Refusal.{Refusal}
 use Rattle.st_protocol.specs.declared.refusal.Refusal.TheVariants as refusal
 
@@ -19,10 +20,6 @@ full_text = codes "input full\n"
 -- the registers, the input state, and what is held
 abbrev pub machine_text : State Table → List ℕ
 machine_text s = registers_text s.registers ++ (input_text s.world ++ held_text s.world.devices)
-
-abbrev pub side_text : Bool → List ℕ
-side_text false = []
-side_text true = codes " class"
 
 -- the class, its side, and the selector
 abbrev pub accepted_line : List ℕ → Bool → List ℕ → List ℕ

@@ -1,6 +1,8 @@
-ghost use Rattle.std.specs.Prelude.{◌≡◌, map, option_map};
+ghost use Rattle.std.specs.Prelude.{◌≡◌, Some, map, option_map};
 ghost use Rattle.std.specs.String.{string_bytes};
-ghost use Rattle.st_call.specs.Words.{once_of, import_of, export_of, clean_of, condense_of, session_of, build_of, drill_of, has_values, command_named, command_of};
+ghost use Rattle.st_chunk.specs.Lines.{number};
+ghost use Rattle.st_call.specs.Words.{Once, Import, Export, Clean, Condense, Session, Build, Drill};
+ghost use Rattle.st_call.specs.Words.{of_one, of_two, has_values, command_named, command_of};
 ghost use Rattle.st_call.specs.CommandViews.{operands_view, arguments_view, command_view};
 
 use crate::arguments::{Arguments, Operands, read_arguments};
@@ -55,7 +57,8 @@ const LARGEST_OPERAND: u32 = 1_000_000_000;
 
 /// The command of `IMAGE N`.
 fn once(operands: Operands<'_>) -> Option<Command<'_>>
-    ensures { option_map command_view result ≡ once_of (operands_view operands.entry) }
+    ensures { option_map command_view result
+        ≡ of_two (λ image n. option_map (Once image) (number 1000000000 n)) (operands_view operands.entry) }
 {
     match operands {
         Operands::Two(image, number) => {
@@ -68,7 +71,8 @@ fn once(operands: Operands<'_>) -> Option<Command<'_>>
 
 /// The command of `IMAGE STORE`.
 fn import(over: HeadValues, operands: Operands<'_>) -> Option<Command<'_>>
-    ensures { option_map command_view result ≡ import_of over (operands_view operands.entry) }
+    ensures { option_map command_view result
+        ≡ of_two (λ image store. Some (Import image store over)) (operands_view operands.entry) }
 {
     match operands {
         Operands::Two(image, store) => Some(Command::Import { image, store, over }),
@@ -78,7 +82,8 @@ fn import(over: HeadValues, operands: Operands<'_>) -> Option<Command<'_>>
 
 /// The command of `STORE IMAGE`.
 fn export(operands: Operands<'_>) -> Option<Command<'_>>
-    ensures { option_map command_view result ≡ export_of (operands_view operands.entry) }
+    ensures { option_map command_view result
+        ≡ of_two (λ store image. Some (Export store image)) (operands_view operands.entry) }
 {
     match operands {
         Operands::Two(store, image) => Some(Command::Export { store, image }),
@@ -88,7 +93,8 @@ fn export(operands: Operands<'_>) -> Option<Command<'_>>
 
 /// The command of `STORE IMAGE`.
 fn clean(operands: Operands<'_>) -> Option<Command<'_>>
-    ensures { option_map command_view result ≡ clean_of (operands_view operands.entry) }
+    ensures { option_map command_view result
+        ≡ of_two (λ store image. Some (Clean store image)) (operands_view operands.entry) }
 {
     match operands {
         Operands::Two(store, image) => Some(Command::Clean { store, image }),
@@ -98,7 +104,8 @@ fn clean(operands: Operands<'_>) -> Option<Command<'_>>
 
 /// The command of `STORE`.
 fn condense(operands: Operands<'_>) -> Option<Command<'_>>
-    ensures { option_map command_view result ≡ condense_of (operands_view operands.entry) }
+    ensures { option_map command_view result
+        ≡ of_one (λ store. Some (Condense store)) (operands_view operands.entry) }
 {
     match operands {
         Operands::One(store) => Some(Command::Condense { store }),
@@ -108,7 +115,8 @@ fn condense(operands: Operands<'_>) -> Option<Command<'_>>
 
 /// The command of `STORE`.
 fn session(operands: Operands<'_>) -> Option<Command<'_>>
-    ensures { option_map command_view result ≡ session_of (operands_view operands.entry) }
+    ensures { option_map command_view result
+        ≡ of_one (λ store. Some (Session store)) (operands_view operands.entry) }
 {
     match operands {
         Operands::One(store) => Some(Command::Session { store }),
@@ -118,7 +126,8 @@ fn session(operands: Operands<'_>) -> Option<Command<'_>>
 
 /// The command of `KERNEL STORE`.
 fn build(operands: Operands<'_>) -> Option<Command<'_>>
-    ensures { option_map command_view result ≡ build_of (operands_view operands.entry) }
+    ensures { option_map command_view result
+        ≡ of_two (λ kernel store. Some (Build kernel store)) (operands_view operands.entry) }
 {
     match operands {
         Operands::Two(kernel, store) => Some(Command::Build { kernel, store }),
@@ -128,7 +137,8 @@ fn build(operands: Operands<'_>) -> Option<Command<'_>>
 
 /// The command of `N`.
 fn drill(operands: Operands<'_>) -> Option<Command<'_>>
-    ensures { option_map command_view result ≡ drill_of (operands_view operands.entry) }
+    ensures { option_map command_view result
+        ≡ of_one (λ n. option_map Drill (number 1000000000 n)) (operands_view operands.entry) }
 {
     match operands {
         Operands::One(number) => {

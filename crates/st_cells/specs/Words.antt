@@ -1,5 +1,5 @@
 -- Words of a region, and what stands there once words were moved or written.
-use Rattle.std.specs.Prelude.{ℕ, suc, ◌+◌, ◌-◌, ◌*◌, ◌/◌, ◌%◌, ◌==◌, nat_lt, if◌then◌else◌, List, [], ◌∷◌, slice_index, slice_set}
+use Rattle.std.specs.Prelude.{◌≡◌, ◌<◌, ℕ, suc, ◌+◌, ◌-◌, ◌*◌, ◌/◌, ◌%◌, ◌==◌, nat_lt, if◌then◌else◌, List, [], ◌∷◌, slice_index, slice_set}
 
 -- the n words from `from` on have come to `to`, and all others stand
 abbrev pub slid : (ℕ → ℕ) → ℕ → ℕ → ℕ → ℕ → ℕ
@@ -13,6 +13,10 @@ with_run words at (w ∷ ws) = with_run (slice_set words at w) (suc at) ws
 -- the upper half of a word for an even place, and the lower half for an odd one
 abbrev pub byte_of : ℕ → ℕ → ℕ
 byte_of w i = if i % 2 == 0 then w / 256 else w % 256
+
+-- these are the n bytes from place i on, of which the words from another place on have two each
+abbrev pub HasBytes : List ℕ → (at i n : ℕ) → List ℕ → Type 0
+HasBytes words at i n bytes = (k : ℕ) → k < n → slice_index bytes k ≡ byte_of (slice_index words (at + (i + k) / 2)) (i + k)
 
 -- a word with another byte in that half
 abbrev pub with_byte : ℕ → ℕ → ℕ → ℕ

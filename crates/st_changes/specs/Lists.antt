@@ -4,9 +4,9 @@ use Rattle.st_host.specs.Files.{Files, bytes_of}
 use Rattle.st_store.specs.Names.{changes_file}
 use Rattle.st_store.specs.Stored.{StoreState}
 use Rattle.st_store.specs.declared.root.Root.{Root}
-use Rattle.st_store.specs.declared.fault.StorePlace.TheVariants.{Roots, Changes}
+use Rattle.st_store.specs.declared.fault.StorePlace.TheVariants.{Changes}
 use Rattle.st_store.specs.declared.fault.StoreFault.{StoreFault}
-use Rattle.st_store.specs.declared.fault.StoreFault.TheVariants.{Missing, Exists, NotAStore, Disk, OutOfMemory}
+use Rattle.st_store.specs.declared.fault.StoreFault.TheVariants.{NotAStore, Disk, OutOfMemory}
 use Rattle.st_chunk.specs.Definitions.{Definition, IsDefinition, entry, entries}
 use Rattle.st_changes.specs.Entries.{BeginsWith}
 
@@ -65,21 +65,17 @@ pub record EndsShort (bytes : List ℕ) (root : Root) (at : ℕ) : Type 0 where
 
 -- Why these bytes of a changes file, of which this is the root, aren't loaded. The last two come from outside.
 abbrev pub RefusesChanges : List ℕ → Root → StoreFault → Type 0
-RefusesChanges bytes root Missing = ⊥
-RefusesChanges bytes root Exists = ⊥
-RefusesChanges bytes root (NotAStore (Roots at)) = ⊥
 RefusesChanges bytes root (NotAStore (Changes at)) = IsDamaged bytes root.base at ⊎ EndsShort bytes root at
 RefusesChanges bytes root Disk = ⊤
 RefusesChanges bytes root OutOfMemory = ⊤
+RefusesChanges bytes root _ = ⊥
 
 -- the faults of loading, on any host
 abbrev pub IsOfLoading : StoreFault → Type 0
-IsOfLoading Missing = ⊥
-IsOfLoading Exists = ⊥
-IsOfLoading (NotAStore (Roots at)) = ⊥
 IsOfLoading (NotAStore (Changes at)) = ⊤
 IsOfLoading Disk = ⊤
 IsOfLoading OutOfMemory = ⊤
+IsOfLoading _ = ⊥
 
 -- the faults of calls and of memory
 abbrev pub IsOutside : StoreFault → Type 0

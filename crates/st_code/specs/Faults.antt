@@ -7,7 +7,7 @@ use Rattle.st_emit.specs.Bounds.{least_size}
 use Rattle.st_code.specs.declared.fault.Fault.{Fault}
 use Rattle.st_code.specs.declared.fault.Cause.{Cause}
 use Rattle.st_code.specs.declared.fault.Cause.TheVariants.{Unknown, Twice, Store, Number}
-use Rattle.st_emit.specs.Names.{NamesView, Scope, Variable, temporary, field, shared, constant_named, declared_as, declared, variable_named, or_else}
+use Rattle.st_emit.specs.Names.{NamesView, Scope, Variable, temporary, constant_named, declared_as, declared, variable_named, or_else}
 
 abbrev pub fault_at : ℕ → Cause → Option Fault
 fault_at place cause = Some (record { place = place; cause = cause })
@@ -21,10 +21,8 @@ read_fault names scope n = if is_some (constant_named n.text) then None else (if
 -- a name that is stored into: it has to mean what may be stored into
 abbrev pub stored_fault : ℕ → Option Variable → Option Fault
 stored_fault place None = fault_at place Unknown
-stored_fault place (Some (temporary n true)) = None
 stored_fault place (Some (temporary n false)) = fault_at place Store
-stored_fault place (Some (field n)) = None
-stored_fault place (Some (shared a)) = None
+stored_fault place _ = None
 
 abbrev pub store_fault : NamesView → Scope → NameView → Option Fault
 store_fault names scope n = if is_some (constant_named n.text) then fault_at n.place Store else stored_fault n.place (variable_named names scope n.text)

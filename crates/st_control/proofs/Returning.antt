@@ -21,11 +21,11 @@ module _ (m : ObjectMemory Table) (t : Table) (a : Head) (r : Words) (v : Value)
   past-active = refl
 
   pub past-home-at-once : (return_to_sender_at_once m v).run (row_state t a r) ≡ (return_past_at_once m (word r.home) v).run (row_state t a r)
-  unfolding return_to_sender_at_once return_past_at_once get_home row_state ◌>>=◌ after
+  unfolding return_to_sender_at_once get_home row_state ◌>>=◌ after
   past-home-at-once = refl
 
   pub past-active-at-once : (return_to_caller_at_once m v).run (row_state t a r) ≡ (return_past_at_once m (word r.active) v).run (row_state t a r)
-  unfolding return_to_caller_at_once return_past_at_once get_active row_state ◌>>=◌ after
+  unfolding return_to_caller_at_once get_active row_state ◌>>=◌ after
   past-active-at-once = refl
 
 -- a row that returns

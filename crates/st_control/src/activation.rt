@@ -3,7 +3,7 @@ ghost use Rattle.st_model.specs.Values.{word};
 ghost use Rattle.st_model.specs.Contexts.{fill_context, new_context, pass_words, activate};
 ghost use Rattle.st_model.specs.Calls.{itself};
 ghost use Rattle.st_control.specs.AtOnce.{IsStill, enter_context, context_space, activate_at_once};
-ghost use Rattle.st_frames.specs.Rows.{RowReads, RowMoves, RowDoes, Takes, activation_changes, send_changes, jump_changes, return_changes};
+ghost use Rattle.st_frames.specs.Rows.{RowReads, RowDoes, Takes, activation_changes};
 
 use crate::called::Called;
 use st_frames::{Registers, drop_words, look_at_words, page, small, switch};

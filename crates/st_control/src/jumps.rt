@@ -1,10 +1,9 @@
-ghost use Rattle.std.specs.Prelude.{◌≡◌, ◌<◌, ◌≤◌, ◌+◌, ◌≤ℤ◌, pos, negsuc};
+ghost use Rattle.std.specs.Prelude.{◌≡◌, ◌<◌, ◌≤◌, ◌+◌, ◌≤ℤ◌, pos};
 ghost use Rattle.st_model.specs.Values.{word};
 ghost use Rattle.st_model.specs.Steps.{jump};
 ghost use Rattle.st_model.specs.Sends.{call_of, call_if_any};
-ghost use Rattle.st_model.specs.Returns.{calls, calls_nothing, must_be_boolean, jump_on};
-ghost use Rattle.st_model.specs.Calls.{itself};
-ghost use Rattle.st_frames.specs.Rows.{RowReads, RowMoves, RowDoes, Takes, activation_changes, send_changes, jump_changes, return_changes};
+ghost use Rattle.st_model.specs.Returns.{calls_nothing, must_be_boolean, jump_on};
+ghost use Rattle.st_frames.specs.Rows.{RowMoves, RowDoes, Takes, jump_changes};
 
 use crate::sends::send;
 use st_frames::{Registers, jump, page, pop, push};

@@ -2,7 +2,7 @@ ghost use Rattle.std.specs.Prelude.{◌≡◌, ◌<◌, ◌≤◌, ◌+◌};
 ghost use Rattle.st_model.specs.Values.{word};
 ghost use Rattle.st_model.specs.Sends.{copy_arguments, argument_array, new_message, replace_by_message};
 ghost use Rattle.st_model.specs.Calls.{itself};
-ghost use Rattle.st_frames.specs.Rows.{RowReads, RowMoves, RowDoes, Takes, activation_changes, send_changes, jump_changes, return_changes};
+ghost use Rattle.st_frames.specs.Rows.{RowDoes, Takes};
 
 use crate::sent::Sent;
 use st_frames::{Registers, drop_words, page, push};
@@ -35,17 +35,22 @@ fn argument_array<O: Objects>(m: &mut O, r: &Registers, n: u32) -> Result<Word, 
     Ok(array)
 }
 
-/// A new Message of what is sent, with an Array of its arguments.
+/// A new Message of a selector and an Array of arguments.
 #[tactic(auto, using(st_frames::proofs::Doing::rows), unfolding(st_model::specs::Sends::new_message))]
-fn new_message<O: Objects>(m: &mut O, r: &Registers, sent: Sent, array: Word) -> Result<Word, Dead>
+fn new_message<O: Objects>(
+    m: &mut O,
+    r: &Registers,
+    selector: Word,
+    array: Word,
+) -> Result<Word, Dead>
     requires room { 3 ≤ O.room m.old }
-    ensures does { RowDoes O.Objects.own (new_message O.names (word sent.selector) (word array))
+    ensures does { RowDoes O.Objects.own (new_message O.names (word selector) (word array))
         word m.old r.now result m.new r.now }
     ensures takes { Takes O.Objects.own 3 m.old m.new }
 {
     let class = page(m, PageObject::MessageClass);
     let message = m.new_object(class, 2)?;
-    m.store_field(message, 0, sent.selector)?;
+    m.store_field(message, 0, selector)?;
     m.store_field(message, 1, array)?;
     Ok(message)
 }
@@ -59,7 +64,7 @@ pub fn replace_by_message<O: Objects>(m: &mut O, r: &mut Registers, sent: Sent) 
     ensures takes { Takes O.Objects.own 6 m.old m.new }
 {
     let array = argument_array(m, r, sent.arguments)?;
-    let message = new_message(m, r, sent, array)?;
+    let message = new_message(m, r, sent.selector, array)?;
     drop_words(m, r, sent.arguments)?;
     push(m, r, message)
 }

@@ -3,7 +3,7 @@ ghost use Rattle.st_model.specs.Values.{word};
 ghost use Rattle.st_model.specs.Decoded.{IsNumberedOperand};
 ghost use Rattle.st_model.specs.Bytecodes.{fetch_literal_constant, fetch_operand, store_operand, constant_value};
 ghost use Rattle.st_model.specs.Calls.{itself};
-ghost use Rattle.st_frames.specs.Rows.{RowReads, RowMoves, RowDoes, Takes, send_changes, jump_changes, return_changes};
+ghost use Rattle.st_frames.specs.Rows.{RowReads, RowDoes, Takes};
 
 use st_frames::{Registers, page, small};
 use st_memory::Objects;

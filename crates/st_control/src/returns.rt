@@ -4,7 +4,7 @@ ghost use Rattle.st_model.specs.Sends.{call_of, call_if_any};
 ghost use Rattle.st_model.specs.Returns.{cannot_return, return_into};
 ghost use Rattle.st_model.specs.Calls.{itself};
 ghost use Rattle.st_control.specs.Returning.{return_past};
-ghost use Rattle.st_frames.specs.Rows.{RowReads, RowMoves, RowDoes, Takes, activation_changes, send_changes, jump_changes, return_changes};
+ghost use Rattle.st_frames.specs.Rows.{RowDoes, Takes, return_changes};
 
 use crate::sends::send;
 use st_frames::{Registers, fetch_context_registers, page, push};

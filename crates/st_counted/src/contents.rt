@@ -1,12 +1,11 @@
-ghost use Rattle.std.specs.Prelude.{◌≡◌, ◌+◌, ◌≤◌, ◌<◌, ◌/◌, ◌==◌, ℕ, true, false, None, [], length, slice_set, IfOk, IfSome, IfNone, if◌then◌else◌};
+ghost use Rattle.std.specs.Prelude.{◌≡◌, ◌+◌, ◌<◌, ◌/◌, ◌==◌, ℕ, true, false, None, [], length, slice_set, IfOk, IfSome, IfNone, if◌then◌else◌};
 ghost use Rattle.st_model.specs.Values.{value, Ref};
 ghost use Rattle.st_model.specs.Formed.{IsHeader, IsMakeable, fresh};
 ghost use Rattle.st_model.specs.Table.{first_free, placed};
-ghost use Rattle.st_model.specs.View.{empty_view, head_of, fits, IsWhole, IsPlace, IsKnown, is_live, object_of, with_held, with_stored, demand_of};
+ghost use Rattle.st_model.specs.View.{empty_view, head_of, fits, IsWhole, IsPlace, IsKnown, is_live, object_of, with_held, demand_of};
 ghost use Rattle.st_table.specs.Entries.{place as place_at};
 ghost use Rattle.st_heap.specs.Places.{SamePlaces, SameOtherPlaces, Stands};
 ghost use Rattle.st_counted.specs.Counts.{count_at, is_counted, number_at, is_unused, raised};
-ghost use Rattle.st_heap.specs.Tables.{objects_of, room_of};
 ghost use Rattle.st_counted.specs.Links.{SameObjects, IsListed};
 ghost use Rattle.st_counted.specs.Contents.{counts_of};
 ghost use Rattle.st_counted.specs.References.{all_roots, nils_of, IsCounted};

@@ -1,9 +1,7 @@
-ghost use Rattle.std.specs.Prelude.{◌≡◌, ◌≢◌, ◌<◌, ◌+◌, ◌/◌, ℕ, true, false, if◌then◌else◌};
+ghost use Rattle.std.specs.Prelude.{◌≡◌, ◌≢◌, ◌<◌, ◌+◌, true, false, if◌then◌else◌};
 ghost use Rattle.st_model.specs.Values.{value, is_small};
 ghost use Rattle.st_table.specs.Entries.{place};
 ghost use Rattle.st_counted.specs.Counts.{is_counted, number_at, is_unused};
-ghost use Rattle.st_heap.specs.Places.{SamePlaces};
-ghost use Rattle.st_heap.specs.Tables.{objects_of, room_of};
 ghost use Rattle.st_counted.specs.Links.{SameObjects, IsListed};
 ghost use Rattle.st_counted.specs.Contents.{counts_of};
 ghost use Rattle.st_counted.specs.References.{raised_by, lowered_by};

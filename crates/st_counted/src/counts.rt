@@ -1,8 +1,7 @@
 ghost use Rattle.std.specs.Prelude.{◌≡◌, ◌≢◌, ◌<◌, ◌≤◌, ◌+◌, ℕ, Bool, length, replicate, true, false, Some, None, is_some, slice_set, IfOk};
 ghost use Rattle.st_model.specs.Table.{entry};
 ghost use Rattle.st_table.specs.Entries.{place};
-ghost use Rattle.st_heap.specs.Places.{SamePlaces};
-ghost use Rattle.st_heap.specs.Tables.{objects_of, room_of};
+ghost use Rattle.st_heap.specs.Tables.{objects_of};
 ghost use Rattle.st_counted.specs.Counts.{count_at, is_counted, number_at, is_unused, raised, lowered};
 ghost use Rattle.st_counted.specs.Slots.{counts_in, no_count};
 

@@ -1,11 +1,10 @@
-ghost use Rattle.std.specs.Prelude.{◌≡◌, ◌≢◌, ◌<◌, ◌*◌, ◌/◌, ℕ, Bool, true, false, is_some, if◌then◌else◌, ◌==◌};
+ghost use Rattle.std.specs.Prelude.{◌≡◌, ◌≢◌, ◌<◌, ◌*◌, ℕ, Bool, true, false, is_some, if◌then◌else◌, ◌==◌};
 ghost use Rattle.st_model.specs.Values.{value};
 ghost use Rattle.st_model.specs.Table.{entry};
 ghost use Rattle.st_model.specs.View.{is_live};
 ghost use Rattle.st_table.specs.Entries.{place};
 ghost use Rattle.st_heap.specs.Links.{next_of, before_of};
-ghost use Rattle.st_heap.specs.Places.{SamePlaces};
-ghost use Rattle.st_heap.specs.Tables.{objects_of, room_of};
+ghost use Rattle.st_heap.specs.Tables.{objects_of};
 ghost use Rattle.st_counted.specs.Links.{SameObjects, Holds, IsEnd, with_member, without_member};
 
 use st_heap::Objects;

@@ -1,5 +1,4 @@
-ghost use Rattle.std.specs.Prelude.{◌≡◌, ◌≢◌, ◌<◌, ◌≤◌, ◌+◌, ◌==◌, ℕ, length, slice_index_or, take, map, IfOk};
-ghost use Rattle.st_model.specs.declared.oop.Oop.{Oop};
+ghost use Rattle.std.specs.Prelude.{◌≡◌, ◌≢◌, ◌<◌, ◌≤◌, ℕ, length, slice_index_or, IfOk};
 ghost use Rattle.st_model.specs.declared.place.RootPlace.TheVariants.{Pending};
 ghost use Rattle.st_model.specs.Values.{value};
 ghost use Rattle.st_model.specs.View.{held_at, with_held, IsPlace, nothing_held};
@@ -90,7 +89,7 @@ fn nil_words(alloc: Global, len: usize) -> Result<Vec<Oop>, AllocError>
 }
 
 impl Roots {
-    ghost use Rattle.st_counted.specs.Held.{held_words, held_of};
+    ghost use Rattle.st_counted.specs.Held.{held_of};
 
     /// Nothing held.
     pub fn new(alloc: Global) -> Result<Roots, AllocError>

@@ -4,4 +4,5 @@ pub mod Messages
 pub mod Names
 pub mod Called
 pub mod Stacks
+pub mod Made
 pub mod Sent

@@ -1,13 +1,14 @@
 //! The trees that are made of what is read. Their places are 0.
 
 ghost use Rattle.std.specs.Prelude.{◌≡◌, false, IfOk, option_map, Some};
-ghost use Rattle.st_scan.specs.Views.{name_view, content_view, elements_view, expression_view, expressions_view};
-ghost use Rattle.st_scan.specs.Views.{statements_view, statement, no_statements, send, message, no_messages};
+ghost use Rattle.st_scan.specs.Views.{name_view, content_view, elements_view, expression_view};
+ghost use Rattle.st_scan.specs.Views.{statements_view, statement, no_statements};
 ghost use Rattle.st_emit.specs.{Nodes.is_above, Views.{literal_view, members_view}};
 ghost use Rattle.st_expression_stack.specs.Choosing.{called, constant_text, constant_tree, small_signed, small_tree};
 ghost use Rattle.st_expression_stack.specs.Choosing.{named_content, content_of, elements_of, literal_tree, received, alone};
-ghost use Rattle.st_expression_stack.specs.Choosing.{one_sided_by, with_block, with_blocks, two_sides, choice_tree, loop_selector, loop_tree};
+ghost use Rattle.st_expression_stack.specs.Choosing.{one_sided_by, loop_selector};
 ghost use Rattle.st_expression_stack.specs.Stacks.{text_now};
+ghost use Rattle.st_expression_stack.specs.Made.{message_to, block_to, blocks_to, sides_to, choice_to, loop_of};
 
 use crate::item::Statements;
 use st_emit::{Constant, Literal, Lookup, constant_named};
@@ -208,8 +209,7 @@ fn with_arguments(
     selector: &[u8],
     arguments: ExpressionList,
 ) -> Result<Expression, AllocError>
-    ensures { IfOk result (λ e. expression_view e ≡ send (expression_view receiver)
-        (message selector.now (expressions_view arguments.items) no_messages)) }
+    ensures { IfOk result (λ e. expression_view e ≡ message_to receiver selector.now arguments.items) }
 {
     let selector = selector.to_vec(alloc)?;
     let mut messages: MessageList = Vec::new(alloc);
@@ -227,8 +227,7 @@ fn with_block(
     selector: &[u8],
     first: StatementList,
 ) -> Result<Expression, AllocError>
-    ensures { IfOk result (λ e. expression_view e
-        ≡ with_block (expression_view receiver) selector.now (statements_view first.items)) }
+    ensures { IfOk result (λ e. expression_view e ≡ block_to receiver selector.now first.items) }
 {
     let names: NameList = Vec::new(alloc);
     let mut arguments: ExpressionList = Vec::new(alloc);
@@ -244,8 +243,7 @@ fn with_blocks(
     first: StatementList,
     second: StatementList,
 ) -> Result<Expression, AllocError>
-    ensures { IfOk result (λ e. expression_view e ≡ with_blocks (expression_view receiver) selector.now
-        (statements_view first.items) (statements_view second.items)) }
+    ensures { IfOk result (λ e. expression_view e ≡ blocks_to receiver selector.now first.items second.items) }
 {
     let mut arguments: ExpressionList = Vec::new(alloc);
     let names: NameList = Vec::new(alloc);
@@ -263,8 +261,7 @@ fn two_sides(
     first: Statements,
     second: Statements,
 ) -> Result<Expression, AllocError>
-    ensures { IfOk result (λ e. expression_view e ≡ two_sides (expression_view condition)
-        (statements_view first.list.items) first.least (statements_view second.list.items) second.least) }
+    ensures { IfOk result (λ e. expression_view e ≡ sides_to condition first second) }
 {
     if second.least < first.least {
         with_blocks(
@@ -293,8 +290,7 @@ pub fn choice_tree(
     first: Statements,
     second: Statements,
 ) -> Result<Expression, AllocError>
-    ensures { IfOk result (λ e. expression_view e ≡ choice_tree on (expression_view condition)
-        (statements_view first.list.items) first.least (statements_view second.list.items) second.least) }
+    ensures { IfOk result (λ e. expression_view e ≡ choice_to on condition first second) }
 {
     match one_sided_by(on, alone(&second.list)) {
         Some(selector) => with_block(alloc, condition, selector, first.list),
@@ -320,8 +316,7 @@ pub fn loop_tree(
     condition: StatementList,
     body: StatementList,
 ) -> Result<Expression, AllocError>
-    ensures { IfOk result (λ e. expression_view e
-        ≡ loop_tree on (statements_view condition.items) (statements_view body.items)) }
+    ensures { IfOk result (λ e. expression_view e ≡ loop_of on condition.items body.items) }
 {
     let names: NameList = Vec::new(alloc);
     let receiver = Expression::block(names, condition);

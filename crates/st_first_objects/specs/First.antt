@@ -39,8 +39,5 @@ fit_beside p words [] = true
 fit_beside p words (x ∷ xs) =
     nat_le (words_of (object p x)) 65535 && (nat_le (words + words_of (object p x)) most_words && fit_beside p (words + words_of (object p x)) xs)
 
-abbrev pub have_room : Plan → Bool
-have_room p = nat_le (length p.order.things) 32767 && fit_beside p 0 p.order.things
-
 abbrev pub has_room : List Part → Bool
-has_room ps = have_room (plan ps)
+has_room ps = nat_le (length (plan ps).order.things) 32767 && fit_beside (plan ps) 0 (plan ps).order.things

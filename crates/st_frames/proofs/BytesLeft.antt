@@ -18,7 +18,7 @@ use Rattle.st_model.proofs.KindTests.{bytes_pointers}
 use Rattle.st_model.proofs.Entries.{changed-again}
 use Rattle.st_model.proofs.Resting.{changed-itself}
 use Rattle.st_model.proofs.Runs.{get-past}
-use Rattle.st_memory.proofs.Keeping.{got_below}
+use Rattle.st_memory.proofs.Bodies.{got_below}
 
 pub got : {A : Type 0} (xs : List A) (i : ℕ) → i < length xs → (x : A) × (slice_get xs i ≡ Some x)
 got [] i l = absurd (omega arith)

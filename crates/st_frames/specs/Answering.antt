@@ -32,24 +32,6 @@ abbrev pub StoresBytes : {M : Type 0} → Ghosts M → M → Words → Word → 
 StoresBytes o m r v i n result = (bs : List ℕ) → length bs ≡ n
     → Does (store_bytes o.names (word v) i bs) itself (state_of o m r) result (over (λ t. changed_by (bytes_stored i bs) t (word v)) (state_of o m r))
 
--- the number that n bytes say from one on
-unfoldable pub number_read : {H : Type 0} → ObjectMemory H → Value → ℕ → ℕ → Step H ℕ
-number_read m v from n = do
-  bytes ← fetch_bytes m v from n
-  answer (number_of_bytes bytes)
-
--- the answer takes the place of receiver and n arguments, and the primitive has succeeded
-unfoldable pub succeed_with : {H : Type 0} → ObjectMemory H → ℕ → Value → Step H Bool
-succeed_with m n v = do
-  answer_with m n v
-  answer true
-
--- so does what a step answers
-unfoldable pub succeed_by : {H : Type 0} → ObjectMemory H → ℕ → Step H Value → Step H Bool
-succeed_by m n step = do
-  v ← step
-  succeed_with m n v
-
 -- the answer of an effect, and what it leaves to be done
 abbrev pub answer_word : Answer → Value
 answer_word a = word a.word
@@ -60,3 +42,22 @@ answer_deed a = a.deed
 -- what answers nothing but a deed
 abbrev pub no_word : Deed → Unit {0}
 no_word d = tt
+
+module _ {H : Type 0} (m : ObjectMemory H) where
+  -- the number that n bytes say from one on
+  unfoldable pub number_read : Value → ℕ → ℕ → Step H ℕ
+  number_read v from n = do
+    bytes ← fetch_bytes m v from n
+    answer (number_of_bytes bytes)
+
+  -- the answer takes the place of receiver and n arguments, and the primitive has succeeded
+  unfoldable pub succeed_with : ℕ → Value → Step H Bool
+  succeed_with n v = do
+    answer_with m n v
+    answer true
+
+  -- so does what a step answers
+  unfoldable pub succeed_by : ℕ → Step H Value → Step H Bool
+  succeed_by n step = do
+    v ← step
+    succeed_with n v

@@ -37,8 +37,7 @@ abbrev pub of_install : InstallFault → Refusal
 of_install fault.NoClass = NoClass
 of_install fault.NoGlobals = NoGlobals
 of_install (fault.NoRoom demand) = NoRoom demand
-of_install fault.Shape = Shape
-of_install fault.OutOfMemory = Shape
+of_install _ = Shape
 
 -- STEPS
 
@@ -68,9 +67,7 @@ module _ {H : Type 0} (m : ObjectMemory H) where
     -- the tree of the text
     unfoldable pub prepare_tree : Value → Result MethodView syntax_fault.Fault → Step H (Result Prepared Refusal)
     prepare_tree class (Err fault) = answer (Err (of_syntax fault))
-    prepare_tree class (Ok tree) = do
-      seen ← names m head class d.meta tree
-      prepare_under class tree seen
+    prepare_tree class (Ok tree) = names m head class d.meta tree >>= prepare_under class tree
 
     -- the class
     unfoldable pub prepare_in : Result Value InstallFault → Step H (Result Prepared Refusal)
@@ -79,22 +76,16 @@ module _ {H : Type 0} (m : ObjectMemory H) where
 
     -- a refusal, or what is to be installed; nothing changes
     unfoldable pub prepare : Step H (Result Prepared Refusal)
-    prepare = do
-      class ← class_of_name m head d.class d.meta
-      prepare_in class
+    prepare = class_of_name m head d.class d.meta >>= prepare_in
 
   -- what is prepared is installed; the method's selector
   unfoldable pub carry_out : Result Prepared Refusal → Step H (Result (List ℕ) Refusal)
   carry_out (Err why) = answer (Err why)
-  carry_out (Ok p) = do
-    install m p.plan
-    answer (Ok p.selector)
+  carry_out (Ok p) = install m p.plan >> answer (Ok p.selector)
 
   -- a definition, before anything is reclaimed
   unfoldable pub define : Head → Definition → Step H (Result (List ℕ) Refusal)
-  define head d = do
-    p ← prepare head d
-    carry_out p
+  define head d = prepare head d >>= carry_out
 
 -- OVER BIRTHS
 

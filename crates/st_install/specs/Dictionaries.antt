@@ -22,129 +22,16 @@ ends_at k true is_nil otherwise = answer (Holds k)
 ends_at k false true otherwise = answer (Vacant k)
 ends_at k false false otherwise = otherwise
 
-unfoldable pub seek_at : {H : Type 0} → ObjectMemory H → Value → Value → ℕ → Step H Ending → Step H Ending
-seek_at m dictionary sought k otherwise = do
-  s ← fetch_field m dictionary (2 + k)
-  nil ← of_page m NilObject
-  ends_at k (same_value s sought) (same_value s nil) otherwise
-
--- at so many places from k on
-unfoldable pub seek_among : {H : Type 0} → ObjectMemory H → Value → Value → ℕ → ℕ → Step H Ending → Step H Ending
-seek_among m dictionary sought k zero otherwise = otherwise
-seek_among m dictionary sought k (suc left) otherwise = seek_at m dictionary sought k (seek_among m dictionary sought (suc k) left otherwise)
-
--- from the start up to the last place, and then from place 0 up to the start
-unfoldable pub seek_from : {H : Type 0} → ObjectMemory H → Value → Value → ℕ → ℕ → Step H Ending
-seek_from m dictionary sought places start =
-    seek_among m dictionary sought start (places - start) (seek_among m dictionary sought 0 start (answer Nowhere))
-
--- how many places a dictionary has
-unfoldable pub count_places : {H : Type 0} → ObjectMemory H → Value → Step H ℕ
-count_places m dictionary = do
-  n ← count_fields m dictionary
-  answer (n - 2)
-
--- what is sought from the start of a selector, half of whose pointer is masked by the number of places less 1
-unfoldable pub seek : {H : Type 0} → ObjectMemory H → Value → Value → Value → Step H Ending
-seek m dictionary sought selector = do
-  places ← count_places m dictionary
-  half ← half_word m selector
-  seek_from m dictionary sought places (bit_and half (places - 1))
-
--- where the search for a selector ends
-unfoldable pub place_of_selector : {H : Type 0} → ObjectMemory H → Value → Value → Step H Ending
-place_of_selector m dictionary selector = seek m dictionary selector selector
-
 -- GROWTH
 
 abbrev pub one_more_if : Bool → ℕ → ℕ
 one_more_if true n = suc n
 one_more_if false n = n
 
--- of so many places from k on, those that hold nil
-unfoldable pub count_vacant : {H : Type 0} → ObjectMemory H → Value → ℕ → ℕ → Step H ℕ
-count_vacant m dictionary k zero = answer 0
-count_vacant m dictionary k (suc left) = do
-  s ← fetch_field m dictionary (2 + k)
-  nil ← of_page m NilObject
-  n ← count_vacant m dictionary (suc k) left
-  answer (one_more_if (same_value s nil) n)
-
--- with one selector more no place would hold nil
-unfoldable pub is_nearly_full : {H : Type 0} → ObjectMemory H → Value → Step H Bool
-is_nearly_full m dictionary = do
-  places ← count_places m dictionary
-  n ← count_vacant m dictionary 0 places
-  answer (nat_le n 1)
-
-unfoldable pub grows_at : {H : Type 0} → ObjectMemory H → Value → Ending → Step H Bool
-grows_at m dictionary (Holds k) = answer false
-grows_at m dictionary (Vacant k) = is_nearly_full m dictionary
-grows_at m dictionary Nowhere = is_nearly_full m dictionary
-
--- Whether the dictionary grows for a selector: where that is added to it and would leave no place of nil. It has no Symbol that is
--- made only now.
-unfoldable pub grows_for : {H : Type 0} → ObjectMemory H → Value → Part → Step H Bool
-grows_for m dictionary (Made k) = is_nearly_full m dictionary
-grows_for m dictionary (There selector) = do
-  end ← place_of_selector m dictionary selector
-  grows_at m dictionary end
-
 -- a dictionary of a class, with a tally and so many places, and then its Array of methods, which is object number next
 abbrev pub dictionary_objects : (class tally array_class nil : Value) → (places next : ℕ) → List NewObject
 dictionary_objects class tally array_class nil places next =
     pointers_object class (There tally ∷ Made next ∷ replicate places (There nil)) ∷ pointers_object array_class (replicate places (There nil)) ∷ []
-
--- a dictionary of the same class, with the same tally and twice the places, which is object number next
-unfoldable pub grown_objects : {H : Type 0} → ObjectMemory H → Value → ℕ → Step H (List NewObject)
-grown_objects m dictionary next = do
-  class ← class_of m dictionary
-  tally ← fetch_field m dictionary 0
-  places ← count_places m dictionary
-  array_class ← of_page m ArrayClass
-  nil ← of_page m NilObject
-  answer (dictionary_objects class tally array_class nil (2 * places) (next + 1))
-
--- a selector and its method, at place k
-unfoldable pub put_method : {H : Type 0} → ObjectMemory H → Value → Value → ℕ → Value → Value → Step H Unit
-put_method m dictionary methods k selector method = do
-  store_field m dictionary (2 + k) selector
-  store_field m methods k method
-
-unfoldable pub put_at : {H : Type 0} → ObjectMemory H → Value → Value → Value → Ending → Step H Unit
-put_at m dictionary selector method (Holds k) = do
-  methods ← fetch_field m dictionary 1
-  put_method m dictionary methods k selector method
-put_at m dictionary selector method (Vacant k) = die dead.Places
-put_at m dictionary selector method Nowhere = die dead.Places
-
-unfoldable pub refill_unless : {H : Type 0} → ObjectMemory H → Value → Value → ℕ → Value → Bool → Step H Unit
-refill_unless m old new k selector true = answer tt
-refill_unless m old new k selector false = do
-  methods ← fetch_field m old 1
-  method ← fetch_field m methods k
-  nil ← of_page m NilObject
-  end ← seek m new nil selector
-  put_at m new selector method end
-
--- what stands at a place of the old dictionary goes to the first place of nil in the new one, from its own start
-unfoldable pub refill_from : {H : Type 0} → ObjectMemory H → Value → Value → ℕ → Step H Unit
-refill_from m old new k = do
-  selector ← fetch_field m old (2 + k)
-  nil ← of_page m NilObject
-  refill_unless m old new k selector (same_value selector nil)
-
--- so many places from k on, one after the other
-unfoldable pub refill_among : {H : Type 0} → ObjectMemory H → Value → Value → ℕ → ℕ → Step H Unit
-refill_among m old new k zero = answer tt
-refill_among m old new k (suc left) = do
-  refill_from m old new k
-  refill_among m old new (suc k) left
-
-unfoldable pub refill : {H : Type 0} → ObjectMemory H → Value → Value → Step H Unit
-refill m old new = do
-  places ← count_places m old
-  refill_among m old new 0 places
 
 -- ADDITION
 
@@ -152,3 +39,109 @@ refill m old new = do
 abbrev pub raised_tally : Value → Value
 raised_tally (Small n) = if n == 16383 then Small n else Small ((n + 1) % 32768)
 raised_tally (Ref n) = Ref n
+
+module _ {H : Type 0} (m : ObjectMemory H) where
+  unfoldable pub seek_at : Value → Value → ℕ → Step H Ending → Step H Ending
+  seek_at dictionary sought k otherwise = do
+    s ← fetch_field m dictionary (2 + k)
+    nil ← of_page m NilObject
+    ends_at k (same_value s sought) (same_value s nil) otherwise
+
+  -- at so many places from k on
+  unfoldable pub seek_among : Value → Value → ℕ → ℕ → Step H Ending → Step H Ending
+  seek_among dictionary sought k zero otherwise = otherwise
+  seek_among dictionary sought k (suc left) otherwise = seek_at dictionary sought k (seek_among dictionary sought (suc k) left otherwise)
+
+  -- from the start up to the last place, and then from place 0 up to the start
+  unfoldable pub seek_from : Value → Value → ℕ → ℕ → Step H Ending
+  seek_from dictionary sought places start =
+      seek_among dictionary sought start (places - start) (seek_among dictionary sought 0 start (answer Nowhere))
+
+  -- how many places a dictionary has
+  unfoldable pub count_places : Value → Step H ℕ
+  count_places dictionary = do
+    n ← count_fields m dictionary
+    answer (n - 2)
+
+  -- what is sought from the start of a selector, half of whose pointer is masked by the number of places less 1
+  unfoldable pub seek : Value → Value → Value → Step H Ending
+  seek dictionary sought selector = do
+    places ← count_places dictionary
+    half ← half_word m selector
+    seek_from dictionary sought places (bit_and half (places - 1))
+
+  -- where the search for a selector ends
+  unfoldable pub place_of_selector : Value → Value → Step H Ending
+  place_of_selector dictionary selector = seek dictionary selector selector
+
+  -- of so many places from k on, those that hold nil
+  unfoldable pub count_vacant : Value → ℕ → ℕ → Step H ℕ
+  count_vacant dictionary k zero = answer 0
+  count_vacant dictionary k (suc left) = do
+    s ← fetch_field m dictionary (2 + k)
+    nil ← of_page m NilObject
+    n ← count_vacant dictionary (suc k) left
+    answer (one_more_if (same_value s nil) n)
+
+  -- with one selector more no place would hold nil
+  unfoldable pub is_nearly_full : Value → Step H Bool
+  is_nearly_full dictionary = do
+    places ← count_places dictionary
+    n ← count_vacant dictionary 0 places
+    answer (nat_le n 1)
+
+  unfoldable pub grows_at : Value → Ending → Step H Bool
+  grows_at dictionary (Holds k) = answer false
+  grows_at dictionary _ = is_nearly_full dictionary
+
+  -- Whether the dictionary grows for a selector: where that is added to it and would leave no place of nil. It has no Symbol that is
+  -- made only now.
+  unfoldable pub grows_for : Value → Part → Step H Bool
+  grows_for dictionary (Made k) = is_nearly_full dictionary
+  grows_for dictionary (There selector) = place_of_selector dictionary selector >>= grows_at dictionary
+
+  -- a dictionary of the same class, with the same tally and twice the places, which is object number next
+  unfoldable pub grown_objects : Value → ℕ → Step H (List NewObject)
+  grown_objects dictionary next = do
+    class ← class_of m dictionary
+    tally ← fetch_field m dictionary 0
+    places ← count_places dictionary
+    array_class ← of_page m ArrayClass
+    nil ← of_page m NilObject
+    answer (dictionary_objects class tally array_class nil (2 * places) (next + 1))
+
+  -- a selector and its method, at place k
+  unfoldable pub put_method : Value → Value → ℕ → Value → Value → Step H Unit
+  put_method dictionary methods k selector method = do
+    store_field m dictionary (2 + k) selector
+    store_field m methods k method
+
+  unfoldable pub put_at : Value → Value → Value → Ending → Step H Unit
+  put_at dictionary selector method (Holds k) = do
+    methods ← fetch_field m dictionary 1
+    put_method dictionary methods k selector method
+  put_at dictionary selector method _ = die dead.Places
+
+  unfoldable pub refill_unless : Value → Value → ℕ → Value → Bool → Step H Unit
+  refill_unless old new k selector true = answer tt
+  refill_unless old new k selector false = do
+    methods ← fetch_field m old 1
+    method ← fetch_field m methods k
+    nil ← of_page m NilObject
+    end ← seek new nil selector
+    put_at new selector method end
+
+  -- what stands at a place of the old dictionary goes to the first place of nil in the new one, from its own start
+  unfoldable pub refill_from : Value → Value → ℕ → Step H Unit
+  refill_from old new k = do
+    selector ← fetch_field m old (2 + k)
+    nil ← of_page m NilObject
+    refill_unless old new k selector (same_value selector nil)
+
+  -- so many places from k on, one after the other
+  unfoldable pub refill_among : Value → Value → ℕ → ℕ → Step H Unit
+  refill_among old new k zero = answer tt
+  refill_among old new k (suc left) = refill_from old new k >> refill_among old new (suc k) left
+
+  unfoldable pub refill : Value → Value → Step H Unit
+  refill old new = count_places old >>= refill_among old new 0

@@ -38,66 +38,67 @@ negated (suc k) = small_integer (negsuc k)
 abbrev pub large_bytes : ℕ → List ℕ
 large_bytes k = bytes_within 16 k
 
-unfoldable pub place_size : {H : Type 0} → ObjectMemory H → ℕ → ℕ → Bool → Step H Placed
-place_size m next size true = answer (as_it_is (There (Small size)))
-place_size m next size false = do
-  class ← of_page m LargeClass
-  answer (made_as next (bytes_object class (large_bytes size)))
-
-unfoldable pub place_signed : {H : Type 0} → ObjectMemory H → ℕ → ℕ → Bool → Step H Placed
-place_signed m next size true = answer (as_it_is (There (negated size)))
-place_signed m next size false = place_size m next size (nat_lt size 16384)
-
--- a SmallInteger, or above 16383 a LargePositiveInteger
-unfoldable pub place_number : {H : Type 0} → ObjectMemory H → ℕ → Signed → Step H Placed
-place_number m next n = place_signed m next n.size n.minus
-
--- OTHERS
-
--- a Character is the field of its number in the table of characters
-unfoldable pub place_character : {H : Type 0} → ObjectMemory H → ℕ → Step H Placed
-place_character m byte = do
-  characters ← of_page m Characters
-  v ← fetch_field m characters byte
-  answer (as_it_is (There v))
-
-unfoldable pub place_string : {H : Type 0} → ObjectMemory H → ℕ → List ℕ → Step H Placed
-place_string m next text = do
-  class ← of_page m StringClass
-  answer (made_as next (bytes_object class text))
-
 unfoldable pub place_symbol : {H : Type 0} → List NamedSymbol → List ℕ → Step H Placed
 place_symbol symbols text = do
   part ← or_die dead.Field (symbol_part symbols text)
   answer (as_it_is part)
 
--- the object that bears a pointer: an association, nil, false or true
-unfoldable pub place_pointer : {H : Type 0} → ObjectMemory H → ℕ → Step H Placed
-place_pointer m pointer = do
-  found ← object_at m (pointer / 2)
-  v ← or_die dead.Kind found
-  answer (as_it_is (There v))
-
--- an array behind which its elements were placed
-unfoldable pub place_array : {H : Type 0} → ObjectMemory H → ℕ → PlacedAll → Step H Placed
-place_array m next elements = do
-  class ← of_page m ArrayClass
-  answer (record { part = Made next; objects = pointers_object class elements.parts ∷ elements.objects })
-
--- OWNER: the association of the method's class
-
--- on the instance side the global by which the class was found, and on the class side a new one without a key
-unfoldable pub place_owner : {H : Type 0} → ObjectMemory H → Value → Value → (meta : Bool) → ℕ → Step H Placed
-place_owner m association class false next = answer (as_it_is (There association))
-place_owner m association class true next = do
-  kind ← class_of m association
-  nil ← of_page m NilObject
-  answer (made_as next (pointers_object kind (There nil ∷ There class ∷ [])))
-
 -- LITERALS
 
 abbrev pub then_placed : Placed → PlacedAll → PlacedAll
 then_placed p ps = record { parts = p.part ∷ ps.parts; objects = p.objects ++ ps.objects }
+
+module _ {H : Type 0} (m : ObjectMemory H) where
+  unfoldable pub place_size : ℕ → ℕ → Bool → Step H Placed
+  place_size next size true = answer (as_it_is (There (Small size)))
+  place_size next size false = do
+    class ← of_page m LargeClass
+    answer (made_as next (bytes_object class (large_bytes size)))
+
+  unfoldable pub place_signed : ℕ → ℕ → Bool → Step H Placed
+  place_signed next size true = answer (as_it_is (There (negated size)))
+  place_signed next size false = place_size next size (nat_lt size 16384)
+
+  -- a SmallInteger, or above 16383 a LargePositiveInteger
+  unfoldable pub place_number : ℕ → Signed → Step H Placed
+  place_number next n = place_signed next n.size n.minus
+
+  -- OTHERS
+
+  -- a Character is the field of its number in the table of characters
+  unfoldable pub place_character : ℕ → Step H Placed
+  place_character byte = do
+    characters ← of_page m Characters
+    v ← fetch_field m characters byte
+    answer (as_it_is (There v))
+
+  unfoldable pub place_string : ℕ → List ℕ → Step H Placed
+  place_string next text = do
+    class ← of_page m StringClass
+    answer (made_as next (bytes_object class text))
+
+  -- the object that bears a pointer: an association, nil, false or true
+  unfoldable pub place_pointer : ℕ → Step H Placed
+  place_pointer pointer = do
+    found ← object_at m (pointer / 2)
+    v ← or_die dead.Kind found
+    answer (as_it_is (There v))
+
+  -- an array behind which its elements were placed
+  unfoldable pub place_array : ℕ → PlacedAll → Step H Placed
+  place_array next elements = do
+    class ← of_page m ArrayClass
+    answer (record { part = Made next; objects = pointers_object class elements.parts ∷ elements.objects })
+
+  -- OWNER: the association of the method's class
+
+  -- on the instance side the global by which the class was found, and on the class side a new one without a key
+  unfoldable pub place_owner : Value → Value → (meta : Bool) → ℕ → Step H Placed
+  place_owner association class false next = answer (as_it_is (There association))
+  place_owner association class true next = do
+    kind ← class_of m association
+    nil ← of_page m NilObject
+    answer (made_as next (pointers_object kind (There nil ∷ There class ∷ [])))
 
 abbrev pub none_placed : PlacedAll
 none_placed = record { parts = []; objects = [] }

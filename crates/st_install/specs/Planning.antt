@@ -27,37 +27,36 @@ abbrev pub grown_number : Bool → Symbols → PlacedAll → Option ℕ
 grown_number true symbols literals = Some (method_number symbols literals + 1)
 grown_number false symbols literals = None
 
-unfoldable pub grown_if : {H : Type 0} → ObjectMemory H → Value → ℕ → Bool → Step H (List NewObject)
-grown_if m dictionary next true = grown_objects m dictionary next
-grown_if m dictionary next false = answer []
-
 -- the plan, where none of its objects has too many words
 unfoldable pub sized : {H : Type 0} → Plan → Step H Plan
-sized p = do
-  check_size p.objects
-  answer p
+sized p = check_size p.objects >> answer p
 
-unfoldable pub plan_objects : {H : Type 0} → ObjectMemory H → Value → PartsView → Symbols → PlacedAll → Part → Step H Plan
-plan_objects m class parts symbols literals selector = do
-  dictionary ← fetch_field m class 1
-  grows ← grows_for m dictionary selector
-  grown ← grown_if m dictionary (method_number symbols literals + 1) grows
-  method_class ← of_page m MethodClass
-  sized (record {
-    objects = objects_with_method method_class parts symbols literals ++ grown;
-    symbol_stores = symbols.stores;
-    selector = selector;
-    method = Made (method_number symbols literals);
-    class = class;
-    dictionary = dictionary;
-    grown = grown_number grows symbols literals;
-  })
+module _ {H : Type 0} (m : ObjectMemory H) where
+  unfoldable pub grown_if : Value → ℕ → Bool → Step H (List NewObject)
+  grown_if dictionary next true = grown_objects m dictionary next
+  grown_if dictionary next false = answer []
 
--- The installation of these parts into a class that was found by an association. It dies where the table of characters lacks one
--- of the literals, or where an object would have too many words.
-unfoldable pub plan : {H : Type 0} → ObjectMemory H → (symbol_table association class : Value) → (meta : Bool) → PartsView → Step H Plan
-plan m symbol_table association class meta parts = do
-  symbols ← symbols_for m symbol_table (parts.selector ∷ symbols_in parts.literals)
-  literals ← place_literals m symbols.named (place_owner m association class meta) (length symbols.objects) parts.literals
-  selector ← or_die dead.Field (symbol_part symbols.named parts.selector)
-  plan_objects m class parts symbols literals selector
+  unfoldable pub plan_objects : Value → PartsView → Symbols → PlacedAll → Part → Step H Plan
+  plan_objects class parts symbols literals selector = do
+    dictionary ← fetch_field m class 1
+    grows ← grows_for m dictionary selector
+    grown ← grown_if dictionary (method_number symbols literals + 1) grows
+    method_class ← of_page m MethodClass
+    sized (record {
+      objects = objects_with_method method_class parts symbols literals ++ grown;
+      symbol_stores = symbols.stores;
+      selector = selector;
+      method = Made (method_number symbols literals);
+      class = class;
+      dictionary = dictionary;
+      grown = grown_number grows symbols literals;
+    })
+
+  -- The installation of these parts into a class that was found by an association. It dies where the table of characters lacks one
+  -- of the literals, or where an object would have too many words.
+  unfoldable pub plan : (symbol_table association class : Value) → (meta : Bool) → PartsView → Step H Plan
+  plan symbol_table association class meta parts = do
+    symbols ← symbols_for m symbol_table (parts.selector ∷ symbols_in parts.literals)
+    literals ← place_literals m symbols.named (place_owner m association class meta) (length symbols.objects) parts.literals
+    selector ← or_die dead.Field (symbol_part symbols.named parts.selector)
+    plan_objects class parts symbols literals selector

@@ -15,9 +15,7 @@ use Rattle.st_install.specs.Plans.{Part, There, Made, NewObject, bytes_object, p
 -- SYMBOLS THAT ARE THERE
 
 unfoldable pub symbol_text : {H : Type 0} → ObjectMemory H → Value → Step H (List ℕ)
-symbol_text m v = do
-  check_class m v SymbolClass
-  bytes_of m v
+symbol_text m v = check_class m v SymbolClass >> bytes_of m v
 
 -- it is a member, of this text
 unfoldable pub is_symbol : {H : Type 0} → ObjectMemory H → Value → List ℕ → Step H Bool
@@ -34,13 +32,9 @@ symbol_named m table text = first_field m table (λ v. is_symbol m v text)
 -- those of a literal: of an array those of its elements, from left to right
 abbrev mutual
   pub symbols_of : LiteralView → List (List ℕ)
-  symbols_of (literals.number n) = []
-  symbols_of (literals.character b) = []
-  symbols_of (literals.bytes text) = []
   symbols_of (literals.symbol text) = text ∷ []
   symbols_of (literals.array ls) = symbols_among ls
-  symbols_of (literals.named pointer) = []
-  symbols_of literals.owner = []
+  symbols_of _ = []
 
   pub symbols_among : LiteralsView → List (List ℕ)
   symbols_among literals.no_literals = []

@@ -12,7 +12,7 @@ use Rattle.st_frames.specs.declared.frame.Frame.{Frame}
 use Rattle.st_frames.specs.Shown.{IsReady, shown}
 use Rattle.st_kernel_text.specs.declared.cause.Cause.{Cause}
 use Rattle.st_kernel_text.specs.declared.cause.Cause.TheVariants.{Form, Name, Variables, Missing}
-use Rattle.st_kernel_text.specs.Parts.{Side, Start, Part, class, pool, global, opening, header, method, closing, start}
+use Rattle.st_kernel_text.specs.Parts.{Side, Start, Part, opening, header, method, start}
 use Rattle.st_kernel_text.specs.Definitions.{definition_by}
 use Rattle.st_kernel_text.specs.Texts.{Account, account}
 use Rattle.st_first_objects.specs.First.{first_view, has_room}
@@ -77,15 +77,11 @@ with_installed n (Accepted selector after) goes_on = goes_on after
 -- last header named.
 unfoldable pub built_from : Install → Option Cause → (chunk : ℕ) → State Births → Side → List Part → Result Built Fault
 built_from install cause n s side [] = unfinished n cause
-built_from install cause n s side (class c ∷ parts) = built_from install cause (n + 1) s side parts
-built_from install cause n s side (pool p ∷ parts) = built_from install cause (n + 1) s side parts
-built_from install cause n s side (global name ∷ parts) = built_from install cause (n + 1) s side parts
-built_from install cause n s side (opening ∷ parts) = built_from install cause (n + 1) s side parts
 built_from install cause n s side (header named ∷ parts) = built_from install cause (n + 1) s named parts
 built_from install cause n s side (method text ∷ parts) =
     with_installed n (install (definition_by side text) s) (λ t. built_from install cause (n + 1) t side parts)
-built_from install cause n s side (closing ∷ parts) = built_from install cause (n + 1) s side parts
 built_from install cause n s side (start first ∷ parts) = finished (n + 1) cause (begun_in n first (show s))
+built_from install cause n s side (part ∷ parts) = built_from install cause (n + 1) s side parts
 
 -- before the first header
 abbrev pub no_side : Side

@@ -5,7 +5,7 @@ use Rattle.st_model.specs.Births.{Births}
 use Rattle.st_model.specs.Show.{show, raised}
 use Rattle.st_model.specs.View.{View, empty_view}
 use Rattle.st_model.specs.Start.{idle_state}
-use Rattle.st_kernel_text.specs.Parts.{Side, Start, Part, class, pool, global, opening, header, method, closing, start}
+use Rattle.st_kernel_text.specs.Parts.{Side, Start, Part, header, method, start}
 use Rattle.st_kernel_text.specs.Definitions.{definition_by}
 use Rattle.st_kernel_text.specs.Texts.{Account, account}
 use Rattle.st_first_objects.specs.First.{first_view, has_room}
@@ -27,15 +27,11 @@ arrival_behind (Accepted selector after) goes_on = goes_on after
 -- the start of these chunks, where no method before it is refused
 unfoldable pub arrival_from : Install → (chunk : ℕ) → State Births → Side → List Part → Option Arrival
 arrival_from install n s side [] = None
-arrival_from install n s side (class c ∷ parts) = arrival_from install (n + 1) s side parts
-arrival_from install n s side (pool p ∷ parts) = arrival_from install (n + 1) s side parts
-arrival_from install n s side (global name ∷ parts) = arrival_from install (n + 1) s side parts
-arrival_from install n s side (opening ∷ parts) = arrival_from install (n + 1) s side parts
 arrival_from install n s side (header named ∷ parts) = arrival_from install (n + 1) s named parts
 arrival_from install n s side (method text ∷ parts) =
     arrival_behind (install (definition_by side text) s) (λ t. arrival_from install (n + 1) t side parts)
-arrival_from install n s side (closing ∷ parts) = arrival_from install (n + 1) s side parts
 arrival_from install n s side (start first ∷ parts) = Some (record { chunk = n; start = first; births = s })
+arrival_from install n s side (part ∷ parts) = arrival_from install (n + 1) s side parts
 
 abbrev pub arrival : Install → Account → Option Arrival
 arrival install a = arrival_from install 1 (raised (idle_state (first_view a.parts))) no_side a.parts

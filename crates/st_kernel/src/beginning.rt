@@ -38,10 +38,9 @@ pub(crate) fn begin<M: Memory>(m: &mut M, world: &World, start: &Start) -> Resul
     let run = Run {
         method: Word::from(method),
         receiver: Word::from(receiver),
-        class: Word::from(class),
     };
     let registers = load(m, &IDLE, world);
-    if !in_new_process(m, &registers, run)? {
+    if !in_new_process(m, &registers, Word::from(class), run)? {
         return Ok(false);
     }
     fetch_scheduled(m)?;

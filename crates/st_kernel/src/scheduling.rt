@@ -11,27 +11,20 @@ use st_memory::Objects;
 use st_method::Header;
 use st_model::{Dead, PageObject, Word};
 
-/// What a first process runs: a method, and the receiver; and the class of the process.
+/// What a process runs: a method, for a receiver.
 #[derive(Clone, Copy)]
 pub(crate) struct Run {
     pub(crate) method: Word,
     pub(crate) receiver: Word,
-    pub(crate) class: Word,
 }
 
-/// A process, and what it runs.
-#[derive(Clone, Copy)]
-struct Running {
-    process: Word,
-    run: Run,
-}
-
-/// The first context of a process, and the header of the method that it runs.
+/// The first context of a process; and the method that it runs, with its header, and the receiver.
 #[derive(Clone, Copy)]
 struct FirstContext {
-    running: Running,
     context: Word,
+    method: Word,
     header: Header,
+    receiver: Word,
 }
 
 /// How many words are on the stack of a new context, which are the temporary variables.
@@ -51,14 +44,14 @@ fn first_words(header: Header) -> u32
 fn fill_first_context<O: Objects>(m: &mut O, r: &Registers, f: FirstContext) -> Result<(), Dead>
     requires room { 4 ≤ O.room m.old }
     ensures does { RowDoes O.Objects.own (fill_first_context O.names
-        (word f.context) (word f.running.run.method) (word f.header.0) (word f.running.run.receiver))
+        (word f.context) (word f.method) (word f.header.0) (word f.receiver))
         itself m.old r.now result m.new r.now }
     ensures takes { Takes O.Objects.own 4 m.old m.new }
 {
     m.store_field(f.context, 1, small(2 * f.header.literals() + 3))?;
     m.store_field(f.context, 2, small(first_words(f.header)))?;
-    m.store_field(f.context, 3, f.running.run.method)?;
-    m.store_field(f.context, 5, f.running.run.receiver)
+    m.store_field(f.context, 3, f.method)?;
+    m.store_field(f.context, 5, f.receiver)
 }
 
 /// Makes a process with this context the scheduler's active one.
@@ -76,41 +69,52 @@ fn schedule<O: Objects>(m: &mut O, r: &Registers, process: Word, context: Word) 
     m.store_field(scheduler, 1, process)
 }
 
-/// Fills the first context, and schedules it in its process.
+/// Fills the first context, and schedules it in this process.
 #[tactic(auto, using(st_frames::proofs::Doing::rows), unfolding(crate::specs::Starting::schedule_method))]
-fn schedule_method<O: Objects>(m: &mut O, r: &Registers, f: FirstContext) -> Result<bool, Dead>
+fn schedule_method<O: Objects>(
+    m: &mut O,
+    r: &Registers,
+    process: Word,
+    f: FirstContext,
+) -> Result<bool, Dead>
     requires room { 7 ≤ O.room m.old }
-    ensures does { RowDoes O.Objects.own (schedule_method O.names (word f.running.process)
-        (word f.context) (word f.running.run.method) (word f.header.0) (word f.running.run.receiver))
+    ensures does { RowDoes O.Objects.own (schedule_method O.names (word process)
+        (word f.context) (word f.method) (word f.header.0) (word f.receiver))
         itself m.old r.now result m.new r.now }
     ensures takes { Takes O.Objects.own 7 m.old m.new }
 {
     fill_first_context(m, r, f)?;
-    schedule(m, r, f.running.process, f.context)?;
+    schedule(m, r, process, f.context)?;
     Ok(true)
 }
 
 /// A context of the method in this process, where there is room for it.
 #[tactic(auto, using(st_frames::proofs::Doing::rows), unfolding(crate::specs::Starting::in_new_context))]
-fn in_new_context<O: Objects>(m: &mut O, r: &Registers, p: Running) -> Result<bool, Dead>
+fn in_new_context<O: Objects>(
+    m: &mut O,
+    r: &Registers,
+    process: Word,
+    run: Run,
+) -> Result<bool, Dead>
     requires room { 8 ≤ O.room m.old }
     ensures does { RowDoes O.Objects.own
-        (in_new_context O.names (word p.process) (word p.run.method) (word p.run.receiver))
+        (in_new_context O.names (word process) (word run.method) (word run.receiver))
         itself m.old r.now result m.new r.now }
     ensures takes { Takes O.Objects.own 8 m.old m.new }
 {
-    let header = Header(m.method_header(p.run.method)?);
+    let header = Header(m.method_header(run.method)?);
     let class = page(m, PageObject::MethodContextClass);
     let context = m.new_object(class, header.context_size())?;
     if context.same(page(m, PageObject::NilObject)) {
         return Ok(false);
     }
     let first = FirstContext {
-        running: p,
         context,
+        method: run.method,
         header,
+        receiver: run.receiver,
     };
-    schedule_method(m, r, first)
+    schedule_method(m, r, process, first)
 }
 
 /// Any class but CompiledMethod.
@@ -128,19 +132,24 @@ fn check_not_method_class<O: Objects>(m: &O, r: &Registers, class: Word) -> Resu
     }
 }
 
-/// A process with its context, where there is room for both.
+/// A process of this class with its context, where there is room for both.
 #[tactic(auto, using(st_frames::proofs::Doing::rows), unfolding(crate::specs::Starting::in_new_process))]
-pub(crate) fn in_new_process<O: Objects>(m: &mut O, r: &Registers, run: Run) -> Result<bool, Dead>
+pub(crate) fn in_new_process<O: Objects>(
+    m: &mut O,
+    r: &Registers,
+    class: Word,
+    run: Run,
+) -> Result<bool, Dead>
     requires room { 9 ≤ O.room m.old }
     ensures does { RowDoes O.Objects.own
-        (in_new_process O.names (word run.class) (word run.method) (word run.receiver))
+        (in_new_process O.names (word class) (word run.method) (word run.receiver))
         itself m.old r.now result m.new r.now }
     ensures takes { Takes O.Objects.own 9 m.old m.new }
 {
-    check_not_method_class(m, r, run.class)?;
-    let process = m.new_object(run.class, 4)?;
+    check_not_method_class(m, r, class)?;
+    let process = m.new_object(class, 4)?;
     if process.same(page(m, PageObject::NilObject)) {
         return Ok(false);
     }
-    in_new_context(m, r, Running { process, run })
+    in_new_context(m, r, process, run)
 }

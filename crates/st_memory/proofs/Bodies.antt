@@ -1,6 +1,6 @@
 -- How long the two parts of an object's body are, by its kind.
-use Rattle.std.proofs.Common.{◌≡◌, ℕ, ◌+◌, ◌*◌, ◌/◌, ◌≤◌, true, false, length, refl, sym, ap, ◌∙◌, arith, Bool}
-use Rattle.std.specs.Prelude.{Option, Some, None, is_some, unwrap_or, if◌then◌else◌, ◌%◌, ◌==◌}
+use Rattle.std.proofs.Common.{◌≡◌, ℕ, zero, suc, ◌+◌, ◌*◌, ◌/◌, ◌<◌, ◌≤◌, true, false, List, [], ◌∷◌, length, refl, sym, ap, ◌∙◌, arith, Bool}
+use Rattle.std.specs.Prelude.{slice_get, Option, Some, None, is_some, unwrap_or, if◌then◌else◌, ◌%◌, ◌==◌}
 use Rattle.st_model.specs.declared.kind.Kind.{Kind}
 use Rattle.st_model.specs.declared.kind.Kind.TheVariants as kind
 use Rattle.st_model.specs.Values.{Value, Small, Ref, value_of, is_small}
@@ -61,3 +61,16 @@ even_pointer t w live =
     grind (arith, nat_tests)
 
 pub ruleset bodies = (no_fields, no_units, most_units)
+
+-- lists and tables
+
+pub got_below : {A : Type 0} (xs : List A) (i : ℕ) (x : A) → slice_get xs i ≡ Some x → i < length xs
+got_below [] i x e = cc
+got_below (y ∷ xs) zero x e = omega arith
+got_below (y ∷ xs) (suc i) x e = let l = got_below xs i x e in omega (arith, l)
+
+pub same_table : (t u : Table) → length t ≡ length u → ((j : ℕ) → entry t j ≡ entry u j) → t ≡ u
+same_table [] [] l f = refl
+same_table [] (b ∷ u) l f = absurd (omega (arith, l))
+same_table (a ∷ t) [] l f = absurd (omega (arith, l))
+same_table (a ∷ t) (b ∷ u) l f = λ i. f 0 i ∷ same_table t u (omega (arith, l)) (λ j. f (suc j)) i

@@ -54,13 +54,8 @@ fn copy_from_last<M: Memory>(m: &mut M, n: u32, source: Oop, from: u32, target: 
 
 /// Copies n bytes of an object of kind Bytes into those of another, as if all of them were read first.
 pub fn copy_bytes<M: Memory>(m: &mut M, n: u32, source: Oop, from: u32, target: Oop, to: u32)
-    requires source { HasBytes (M.view m.old).objects (value source) from n }
-    requires target { HasBytes (M.view m.old).objects (value target) to n }
-    requires small { (from + n ≤ 131066) × (to + n ≤ 131066) }
-    ensures objects { (M.view m.new).objects
-        ≡ with_bytes_of (M.view m.old).objects (value source) from (value target) to n }
-    ensures held { (M.view m.new).held ≡ (M.view m.old).held }
-    ensures head { (M.view m.new).head ≡ (M.view m.old).head }
+    requires { CanCopyBytes (M.view m.old).objects (value source) from (value target) to n }
+    ensures { CopiesBytes (M.view m.old) (M.view m.new) (value source) from (value target) to n }
 {
     if from < to {
         copy_from_last(m, n, source, from, target, to);

@@ -3,15 +3,11 @@
 
 mod body;
 mod bytes;
-mod change;
 mod context_fields;
-mod draft;
-mod exchanges;
 mod live;
 mod loader;
 mod made;
 mod memory;
-mod notes;
 mod objects;
 mod stores;
 mod transfer;
@@ -19,9 +15,9 @@ mod transfer;
 pub use body::{count_fields, count_units, unit_at};
 pub use bytes::copy_bytes;
 pub use context_fields::ContextFields;
-pub use draft::Draft;
 pub use live::live_value;
 pub use loader::Loader;
+pub use made::Made;
 pub use memory::Memory;
 pub use objects::Objects;
 pub use stores::{store_live_field, transfer_live_fields};

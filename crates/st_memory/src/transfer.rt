@@ -1,6 +1,5 @@
-ghost use Rattle.std.specs.Prelude.{◌≡◌, ◌+◌, ◌≤◌};
+ghost use Rattle.std.specs.Prelude.{◌≡◌, ◌≤◌};
 ghost use Rattle.st_model.specs.Values.{value};
-ghost use Rattle.st_model.specs.View.{Has, with_fields, fields_from};
 ghost use Rattle.st_memory.specs.{Copied.{CanCopyFields, CopiesFields}, Places.KeepsPlaces};
 
 use crate::memory::Memory;
@@ -36,13 +35,8 @@ fn copy_from_last<M: Memory>(m: &mut M, n: u32, source: Oop, from: u32, target: 
 
 /// Copies n fields of an object of kind Pointers into those of another, as if all of them were read first.
 pub fn copy_fields<M: Memory>(m: &mut M, n: u32, source: Oop, from: u32, target: Oop, to: u32)
-    requires source { Has (M.view m.old).objects (value source) from n }
-    requires target { Has (M.view m.old).objects (value target) to n }
-    requires small { (from + n ≤ 131066) × (to + n ≤ 131066) }
-    ensures objects { let old = (M.view m.old).objects in
-        (M.view m.new).objects ≡ with_fields old (value target) to (fields_from old (value source) from n) }
-    ensures held { (M.view m.new).held ≡ (M.view m.old).held }
-    ensures head { (M.view m.new).head ≡ (M.view m.old).head }
+    requires { CanCopyFields (M.view m.old).objects (value source) from (value target) to n }
+    ensures copied { CopiesFields (M.view m.old) (M.view m.new) (value source) from (value target) to n }
     ensures places { KeepsPlaces (M.stands m.old) (M.stands m.new) }
 {
     if from < to {

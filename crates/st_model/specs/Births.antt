@@ -23,9 +23,8 @@ replaced (b ∷ h) zero o = record { object = o; pointer = b.pointer; kept = b.k
 replaced (b ∷ h) (suc n) o = b ∷ replaced h n o
 
 abbrev pub exchanged_births : Births → ℕ → ℕ → Option Object → Option Object → Births
-exchanged_births h a b None p = h
-exchanged_births h a b (Some o) None = h
 exchanged_births h a b (Some o) (Some p) = replaced (replaced h a p) b o
+exchanged_births h a b o p = h
 
 abbrev pub bears : Birth → ℕ → Bool
 bears b k = b.kept && (b.pointer == k)

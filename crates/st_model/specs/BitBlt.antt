@@ -8,8 +8,8 @@ use Rattle.st_model.specs.Lists.{made}
 use Rattle.st_model.specs.Values.{Value}
 use Rattle.st_model.specs.Objects.{NilObject, is_words}
 use Rattle.st_model.specs.Machine.{ObjectMemory, Step, answer, ◌>>=◌, ◌>>◌}
-use Rattle.st_model.specs.Steps.{of_page, object, same_value, check, fetch_field, fetch_integer, set_units, top}
-use Rattle.st_model.specs.Primitives.{primitive, positive_small}
+use Rattle.st_model.specs.Steps.{of_page, object, same_value, check, fetch_field, fetch_integer, set_units}
+use Rattle.st_model.specs.Primitives.{of_receiver, positive_small}
 use Rattle.st_model.specs.Pixels.{pixel, combine, number_by, row_words, pixel_place}
 
 -- A Form: rows of pixels from the top, each of whole words, as they are before the copy.
@@ -94,113 +94,102 @@ painted_pixel c k = pixel_after c (k % row_pixels c) (k / row_pixels c) (pixel c
 unfoldable pub painted : Copy → List ℕ
 painted c = made (λ i. number_by 16 (λ b. painted_pixel c (16 * i + b))) (length c.destination.words)
 
--- What is read of a BitBlt and its Forms. Where anything is not as it should be, the step dies, and the primitive fails.
-
--- the words of an object of kind Words
-unfoldable pub fetch_words : {H : Type 0} → ObjectMemory H → Value → Step H (List ℕ)
-fetch_words m v = do
-  o ← object m v
-  check dead.Kind (is_words o.kind)
-  answer o.units
-
--- a field that holds a SmallInteger of at least 0
-unfoldable pub fetch_positive : {H : Type 0} → ObjectMemory H → Value → ℕ → Step H ℕ
-fetch_positive m v i = do
-  x ← fetch_field m v i
-  positive_small x
-
--- Field 0 of a Form is its bits, field 1 its width and field 2 its height. The bits are words, at least as many as the rows have.
-unfoldable pub read_form : {H : Type 0} → ObjectMemory H → Value → Step H Form
-read_form m v = do
-  bits ← fetch_field m v 0
-  width ← fetch_positive m v 1
-  height ← fetch_positive m v 2
-  words ← fetch_words m bits
-  check dead.Field (nat_le (height * row_words width) (length words))
-  answer (record { words = words; width = width; height = height })
-
-unfoldable pub read_unless : {H : Type 0} → ObjectMemory H → Value → Bool → Step H (Option Form)
-read_unless m v true = answer None
-read_unless m v false = do
-  f ← read_form m v
-  answer (Some f)
-
--- a Form, or none where it is nil
-unfoldable pub read_form_if_any : {H : Type 0} → ObjectMemory H → Value → Step H (Option Form)
-read_form_if_any m v = do
-  nil ← of_page m NilObject
-  read_unless m v (same_value v nil)
-
--- the Form in field i of a BitBlt, or none
-unfoldable pub fetch_form : {H : Type 0} → ObjectMemory H → Value → ℕ → Step H (Option Form)
-fetch_form m r i = do
-  v ← fetch_field m r i
-  read_form_if_any m v
-
-unfoldable pub fetch_destination : {H : Type 0} → ObjectMemory H → Value → Step H Form
-fetch_destination m r = do
-  v ← fetch_field m r 0
-  read_form m v
-
 -- a halftone has at least 16 words
 abbrev pub has_sixteen : Option Form → Bool
 has_sixteen None = true
 has_sixteen (Some f) = nat_le 16 (length f.words)
 
-unfoldable pub fetch_halftone : {H : Type 0} → ObjectMemory H → Value → Step H (Option Form)
-fetch_halftone m r = do
-  f ← fetch_form m r 2
-  check dead.Field (has_sixteen f)
-  answer f
+module _ {H : Type 0} (m : ObjectMemory H) where
+  -- What is read of a BitBlt and its Forms. Where anything is not as it should be, the step dies, and the primitive fails.
 
-unfoldable pub fetch_rule : {H : Type 0} → ObjectMemory H → Value → Step H ℕ
-fetch_rule m r = do
-  rule ← fetch_positive m r 3
-  check dead.Field (nat_lt rule 16)
-  answer rule
+  -- the words of an object of kind Words
+  unfoldable pub fetch_words : Value → Step H (List ℕ)
+  fetch_words v = do
+    o ← object m v
+    check dead.Kind (is_words o.kind)
+    answer o.units
 
--- the numbers of one direction: i is 0 across and 1 down
-unfoldable pub fetch_axis : {H : Type 0} → ObjectMemory H → Value → ℕ → Step H Axis
-fetch_axis m r i = do
-  to ← fetch_integer m r (4 + i)
-  count ← fetch_integer m r (6 + i)
-  from ← fetch_integer m r (8 + i)
-  clip ← fetch_integer m r (10 + i)
-  clip_count ← fetch_integer m r (12 + i)
-  answer (record { to = to; count = count; from = from; clip = clip; clip_count = clip_count })
+  -- a field that holds a SmallInteger of at least 0
+  unfoldable pub fetch_positive : Value → ℕ → Step H ℕ
+  fetch_positive v i = fetch_field m v i >>= positive_small
 
--- A BitBlt: field 0 is the destination, field 1 the source and field 2 the halftone, which may be nil, field 3 the rule, and
--- fields 4 to 13 are the numbers of the two directions.
-unfoldable pub read_copy : {H : Type 0} → ObjectMemory H → Value → Step H Copy
-read_copy m r = do
-  destination ← fetch_destination m r
-  source ← fetch_form m r 1
-  halftone ← fetch_halftone m r
-  rule ← fetch_rule m r
-  across ← fetch_axis m r 0
-  down ← fetch_axis m r 1
-  answer (record { destination = destination; source = source; halftone = halftone; rule = rule; across = across; down = down })
+  -- Field 0 of a Form is its bits, field 1 its width and field 2 its height. The bits are words, at least as many as the rows have.
+  unfoldable pub read_form : Value → Step H Form
+  read_form v = do
+    bits ← fetch_field m v 0
+    width ← fetch_positive v 1
+    height ← fetch_positive v 2
+    words ← fetch_words bits
+    check dead.Field (nat_le (height * row_words width) (length words))
+    answer (record { words = words; width = width; height = height })
 
--- the destination's bits get the words that are painted
-unfoldable pub store_painted : {H : Type 0} → ObjectMemory H → Value → Copy → Step H Unit
-store_painted m r c = do
-  destination ← fetch_field m r 0
-  bits ← fetch_field m destination 0
-  set_units m bits (painted c)
+  unfoldable pub read_unless : Value → Bool → Step H (Option Form)
+  read_unless v true = answer None
+  read_unless v false = do
+    f ← read_form v
+    answer (Some f)
 
--- the pixels are copied that a BitBlt tells
-unfoldable pub copy_bits : {H : Type 0} → ObjectMemory H → Value → Step H Unit
-copy_bits m r = do
-  c ← read_copy m r
-  store_painted m r c
+  -- a Form, or none where it is nil
+  unfoldable pub read_form_if_any : Value → Step H (Option Form)
+  read_form_if_any v = do
+    nil ← of_page m NilObject
+    read_unless v (same_value v nil)
 
-unfoldable pub paint_and_answer : {H : Type 0} → ObjectMemory H → Value → Copy → Step H Value
-paint_and_answer m r c = do
-  store_painted m r c
-  answer r
+  -- the Form in field i of a BitBlt, or none
+  unfoldable pub fetch_form : Value → ℕ → Step H (Option Form)
+  fetch_form r i = fetch_field m r i >>= read_form_if_any
 
--- 96: the pixels are copied that the BitBlt r tells, and r is the answer
-unfoldable pub primitive_copy_bits : {H : Type 0} → ObjectMemory H → Step H Bool
-primitive_copy_bits m = do
-  r ← top m
-  primitive m 0 (read_copy m r) (λ c. paint_and_answer m r c)
+  unfoldable pub fetch_destination : Value → Step H Form
+  fetch_destination r = fetch_field m r 0 >>= read_form
+
+  unfoldable pub fetch_halftone : Value → Step H (Option Form)
+  fetch_halftone r = do
+    f ← fetch_form r 2
+    check dead.Field (has_sixteen f)
+    answer f
+
+  unfoldable pub fetch_rule : Value → Step H ℕ
+  fetch_rule r = do
+    rule ← fetch_positive r 3
+    check dead.Field (nat_lt rule 16)
+    answer rule
+
+  -- the numbers of one direction: i is 0 across and 1 down
+  unfoldable pub fetch_axis : Value → ℕ → Step H Axis
+  fetch_axis r i = do
+    to ← fetch_integer m r (4 + i)
+    count ← fetch_integer m r (6 + i)
+    from ← fetch_integer m r (8 + i)
+    clip ← fetch_integer m r (10 + i)
+    clip_count ← fetch_integer m r (12 + i)
+    answer (record { to = to; count = count; from = from; clip = clip; clip_count = clip_count })
+
+  -- A BitBlt: field 0 is the destination, field 1 the source and field 2 the halftone, which may be nil, field 3 the rule, and
+  -- fields 4 to 13 are the numbers of the two directions.
+  unfoldable pub read_copy : Value → Step H Copy
+  read_copy r = do
+    destination ← fetch_destination r
+    source ← fetch_form r 1
+    halftone ← fetch_halftone r
+    rule ← fetch_rule r
+    across ← fetch_axis r 0
+    down ← fetch_axis r 1
+    answer (record { destination = destination; source = source; halftone = halftone; rule = rule; across = across; down = down })
+
+  -- the destination's bits get the words that are painted
+  unfoldable pub store_painted : Value → Copy → Step H Unit
+  store_painted r c = do
+    destination ← fetch_field m r 0
+    bits ← fetch_field m destination 0
+    set_units m bits (painted c)
+
+  -- the pixels are copied that a BitBlt tells
+  unfoldable pub copy_bits : Value → Step H Unit
+  copy_bits r = read_copy r >>= store_painted r
+
+  unfoldable pub paint_and_answer : Value → Copy → Step H Value
+  paint_and_answer r c = store_painted r c >> answer r
+
+  -- 96: the pixels are copied that the BitBlt r tells, and r is the answer
+  unfoldable pub primitive_copy_bits : Step H Bool
+  primitive_copy_bits = of_receiver m read_copy paint_and_answer

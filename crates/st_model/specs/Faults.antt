@@ -7,7 +7,7 @@ use Rattle.st_model.specs.declared.fault.ImageFault.{ImageFault}
 use Rattle.st_model.specs.declared.fault.ImageFault.TheVariants.{Short, Lengths, Capacity, Size, Overlap, Class, Field, Method, Root, Scheduler}
 use Rattle.st_model.specs.declared.head.ImageHead.{ImageHead}
 use Rattle.st_model.specs.Objects.{page, place_of}
-use Rattle.st_model.specs.Machine.{Transition, Died}
+use Rattle.st_model.specs.Machine.{Died}
 use Rattle.st_model.specs.Image.{table_end, form_of, entries_of, has_odd_length, has_pointers, is_used, place, size, class, body, literal_count, names}
 use Rattle.st_model.specs.Start.{start}
 
@@ -73,10 +73,6 @@ roots h = map (λ q. 2 * place_of q) page ++ h.globals ∷ h.symbols ∷ []
 unfoldable pub root_fails : ImageHead → List ℕ → ℕ → Bool
 root_fails h bytes p = not (p == 0) && not (names h bytes p)
 
--- 10: the registers cannot be fetched
-abbrev pub Dies : {S A : Type 0} → Transition S A → Type 0
-Dies t = (cause : Dead) × (t ≡ Died cause)
-
 -- a row that concerns the entry of an even pointer
 abbrev pub At : ℕ → (ℕ → Bool) → Type 0
 At p fails = (p % 2 ≡ 0) × (fails (p / 2) ≡ true)
@@ -92,7 +88,7 @@ Fails h bytes (Class p) = At p (class_fails h bytes)
 Fails h bytes (Field p i) = At p (λ k. field_fails h bytes k i)
 Fails h bytes (Method p) = At p (method_fails h bytes)
 Fails h bytes (Root p) = Contains (roots h) p × (root_fails h bytes p ≡ true)
-Fails h bytes Scheduler = Dies (start h bytes)
+Fails h bytes Scheduler = (cause : Dead) × (start h bytes ≡ Died cause)
 
 -- the order of faults: by row, then pointer, then second pointer or index
 
@@ -111,29 +107,19 @@ row Scheduler = 10
 
 -- its pointer; 0 where it has none
 abbrev pub first_number : ImageFault → ℕ
-first_number Short = 0
-first_number Lengths = 0
-first_number Capacity = 0
 first_number (Size p) = p
 first_number (Overlap p q) = p
 first_number (Class p) = p
 first_number (Field p i) = p
 first_number (Method p) = p
 first_number (Root p) = p
-first_number Scheduler = 0
+first_number f = 0
 
 -- its second pointer or its index; 0 where it has none
 abbrev pub second_number : ImageFault → ℕ
-second_number Short = 0
-second_number Lengths = 0
-second_number Capacity = 0
-second_number (Size p) = 0
 second_number (Overlap p q) = q
-second_number (Class p) = 0
 second_number (Field p i) = i
-second_number (Method p) = 0
-second_number (Root p) = 0
-second_number Scheduler = 0
+second_number f = 0
 
 -- of two faults of a row the one with the lesser pointer, or with the same one and the lesser second pointer or index
 abbrev pub Sooner : ImageFault → ImageFault → Type 0

@@ -82,39 +82,9 @@ pub record State (H : Type 0) : Type 0 where
   pub world : World
   pub head : Head
 
--- a SmallInteger of 15 bits, or a name of an object that is there; no machine meets another value
-abbrev pub is_there : {H : Type 0} → ObjectMemory H → H → Value → Bool
-is_there m h (Small n) = nat_lt n 32768
-is_there m h (Ref n) = is_some (m.read h n)
-
--- all of these are there
-abbrev pub all_there : {H : Type 0} → ObjectMemory H → H → List Value → Bool
-all_there m h [] = true
-all_there m h (v ∷ vs) = is_there m h v && all_there m h vs
-
 abbrev pub is_of_class : ℕ → Option Object → Bool
 is_of_class class None = false
 is_of_class class (Some o) = o.class == class
-
--- a name was found, of an instance of the class
-abbrev pub names_instance : {H : Type 0} → ObjectMemory H → H → ℕ → Option ℕ → Bool
-names_instance m h class None = false
-names_instance m h class (Some n) = is_of_class class (m.read h n)
-
--- of so many halved pointers from one on, the first that an instance of the class bears: the name of that instance
-unfoldable pub first_instance : {H : Type 0} → ObjectMemory H → H → ℕ → ℕ → ℕ → Option ℕ
-first_instance m h class k zero = None
-first_instance m h class k (suc left) =
-    if names_instance m h class (m.borne_by h k) then m.borne_by h k else first_instance m h class (suc k) left
-
--- Of the kept instances of a class that bear pointers above this one, the one with the least. Pointers are halved; those up to
--- 65534 are looked at.
-unfoldable pub next_of : {H : Type 0} → ObjectMemory H → H → ℕ → ℕ → Option ℕ
-next_of m h class after = first_instance m h class (suc after) (32767 - after)
-
--- the entries and the words of the kept objects
-abbrev pub used : {H : Type 0} → ObjectMemory H → H → Demand
-used m h = record { entries = m.total one h; words = m.total words_of h }
 
 -- so much is more than the capacities
 abbrev pub is_over : Demand → Head → Bool
@@ -126,15 +96,6 @@ less d e = record { entries = d.entries - e.entries; words = d.words - e.words }
 
 abbrev pub capacity_of : Head → Demand
 capacity_of a = record { entries = a.entries; words = a.words }
-
--- what the capacities leave free
-abbrev pub free_space : {H : Type 0} → ObjectMemory H → State H → Demand
-free_space m s = less (capacity_of s.head) (used m s.memory)
-
--- one object more may be made: always, but for a memory that is bounded
-abbrev pub has_room : {H : Type 0} → ObjectMemory H → Head → H → Object → Bool
-has_room m a h o =
-    if m.bounded then nat_le (m.total one h + 1) a.entries && nat_le (m.total words_of h + words_of o) a.words else true
 
 abbrev pub table_root : Option Value → List Value
 table_root None = []
@@ -202,3 +163,43 @@ or_left s (Went a t) = Went (Some a) t
 -- A step that is only tried: where it would die it answers none, and leaves the state as it was.
 unfoldable pub tried : {H A : Type 0} → Step H A → Step H (Option A)
 tried m = record { run = λ s. or_left s (m.run s) }
+
+module _ {H : Type 0} (m : ObjectMemory H) where
+  -- a SmallInteger of 15 bits, or a name of an object that is there; no machine meets another value
+  abbrev pub is_there : H → Value → Bool
+  is_there h (Small n) = nat_lt n 32768
+  is_there h (Ref n) = is_some (m.read h n)
+
+  -- all of these are there
+  abbrev pub all_there : H → List Value → Bool
+  all_there h [] = true
+  all_there h (v ∷ vs) = is_there h v && all_there h vs
+
+  -- a name was found, of an instance of the class
+  abbrev pub names_instance : H → ℕ → Option ℕ → Bool
+  names_instance h class None = false
+  names_instance h class (Some n) = is_of_class class (m.read h n)
+
+  -- of so many halved pointers from one on, the first that an instance of the class bears: the name of that instance
+  unfoldable pub first_instance : H → ℕ → ℕ → ℕ → Option ℕ
+  first_instance h class k zero = None
+  first_instance h class k (suc left) =
+      if names_instance h class (m.borne_by h k) then m.borne_by h k else first_instance h class (suc k) left
+
+  -- Of the kept instances of a class that bear pointers above this one, the one with the least. Pointers are halved; those up to
+  -- 65534 are looked at.
+  unfoldable pub next_of : H → ℕ → ℕ → Option ℕ
+  next_of h class after = first_instance h class (suc after) (32767 - after)
+
+  -- the entries and the words of the kept objects
+  abbrev pub used : H → Demand
+  used h = record { entries = m.total one h; words = m.total words_of h }
+
+  -- what the capacities leave free
+  abbrev pub free_space : State H → Demand
+  free_space s = less (capacity_of s.head) (used s.memory)
+
+  -- one object more may be made: always, but for a memory that is bounded
+  abbrev pub has_room : Head → H → Object → Bool
+  has_room a h o =
+      if m.bounded then nat_le (m.total one h + 1) a.entries && nat_le (m.total words_of h + words_of o) a.words else true

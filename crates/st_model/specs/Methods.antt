@@ -29,48 +29,45 @@ literal_count header = bits_of header % 64
 abbrev pub context_size : Value → ℕ
 context_size header = if is_large header then 38 else 18
 
-unfoldable pub method_header : {H : Type 0} → ObjectMemory H → Value → Step H Value
-method_header m v = do
-  o ← object m v
-  check dead.Kind (is_method o.kind)
-  or_die dead.Field (slice_get o.fields 0)
-
 -- the literal with k literals behind it; field 0 is the header
 abbrev pub from_last : Object → ℕ → Option Value
 from_last o k = if nat_lt (k + 1) (length o.fields) then slice_get o.fields (length o.fields - (k + 1)) else None
-
-unfoldable pub literal_from_last : {H : Type 0} → ObjectMemory H → Value → ℕ → Step H Value
-literal_from_last m v k = do
-  o ← object m v
-  check dead.Kind (is_method o.kind)
-  or_die dead.Field (from_last o k)
 
 -- the header extension names a primitive in bits 7 to 14 of its word
 unfoldable pub primitive_number : {H : Type 0} → Value → Step H ℕ
 primitive_number (Small n) = answer (n % 256)
 primitive_number (Ref n) = die dead.NotSmall
 
--- the extension is the next to last literal
-unfoldable pub method_primitive : {H : Type 0} → ObjectMemory H → Value → Step H ℕ
-method_primitive m v = do
-  extension ← literal_from_last m v 1
-  primitive_number extension
-
 -- and the number of arguments in bits 2 to 6
 unfoldable pub extension_arguments : {H : Type 0} → Value → Step H ℕ
 extension_arguments (Small n) = answer (n / 256 % 32)
 extension_arguments (Ref n) = die dead.NotSmall
 
-unfoldable pub arguments_by_extension : {H : Type 0} → ObjectMemory H → Value → Step H ℕ
-arguments_by_extension m v = do
-  extension ← literal_from_last m v 1
-  extension_arguments extension
+module _ {H : Type 0} (m : ObjectMemory H) where
+  unfoldable pub method_header : Value → Step H Value
+  method_header v = do
+    o ← object m v
+    check dead.Kind (is_method o.kind)
+    or_die dead.Field (slice_get o.fields 0)
 
-unfoldable pub arguments_by : {H : Type 0} → ObjectMemory H → Value → ℕ → Step H ℕ
-arguments_by m v flag = if flag == 7 then arguments_by_extension m v else if nat_lt flag 5 then answer flag else answer 0
+  unfoldable pub literal_from_last : Value → ℕ → Step H Value
+  literal_from_last v k = do
+    o ← object m v
+    check dead.Kind (is_method o.kind)
+    or_die dead.Field (from_last o k)
 
--- how many arguments a method takes: a flag up to 4 is their number, with 7 the extension has it, and with 5 and 6 there are none
-unfoldable pub method_arguments : {H : Type 0} → ObjectMemory H → Value → Step H ℕ
-method_arguments m v = do
-  header ← method_header m v
-  arguments_by m v (flag_of header)
+  -- the extension is the next to last literal
+  unfoldable pub method_primitive : Value → Step H ℕ
+  method_primitive v = literal_from_last v 1 >>= primitive_number
+
+  unfoldable pub arguments_by_extension : Value → Step H ℕ
+  arguments_by_extension v = literal_from_last v 1 >>= extension_arguments
+
+  unfoldable pub arguments_by : Value → ℕ → Step H ℕ
+  arguments_by v flag = if flag == 7 then arguments_by_extension v else if nat_lt flag 5 then answer flag else answer 0
+
+  -- how many arguments a method takes: a flag up to 4 is their number, with 7 the extension has it, and with 5 and 6 there are none
+  unfoldable pub method_arguments : Value → Step H ℕ
+  method_arguments v = do
+    header ← method_header v
+    arguments_by v (flag_of header)

@@ -16,33 +16,24 @@ pub record Object : Type 0 where
 
 abbrev pub is_pointers : Kind → Bool
 is_pointers Pointers = true
-is_pointers Words = false
-is_pointers Bytes = false
-is_pointers Method = false
+is_pointers k = false
 
 abbrev pub is_words : Kind → Bool
-is_words Pointers = false
 is_words Words = true
-is_words Bytes = false
-is_words Method = false
+is_words k = false
 
 abbrev pub is_bytes : Kind → Bool
-is_bytes Pointers = false
-is_bytes Words = false
 is_bytes Bytes = true
-is_bytes Method = false
+is_bytes k = false
 
 abbrev pub is_method : Kind → Bool
-is_method Pointers = false
-is_method Words = false
-is_method Bytes = false
 is_method Method = true
+is_method k = false
 
 abbrev pub has_bytes : Kind → Bool
-has_bytes Pointers = false
-has_bytes Words = false
 has_bytes Bytes = true
 has_bytes Method = true
+has_bytes k = false
 
 -- an object of this kind has fields: pointers, or a header and literals
 abbrev pub holds_fields : Kind → Bool

@@ -15,67 +15,66 @@ calls m = do
 
 -- a step that calls nothing
 unfoldable pub calls_nothing : {H : Type 0} → Step H Unit → Step H (Option Call)
-calls_nothing m = do
-  m
-  answer None
+calls_nothing m = m >> answer None
 
--- the active context and the value are pushed, and cannotReturn: is sent
-unfoldable pub cannot_return : {H : Type 0} → ObjectMemory H → Value → Step H Call
-cannot_return m v = do
-  c ← get_active
-  push m c
-  push m v
-  selector ← of_page m CannotReturn
-  send m selector 1
+module _ {H : Type 0} (m : ObjectMemory H) where
+  -- the active context and the value are pushed, and cannotReturn: is sent
+  unfoldable pub cannot_return : Value → Step H Call
+  cannot_return v = do
+    c ← get_active
+    push m c
+    push m v
+    selector ← of_page m CannotReturn
+    send m selector 1
 
--- the active context is left for good, and the value is pushed in the other
-unfoldable pub return_into : {H : Type 0} → ObjectMemory H → Value → Value → Step H Unit
-return_into m c v = do
-  active ← get_active
-  nil ← of_page m NilObject
-  store_field m active 0 nil
-  store_field m active 1 nil
-  fetch_context_registers m c
-  push m v
+  -- the active context is left for good, and the value is pushed in the other
+  unfoldable pub return_into : Value → Value → Step H Unit
+  return_into c v = do
+    active ← get_active
+    nil ← of_page m NilObject
+    store_field m active 0 nil
+    store_field m active 1 nil
+    fetch_context_registers m c
+    push m v
 
--- a context was left for good where its instruction pointer is nil
-unfoldable pub return_to_context : {H : Type 0} → ObjectMemory H → Value → Value → Value → Step H (Option Call)
-return_to_context m c v nil = do
-  ip ← fetch_field m c 1
-  if same_value ip nil then calls (cannot_return m v) else calls_nothing (return_into m c v)
+  -- a context was left for good where its instruction pointer is nil
+  unfoldable pub return_to_context : Value → Value → Value → Step H (Option Call)
+  return_to_context c v nil = do
+    ip ← fetch_field m c 1
+    if same_value ip nil then calls (cannot_return v) else calls_nothing (return_into c v)
 
--- v is returned to c
-unfoldable pub return_to : {H : Type 0} → ObjectMemory H → Value → Value → Step H (Option Call)
-return_to m c v = do
-  nil ← of_page m NilObject
-  if same_value c nil then calls (cannot_return m v) else return_to_context m c v nil
+  -- v is returned to c
+  unfoldable pub return_to : Value → Value → Step H (Option Call)
+  return_to c v = do
+    nil ← of_page m NilObject
+    if same_value c nil then calls (cannot_return v) else return_to_context c v nil
 
--- the sender is field 0 of the home context
-unfoldable pub return_to_sender : {H : Type 0} → ObjectMemory H → Value → Step H (Option Call)
-return_to_sender m v = do
-  home ← get_home
-  c ← fetch_field m home 0
-  return_to m c v
+  -- the sender is field 0 of the home context
+  unfoldable pub return_to_sender : Value → Step H (Option Call)
+  return_to_sender v = do
+    home ← get_home
+    c ← fetch_field m home 0
+    return_to c v
 
--- the caller is field 0 of the active context
-unfoldable pub return_to_caller : {H : Type 0} → ObjectMemory H → Value → Step H (Option Call)
-return_to_caller m v = do
-  active ← get_active
-  c ← fetch_field m active 0
-  return_to m c v
+  -- the caller is field 0 of the active context
+  unfoldable pub return_to_caller : Value → Step H (Option Call)
+  return_to_caller v = do
+    active ← get_active
+    c ← fetch_field m active 0
+    return_to c v
 
--- the word is put back, and mustBeBoolean is sent to it
-unfoldable pub must_be_boolean : {H : Type 0} → ObjectMemory H → Value → Step H Call
-must_be_boolean m x = do
-  push m x
-  selector ← of_page m MustBeBoolean
-  send m selector 0
+  -- the word is put back, and mustBeBoolean is sent to it
+  unfoldable pub must_be_boolean : Value → Step H Call
+  must_be_boolean x = do
+    push m x
+    selector ← of_page m MustBeBoolean
+    send m selector 0
 
--- the word is the wanted boolean, or else the other one, or neither
-unfoldable pub jump_on : {H : Type 0} → ObjectMemory H → PageObject → PageObject → ℤ → Step H (Option Call)
-jump_on m wanted other d = do
-  x ← pop m
-  a ← of_page m wanted
-  b ← of_page m other
-  if same_value x a then calls_nothing (jump d) else
-      if same_value x b then answer None else calls (must_be_boolean m x)
+  -- the word is the wanted boolean, or else the other one, or neither
+  unfoldable pub jump_on : PageObject → PageObject → ℤ → Step H (Option Call)
+  jump_on wanted other d = do
+    x ← pop m
+    a ← of_page m wanted
+    b ← of_page m other
+    if same_value x a then calls_nothing (jump d) else
+        if same_value x b then answer None else calls (must_be_boolean x)

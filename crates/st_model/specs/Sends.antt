@@ -22,93 +22,92 @@ call_of c = record { method = word c.method; arguments = c.arguments }
 abbrev pub call_if_any : Option CodeCall → Option Call
 call_if_any x = option_map call_of x
 
--- the n words at the top go into an Array, the lowest first
-unfoldable pub copy_arguments : {H : Type 0} → ObjectMemory H → Value → ℕ → Step H Unit
-copy_arguments m array n = do
-  c ← get_active
-  sp ← get_sp
-  transfer m n c (sp + 1 - n) array 0
-
--- a new Array of the n words at the top
-unfoldable pub argument_array : {H : Type 0} → ObjectMemory H → ℕ → Step H Value
-argument_array m n = do
-  class ← of_page m ArrayClass
-  array ← new_object m class n
-  copy_arguments m array n
-  answer array
-
--- a new Message of a selector and an Array of arguments
-unfoldable pub new_message : {H : Type 0} → ObjectMemory H → Value → Value → Step H Value
-new_message m selector array = do
-  class ← of_page m MessageClass
-  message ← new_object m class 2
-  store_field m message 0 selector
-  store_field m message 1 array
-  answer message
-
--- a Message takes the place of the n arguments
-unfoldable pub replace_by_message : {H : Type 0} → ObjectMemory H → Value → ℕ → Step H Unit
-replace_by_message m selector n = do
-  array ← argument_array m n
-  message ← new_message m selector array
-  drop_words n
-  push m message
-
--- the method for doesNotUnderstand: is called with the Message as its argument; without one the machine is dead
-unfoldable pub call_not_understood : {H : Type 0} → ObjectMemory H → Value → ℕ → Option Value → Step H Call
-call_not_understood m selector n None = die dead.Unanswered
-call_not_understood m selector n (Some method) = do
-  replace_by_message m selector n
-  answer (record { method = method; arguments = 1 })
-
-unfoldable pub not_understood : {H : Type 0} → ObjectMemory H → Value → Value → ℕ → Step H Call
-not_understood m class selector n = do
-  understand ← of_page m NotUnderstood
-  method ← find m class understand
-  call_not_understood m selector n method
-
-unfoldable pub call_found : {H : Type 0} → ObjectMemory H → Value → Value → ℕ → Option Value → Step H Call
-call_found m class selector n (Some method) = answer (record { method = method; arguments = n })
-call_found m class selector n None = not_understood m class selector n
-
--- the search begins in this class
-unfoldable pub send_from : {H : Type 0} → ObjectMemory H → Value → Value → ℕ → Step H Call
-send_from m class selector n = do
-  method ← find m class selector
-  call_found m class selector n method
-
--- the receiver is the word n words below the top
-unfoldable pub send : {H : Type 0} → ObjectMemory H → Value → ℕ → Step H Call
-send m selector n = do
-  receiver ← under m n
-  class ← class_of m receiver
-  send_from m class selector n
-
--- the superclass of the method's class, which is the value of the association that is the last literal
-unfoldable pub class_above : {H : Type 0} → ObjectMemory H → Step H Value
-class_above m = do
-  method ← get_method
-  association ← literal_from_last m method 0
-  class ← fetch_field m association 1
-  fetch_field m class 0
-
--- the search begins in that superclass
-unfoldable pub send_to_super : {H : Type 0} → ObjectMemory H → Value → ℕ → Step H Call
-send_to_super m selector n = do
-  receiver ← under m n
-  class ← class_above m
-  send_from m class selector n
-
 -- special sends: of the number k, fields 2k and 2k + 1 of the special selectors are selector and number of arguments
 
 unfoldable pub argument_count : {H : Type 0} → ℤ → Step H ℕ
 argument_count (pos n) = answer n
 argument_count (negsuc n) = die dead.Field
 
-unfoldable pub special_send : {H : Type 0} → ObjectMemory H → ℕ → Step H Call
-special_send m k = do
-  selectors ← of_page m Selectors
-  selector ← fetch_field m selectors (2 * k)
-  count ← fetch_integer m selectors (2 * k + 1)
-  n ← argument_count count
-  send m selector n
+module _ {H : Type 0} (m : ObjectMemory H) where
+  -- the n words at the top go into an Array, the lowest first
+  unfoldable pub copy_arguments : Value → ℕ → Step H Unit
+  copy_arguments array n = do
+    c ← get_active
+    sp ← get_sp
+    transfer m n c (sp + 1 - n) array 0
+
+  -- a new Array of the n words at the top
+  unfoldable pub argument_array : ℕ → Step H Value
+  argument_array n = do
+    class ← of_page m ArrayClass
+    array ← new_object m class n
+    copy_arguments array n
+    answer array
+
+  -- a new Message of a selector and an Array of arguments
+  unfoldable pub new_message : Value → Value → Step H Value
+  new_message selector array = do
+    class ← of_page m MessageClass
+    message ← new_object m class 2
+    store_field m message 0 selector
+    store_field m message 1 array
+    answer message
+
+  -- a Message takes the place of the n arguments
+  unfoldable pub replace_by_message : Value → ℕ → Step H Unit
+  replace_by_message selector n = do
+    array ← argument_array n
+    message ← new_message selector array
+    drop_words n
+    push m message
+
+  -- the method for doesNotUnderstand: is called with the Message as its argument; without one the machine is dead
+  unfoldable pub call_not_understood : Value → ℕ → Option Value → Step H Call
+  call_not_understood selector n None = die dead.Unanswered
+  call_not_understood selector n (Some method) = do
+    replace_by_message selector n
+    answer (record { method = method; arguments = 1 })
+
+  unfoldable pub not_understood : Value → Value → ℕ → Step H Call
+  not_understood class selector n = do
+    understand ← of_page m NotUnderstood
+    method ← find m class understand
+    call_not_understood selector n method
+
+  unfoldable pub call_found : Value → Value → ℕ → Option Value → Step H Call
+  call_found class selector n (Some method) = answer (record { method = method; arguments = n })
+  call_found class selector n None = not_understood class selector n
+
+  -- the search begins in this class
+  unfoldable pub send_from : Value → Value → ℕ → Step H Call
+  send_from class selector n = find m class selector >>= call_found class selector n
+
+  -- the receiver is the word n words below the top
+  unfoldable pub send : Value → ℕ → Step H Call
+  send selector n = do
+    receiver ← under m n
+    class ← class_of m receiver
+    send_from class selector n
+
+  -- the superclass of the method's class, which is the value of the association that is the last literal
+  unfoldable pub class_above : Step H Value
+  class_above = do
+    method ← get_method
+    association ← literal_from_last m method 0
+    class ← fetch_field m association 1
+    fetch_field m class 0
+
+  -- the search begins in that superclass
+  unfoldable pub send_to_super : Value → ℕ → Step H Call
+  send_to_super selector n = do
+    receiver ← under m n
+    class ← class_above
+    send_from class selector n
+
+  unfoldable pub special_send : ℕ → Step H Call
+  special_send k = do
+    selectors ← of_page m Selectors
+    selector ← fetch_field m selectors (2 * k)
+    count ← fetch_integer m selectors (2 * k + 1)
+    n ← argument_count count
+    send selector n

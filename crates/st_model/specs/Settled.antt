@@ -75,12 +75,6 @@ abbrev pub any_of_page : List PageObject → (PageObject → Bool) → Bool
 any_of_page [] test = false
 any_of_page (q ∷ qs) test = or (test q) (any_of_page qs test)
 
-unfoldable pub is_root : {H : Type 0} → ObjectMemory H → H → List Value → ℕ → Bool
-is_root m h roots n = or (any_names roots n) (any_of_page page (λ q. n == m.named h q))
-
-unfoldable pub is_supported : {H : Type 0} → ObjectMemory H → H → List Value → (ℕ → Bool) → ℕ → Bool
-is_supported m h roots set n = or (is_root m h roots n) (any_below (m.size h) (λ k. set k && object_names (m.read h k) n))
-
 -- the marks of the names below n
 abbrev pub marks_below : ℕ → (ℕ → Bool) → List Bool
 marks_below zero test = []
@@ -89,18 +83,25 @@ marks_below (suc n) test = marks_below n test ++ test n ∷ []
 abbrev pub is_marked : List Bool → ℕ → Bool
 is_marked marks n = slice_index_or marks n false
 
--- the marked names that something supports
-unfoldable pub next_round : {H : Type 0} → ObjectMemory H → H → List Value → List Bool → List Bool
-next_round m h roots marks = marks_below (m.size h) (λ n. is_marked marks n && is_supported m h roots (is_marked marks) n)
+module _ {H : Type 0} (m : ObjectMemory H) where
+  unfoldable pub is_root : H → List Value → ℕ → Bool
+  is_root h roots n = or (any_names roots n) (any_of_page page (λ q. n == m.named h q))
 
-abbrev pub round : {H : Type 0} → ObjectMemory H → H → List Value → ℕ → List Bool
-round m h roots zero = marks_below (m.size h) (m.kept h)
-round m h roots (suc k) = next_round m h roots (round m h roots k)
+  unfoldable pub is_supported : H → List Value → (ℕ → Bool) → ℕ → Bool
+  is_supported h roots set n = or (is_root h roots n) (any_below (m.size h) (λ k. set k && object_names (m.read h k) n))
 
--- after one round more than there are names no member leaves
-unfoldable pub settled_set : {H : Type 0} → ObjectMemory H → H → List Value → ℕ → Bool
-settled_set m h roots = is_marked (round m h roots (suc (m.size h)))
+  -- the marked names that something supports
+  unfoldable pub next_round : H → List Value → List Bool → List Bool
+  next_round h roots marks = marks_below (m.size h) (λ n. is_marked marks n && is_supported h roots (is_marked marks) n)
 
--- of the kept objects only those of the largest set that supports itself
-unfoldable pub reclaim : {H : Type 0} → ObjectMemory H → State H → State H
-reclaim m s = with_memory s (m.settled s.memory (settled_set m s.memory (roots_of s)))
+  abbrev pub round : H → List Value → ℕ → List Bool
+  round h roots zero = marks_below (m.size h) (m.kept h)
+  round h roots (suc k) = next_round h roots (round h roots k)
+
+  -- after one round more than there are names no member leaves
+  unfoldable pub settled_set : H → List Value → ℕ → Bool
+  settled_set h roots = is_marked (round h roots (suc (m.size h)))
+
+  -- of the kept objects only those of the largest set that supports itself
+  unfoldable pub reclaim : State H → State H
+  reclaim s = with_memory s (m.settled s.memory (settled_set s.memory (roots_of s)))

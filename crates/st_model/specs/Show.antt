@@ -68,14 +68,18 @@ object_borne (b ∷ h) p = if bears b p then Some b.object else object_borne h p
 unfoldable pub shown_table : Births → Table
 shown_table h = made (λ p. option_map (renamed_object (pointer_of h)) (object_borne h p)) 32768
 
+-- a state over other objects, with each name changed
+abbrev pub renamed_state : {H K : Type 0} → (ℕ → ℕ) → K → State H → State K
+renamed_state f memory s = record {
+  memory = memory;
+  registers = renamed_registers f s.registers;
+  world = renamed_world f s.world;
+  head = renamed_head f s.head;
+}
+
 -- what births show
 unfoldable pub show : State Births → State Table
-show s = record {
-  memory = shown_table s.memory;
-  registers = renamed_registers (pointer_of s.memory) s.registers;
-  world = renamed_world (pointer_of s.memory) s.world;
-  head = renamed_head (pointer_of s.memory) s.head;
-}
+show s = renamed_state (pointer_of s.memory) (shown_table s.memory) s
 
 -- the number of objects before a place
 abbrev pub rank : Table → ℕ → ℕ
@@ -92,9 +96,4 @@ births_from birth p (Some o ∷ t) = record { object = renamed_object birth o; p
 
 -- the births that a state over a table begins with, where each object's birth number is its rank
 unfoldable pub raised : State Table → State Births
-raised c = record {
-  memory = births_from (rank c.memory) 0 c.memory;
-  registers = renamed_registers (rank c.memory) c.registers;
-  world = renamed_world (rank c.memory) c.world;
-  head = renamed_head (rank c.memory) c.head;
-}
+raised c = renamed_state (rank c.memory) (births_from (rank c.memory) 0 c.memory) c

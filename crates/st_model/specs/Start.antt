@@ -35,9 +35,8 @@ kind_in h bytes k =
 -- how many fields an object has whose body has so many words: each word is one, or a method's header and literals are
 abbrev pub field_count : Kind → ℕ → ℕ → ℕ
 field_count kind.Pointers words literals = words
-field_count kind.Words words literals = 0
-field_count kind.Bytes words literals = 0
 field_count kind.Method words literals = literals + 1
+field_count k words literals = 0
 
 -- the bytes of so many words; odd length takes the last one off, where there is one
 abbrev pub byte_count : ℕ → Bool → ℕ
@@ -47,8 +46,7 @@ byte_count words odd = 2 * words - (if odd then 1 else 0)
 abbrev pub unit_count : Kind → ℕ → Bool → ℕ
 unit_count kind.Pointers words odd = 0
 unit_count kind.Words words odd = words
-unit_count kind.Bytes words odd = byte_count words odd
-unit_count kind.Method words odd = byte_count words odd
+unit_count k words odd = byte_count words odd
 
 -- how many fields the object of entry k has
 unfoldable pub fields_in : ImageHead → List ℕ → ℕ → ℕ

@@ -64,14 +64,7 @@ changed_world (SetMillisecondClock n) w = record w { millisecond_clock = n }
 abbrev pub named_by : Change → List Value
 named_by (Hold d v) = v ∷ []
 named_by (AddSignal v) = v ∷ []
-named_by TakeSignal = []
-named_by (SetDue t) = []
-named_by (SetLow entries words) = []
-named_by (MoveMouse x y) = []
-named_by (AddWord n) = []
-named_by TakeWord = []
-named_by (SetSecondClock n) = []
-named_by (SetMillisecondClock n) = []
+named_by change = []
 
 -- a change with its name changed
 abbrev pub renamed_change : (ℕ → ℕ) → Change → Change

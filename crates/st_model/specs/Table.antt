@@ -19,9 +19,8 @@ changed (Some a ∷ t) zero o = Some o ∷ t
 changed (e ∷ t) (suc k) o = e ∷ changed t k o
 
 abbrev pub exchanged_objects : Table → ℕ → ℕ → Option Object → Option Object → Table
-exchanged_objects t a b None p = t
-exchanged_objects t a b (Some o) None = t
 exchanged_objects t a b (Some o) (Some p) = changed (changed t a p) b o
+exchanged_objects t a b o p = t
 
 -- the table in which two names have exchanged their objects
 abbrev pub exchanged : Table → ℕ → ℕ → Table

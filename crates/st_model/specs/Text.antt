@@ -54,10 +54,8 @@ kind_text Method = codes " m"
 
 -- a colon stands between a method's literals and its bytes
 abbrev pub colon_text : Kind → List ℕ
-colon_text Pointers = []
-colon_text Words = []
-colon_text Bytes = []
 colon_text Method = codes " :"
+colon_text k = []
 
 -- the pointer of an object, its class and the letter of its kind
 abbrev pub heading_text : ℕ → Value → List ℕ → List ℕ

@@ -10,27 +10,28 @@ use Rattle.st_model.specs.Table.{Table, table}
 use Rattle.st_model.specs.View.{View}
 use Rattle.st_scope.specs.Classes.{class_association}
 
-unfoldable pub is_of_metaclass : {H : Type 0} → ObjectMemory H → (global metaclass association : Value) → Step H Bool
-is_of_metaclass m global metaclass association = do
-  kind ← class_of m global
-  same ← class_of m association
-  key ← fetch_field m association 0
-  class ← fetch_field m association 1
-  answer (same_value same kind && (same_value key nil && same_value class metaclass))
-
-unfoldable pub owns_by : {H : Type 0} → ObjectMemory H → (global class v : Value) → (meta : Bool) → Step H Bool
-owns_by m global class v false = answer (same_value v global)
-owns_by m global class v true = is_of_metaclass m global class v
-
-unfoldable pub owns : {H : Type 0} → ObjectMemory H → (globals : Value) → List ℕ → (class v : Value) → (meta : Bool) → Step H Bool
-owns m globals name class v meta = do
-  global ← class_association m globals name
-  owns_by m global class v meta
-
 -- it was answered that it is so
 abbrev pub was_true : Transition (State Table) Bool → Bool
 was_true (Died cause) = false
 was_true (Went b s) = b
+
+module _ {H : Type 0} (m : ObjectMemory H) where
+  unfoldable pub is_of_metaclass : (global metaclass association : Value) → Step H Bool
+  is_of_metaclass global metaclass association = do
+    kind ← class_of m global
+    same ← class_of m association
+    key ← fetch_field m association 0
+    class ← fetch_field m association 1
+    answer (same_value same kind && (same_value key nil && same_value class metaclass))
+
+  unfoldable pub owns_by : (global class v : Value) → (meta : Bool) → Step H Bool
+  owns_by global class v false = answer (same_value v global)
+  owns_by global class v true = is_of_metaclass global class v
+
+  unfoldable pub owns : (globals : Value) → List ℕ → (class v : Value) → (meta : Bool) → Step H Bool
+  owns globals name class v meta = do
+    global ← class_association m globals name
+    owns_by global class v meta
 
 -- over a table; where there is no such class it isn't
 unfoldable pub is_owner_among : Table → Option Value → List ℕ → (class : Value) → (meta : Bool) → Value → Bool

@@ -16,7 +16,7 @@ use Rattle.st_plain.specs.ListsPlain.{Extent, objects_of, with_taken}
 use Rattle.st_plain.proofs.Slots.{entry-listed, entry-slot, slice_get-slot}
 use Rattle.st_plain.proofs.Looking.{total_more}
 use Rattle.st_plain.proofs.Counting.{used_is}
-use Rattle.st_memory.proofs.Exchanged.{same_table}
+use Rattle.st_memory.proofs.Bodies.{same_table}
 use Rattle.st_counted.proofs.Referring.{entry-set_same, entry-set_other}
 
 pub total_part : (w : Entry → ℕ) (es : List (Option Entry)) (k : ℕ) → entry_total w (take k es) ≤ entry_total w es

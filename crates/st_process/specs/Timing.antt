@@ -28,14 +28,15 @@ place_in p = record { x = p.x; y = p.y }
 abbrev pub low_in : CodeLow → Low
 low_in l = record { entries = l.entries; words = l.words }
 
--- what is done to the timer, by the time that was read
-unfoldable pub timing_by : {H : Type 0} → ObjectMemory H → Value → ℕ → Step H Timing
-timing_by m a time = do
-  semaphore ← can_be_signalled m a
-  if semaphore then ring_or_wait time else answer LetsGo
+module _ {H : Type 0} (m : ObjectMemory H) where
+  -- what is done to the timer, by the time that was read
+  unfoldable pub timing_by : Value → ℕ → Step H Timing
+  timing_by a time = do
+    semaphore ← can_be_signalled m a
+    if semaphore then ring_or_wait time else answer LetsGo
 
--- a is held for the timer, which is due at this time
-unfoldable pub wait_for : {H : Type 0} → ObjectMemory H → Value → ℕ → Step H Unit
-wait_for m a time = do
-  change_world m (Hold Timer a)
-  change_world m (SetDue time)
+  -- a is held for the timer, which is due at this time
+  unfoldable pub wait_for : Value → ℕ → Step H Unit
+  wait_for a time = do
+    change_world m (Hold Timer a)
+    change_world m (SetDue time)

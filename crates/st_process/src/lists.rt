@@ -8,7 +8,7 @@ ghost use Rattle.st_model.specs.Calls.{Reads, itself};
 ghost use Rattle.st_process.specs.Scheduling.{is_empty};
 ghost use Rattle.st_frames.specs.Rows.{RowDoes, Takes};
 
-use crate::shapes::Link;
+use crate::shapes::Listed;
 use st_frames::{Registers, page};
 use st_memory::Objects;
 use st_model::{Dead, PageObject, Word};
@@ -24,14 +24,14 @@ pub fn is_empty<O: Objects>(m: &O, list: Word) -> Result<bool, Dead>
 
 /// Links a process behind the last one of a list, or where its first one is nil, as the first.
 #[tactic(auto, using(st_frames::proofs::Doing::rows, st_frames::proofs::Doing::pages), unfolding(st_model::specs::Processes::link_first))]
-fn link_first<O: Objects>(m: &mut O, r: &Registers, link: Link, first: Word) -> Result<(), Dead>
+fn link_first<O: Objects>(m: &mut O, r: &Registers, p: Listed, first: Word) -> Result<(), Dead>
     requires room { 1 ≤ O.room m.old }
     ensures does { RowDoes O.Objects.own
-        (link_first O.names (word link.process) (word link.list)
+        (link_first O.names (word p.process) (word p.list)
         (same_value (word first) (Ref (place_of NilObject)))) itself m.old r.now result m.new r.now }
     ensures takes { Takes O.Objects.own 1 m.old m.new }
 {
-    let Link { process, list } = link;
+    let Listed { process, list } = p;
     if first.same(page(m, PageObject::NilObject)) {
         m.store_field(list, 0, process)
     } else {
@@ -49,21 +49,21 @@ pub fn add_last<O: Objects>(m: &mut O, r: &Registers, process: Word, list: Word)
     ensures takes { Takes O.Objects.own 3 m.old m.new }
 {
     let first = m.fetch_field(list, 0)?;
-    link_first(m, r, Link { process, list }, first)?;
+    link_first(m, r, Listed { process, list }, first)?;
     m.store_field(list, 1, process)?;
     m.store_field(process, 3, list)
 }
 
 /// The first process of a list, which has this last one, leaves it to the one behind it.
 #[tactic(auto, using(st_frames::proofs::Doing::rows, st_frames::proofs::Doing::pages), unfolding(st_model::specs::Processes::unlink_first))]
-fn unlink_first<O: Objects>(m: &mut O, r: &Registers, link: Link, last: Word) -> Result<(), Dead>
+fn unlink_first<O: Objects>(m: &mut O, r: &Registers, p: Listed, last: Word) -> Result<(), Dead>
     requires room { 2 ≤ O.room m.old }
     ensures does { RowDoes O.Objects.own
-        (unlink_first O.names (word link.process) (word link.list) (Ref (place_of NilObject))
-        (same_value (word last) (word link.process))) itself m.old r.now result m.new r.now }
+        (unlink_first O.names (word p.process) (word p.list) (Ref (place_of NilObject))
+        (same_value (word last) (word p.process))) itself m.old r.now result m.new r.now }
     ensures takes { Takes O.Objects.own 2 m.old m.new }
 {
-    let Link { process, list } = link;
+    let Listed { process, list } = p;
     if last.same(process) {
         let nil = page(m, PageObject::NilObject);
         m.store_field(list, 0, nil)?;
@@ -84,7 +84,7 @@ pub fn take_first<O: Objects>(m: &mut O, r: &Registers, list: Word) -> Result<Wo
 {
     let process = m.fetch_field(list, 0)?;
     let last = m.fetch_field(list, 1)?;
-    unlink_first(m, r, Link { process, list }, last)?;
+    unlink_first(m, r, Listed { process, list }, last)?;
     m.store_field(process, 0, page(m, PageObject::NilObject))?;
     Ok(process)
 }

@@ -1,10 +1,9 @@
 ghost use Rattle.std.specs.Prelude.{◌≡◌, ◌≤◌, ◌+◌, false, IfOk};
 ghost use Rattle.st_model.specs.Values.{word};
 ghost use Rattle.st_model.specs.Input.{low_space, set_low_space, primitive_low_space};
-ghost use Rattle.st_model.specs.Calls.{itself};
 ghost use Rattle.st_model.specs.Deeds.{is_done, deed_of_trial, copies_pixels};
 ghost use Rattle.st_process.specs.Timing.{low_in};
-ghost use Rattle.st_frames.specs.Answering.{succeed_by, answer_word, answer_deed};
+ghost use Rattle.st_frames.specs.Answering.{answer_word, answer_deed};
 ghost use Rattle.st_frames.specs.Rows.{RowReads, RowLeaves, Takes};
 
 use crate::processes::check_fields;

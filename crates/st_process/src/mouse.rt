@@ -1,8 +1,7 @@
-ghost use Rattle.std.specs.Prelude.{◌≡◌, ◌<◌, ◌≤◌, ◌+◌, pos, IfOk};
+ghost use Rattle.std.specs.Prelude.{◌≡◌, ◌<◌, ◌≤◌, ◌+◌, pos};
 ghost use Rattle.st_model.specs.Values.{word};
 ghost use Rattle.st_model.specs.Arithmetic.{new_point};
 ghost use Rattle.st_model.specs.Input.{mouse_point, primitive_mouse_point, place_in, move_mouse, primitive_move_mouse};
-ghost use Rattle.st_model.specs.Calls.{itself};
 ghost use Rattle.st_model.specs.Deeds.{is_done, deed_of_trial};
 ghost use Rattle.st_process.specs.Timing as meaning;
 ghost use Rattle.st_frames.specs.Answering.{succeed_by};

@@ -1,4 +1,5 @@
-//! What conditions find, for the effects that follow.
+//! What primitives are given that goes together (`Alarm`), or that tells two of one form apart (`Setting`); what their conditions find
+//! of that, for the effects that follow (`Place`, `Low`, `Timing`); and a process with its list (`Listed`).
 
 ghost use Rattle.std.specs.Prelude.{◌≤◌};
 
@@ -15,9 +16,9 @@ pub struct Place {
     pub ghost top: { y ≤ 16383 },
 }
 
-/// A process, and the list that it is in or goes into.
+/// A process, which is a link of a list, and that list, which it is in or goes into.
 #[derive(Clone, Copy)]
-pub struct Link {
+pub struct Listed {
     /// The process.
     pub process: Word,
     /// The list.

@@ -1,11 +1,11 @@
 ghost use Rattle.std.specs.Prelude.{◌≡◌, ◌<◌, ◌≤◌, ◌+◌, length, IfOk, false};
 ghost use Rattle.st_model.specs.Values.{word};
-ghost use Rattle.st_model.specs.Input.{can_be_signalled, ring_or_wait, timing, signal_once, set_timer, set_timer_and_answer, primitive_timer};
+ghost use Rattle.st_model.specs.Input.{can_be_signalled, ring_or_wait, timing, signal_once, set_timer, primitive_timer};
 ghost use Rattle.st_model.specs.declared.device.Device.TheVariants.{Timer};
 ghost use Rattle.st_model.specs.Calls.{Reads, itself};
 ghost use Rattle.st_model.specs.Deeds.{is_done, deed_of_trial, copies_pixels};
 ghost use Rattle.st_process.specs.Timing.{timing_in, timing_by, wait_for, HasRoom};
-ghost use Rattle.st_frames.specs.Answering.{succeed_by, no_word};
+ghost use Rattle.st_frames.specs.Answering.{no_word};
 ghost use Rattle.st_frames.specs.Rows.{RowReads, RowLeaves, Takes};
 
 use crate::clocks::check_four_bytes;
@@ -103,15 +103,20 @@ fn wait<O: Objects>(m: &O, r: &Registers, semaphore: Word, due: u32) -> Result<D
 
 /// What is left to be done to the timer. What it names must be there.
 #[tactic(auto, using(st_frames::proofs::Doing::rows, st_frames::proofs::Doing::pages, crate::proofs::Timers::timers))]
-fn set_timer<O: Objects>(m: &O, r: &Registers, alarm: Alarm, timing: Timing) -> Result<Deed, Dead>
+fn set_timer<O: Objects>(
+    m: &O,
+    r: &Registers,
+    semaphore: Word,
+    timing: Timing,
+) -> Result<Deed, Dead>
     requires room { HasRoom r.now.world.now timing }
-    ensures does { RowLeaves O.Objects.own (set_timer O.names (word alarm.semaphore) (timing_in timing))
+    ensures does { RowLeaves O.Objects.own (set_timer O.names (word semaphore) (timing_in timing))
         no_word itself m.now r.now result m.now r.now }
     ensures plain { IfOk result (λ d. copies_pixels d ≡ false) }
 {
     match timing {
-        Timing::Rings => ring(m, r, alarm.semaphore),
-        Timing::Waits(due) => wait(m, r, alarm.semaphore, due),
+        Timing::Rings => ring(m, r, semaphore),
+        Timing::Waits(due) => wait(m, r, semaphore, due),
         Timing::LetsGo => hold(m, r, Device::Timer, page(m, PageObject::NilObject)),
     }
 }
@@ -127,10 +132,9 @@ pub fn primitive_timer<O: Objects>(m: &mut O, r: &mut Registers) -> Result<Tried
     let receiver = under(m, r, 2)?;
     let semaphore = under(m, r, 1)?;
     let bytes = top(m, r)?;
-    let alarm = Alarm { semaphore, bytes };
-    match find_timing(m, r, alarm) {
+    match find_timing(m, r, Alarm { semaphore, bytes }) {
         Ok(timing) => {
-            let deed = set_timer(m, r, alarm, timing)?;
+            let deed = set_timer(m, r, semaphore, timing)?;
             let word = receiver;
             succeed_leaving(m, r, 2, Answer { word, deed })
         }

@@ -21,33 +21,20 @@ number_of OutOfMemory = 10
 
 -- these come from outside, whatever was asked for
 abbrev pub IsFault : Status → Type 0
-IsFault Done = ⊥
-IsFault Usage = ⊥
-IsFault (Image f) = ⊥
-IsFault (Script line) = ⊥
 IsFault ReadFault = ⊤
 IsFault SayFault = ⊤
 IsFault DiskFault = ⊤
-IsFault (Store f) = ⊥
-IsFault (Kernel chunk cause) = ⊥
-IsFault TooLarge = ⊥
 IsFault OutOfMemory = ⊤
+IsFault _ = ⊥
 
 module _ {D : Type 0} (host : Ghosts D) where
   -- A fault comes only where its count rose, or stands at the last value that it has. One of the source has its cause in
   -- `reads`. Want of memory may come always.
   abbrev pub StatusHasCause : Type 0 → D → D → Status → Type 0
-  StatusHasCause reads old new Done = ⊤
-  StatusHasCause reads old new Usage = ⊤
-  StatusHasCause reads old new (Image f) = ⊤
-  StatusHasCause reads old new (Script line) = ⊤
   StatusHasCause reads old new ReadFault = reads
   StatusHasCause reads old new SayFault = Rose (host.say_faults old) (host.say_faults new)
   StatusHasCause reads old new DiskFault = Rose (host.disk_faults old) (host.disk_faults new)
-  StatusHasCause reads old new (Store f) = ⊤
-  StatusHasCause reads old new (Kernel chunk cause) = ⊤
-  StatusHasCause reads old new TooLarge = ⊤
-  StatusHasCause reads old new OutOfMemory = ⊤
+  StatusHasCause reads old new _ = ⊤
 
   abbrev pub EndHasCause : Type 0 → D → D → Result Unit Status → Type 0
   EndHasCause reads old new (Ok u) = ⊤

@@ -26,16 +26,10 @@ pub record Replayed : Type 0 where
   pub count : ℕ
   pub lost : List Loss
 
-abbrev pub with_one : Replayed → Replayed
-with_one r = record { state = r.state; count = suc r.count; lost = r.lost }
-
-abbrev pub with_lost : Loss → Replayed → Replayed
-with_lost loss r = record { state = r.state; count = r.count; lost = loss ∷ r.lost }
-
 -- one definition, of which this comes, and then the others
 abbrev pub replay_one : ℕ → State Births → Installed → (State Births → Replayed) → Replayed
-replay_one n s (Refused why) next = with_lost (record { number = n; why = why }) (next s)
-replay_one n s (Accepted selector t) next = with_one (next t)
+replay_one n s (Refused why) next = record (next s) { lost = record { number = n; why = why } ∷ (next s).lost }
+replay_one n s (Accepted selector t) next = record (next t) { count = suc (next t).count }
 
 -- definitions in order, behind so many in the changes file: each is installed, or lost
 unfoldable pub replay : Install → State Births → ℕ → List Definition → Replayed

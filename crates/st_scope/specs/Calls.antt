@@ -16,18 +16,6 @@ abbrev pub or_fault : {A : Type 0} → InstallFault → Option A → Result A In
 or_fault fault None = Err fault
 or_fault fault (Some a) = Ok a
 
--- CLASS
-
-unfoldable pub class_among : {H : Type 0} → ObjectMemory H → Option Value → List ℕ → (meta : Bool) → Step H (Result Value InstallFault)
-class_among m None name meta = answer (Err NoGlobals)
-class_among m (Some globals) name meta = do
-  class ← tried (class_named m globals name meta)
-  answer (or_fault NoClass class)
-
--- the class of this name, on this side
-unfoldable pub class_of_name : {H : Type 0} → ObjectMemory H → Head → List ℕ → (meta : Bool) → Step H (Result Value InstallFault)
-class_of_name m head name meta = class_among m head.globals name meta
-
 -- NAMES
 
 -- the table of globals, where there is one
@@ -35,18 +23,31 @@ abbrev pub as_table : Option Value → List Value
 as_table None = []
 as_table (Some globals) = globals ∷ []
 
--- the names that the tree's statements see, where class and symbol table have the form that an installation asks
-unfoldable pub names_seen : {H : Type 0} → ObjectMemory H → Head → Value → (meta : Bool) → MethodView → Step H NamesView
-names_seen m head class meta tree = do
-  l ← lineage m class meta
-  fields ← field_names m l.owners
-  tables ← pools m l.sharers
-  check_dictionary m class
-  check_symbols m head.symbols
-  shared ← shared_names m (tables ++ as_table head.globals) (mentioned_in tree.body)
-  answer (record { fields = fields; shared = shared; symbols = is_some head.symbols })
+module _ {H : Type 0} (m : ObjectMemory H) where
+  -- CLASS
 
-unfoldable pub names : {H : Type 0} → ObjectMemory H → Head → Value → (meta : Bool) → MethodView → Step H (Result NamesView InstallFault)
-names m head class meta tree = do
-  seen ← tried (names_seen m head class meta tree)
-  answer (or_fault Shape seen)
+  unfoldable pub class_among : Option Value → List ℕ → (meta : Bool) → Step H (Result Value InstallFault)
+  class_among None name meta = answer (Err NoGlobals)
+  class_among (Some globals) name meta = do
+    class ← tried (class_named m globals name meta)
+    answer (or_fault NoClass class)
+
+  -- the class of this name, on this side
+  unfoldable pub class_of_name : Head → List ℕ → (meta : Bool) → Step H (Result Value InstallFault)
+  class_of_name head name meta = class_among head.globals name meta
+
+  -- the names that the tree's statements see, where class and symbol table have the form that an installation asks
+  unfoldable pub names_seen : Head → Value → (meta : Bool) → MethodView → Step H NamesView
+  names_seen head class meta tree = do
+    l ← lineage m class meta
+    fields ← field_names m l.owners
+    tables ← pools m l.sharers
+    check_dictionary m class
+    check_symbols m head.symbols
+    shared ← shared_names m (tables ++ as_table head.globals) (mentioned_in tree.body)
+    answer (record { fields = fields; shared = shared; symbols = is_some head.symbols })
+
+  unfoldable pub names : Head → Value → (meta : Bool) → MethodView → Step H (Result NamesView InstallFault)
+  names head class meta tree = do
+    seen ← tried (names_seen head class meta tree)
+    answer (or_fault Shape seen)

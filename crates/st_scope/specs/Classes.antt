@@ -16,79 +16,80 @@ class_fields = 9
 abbrev pub metaclass_fields : ℕ
 metaclass_fields = 7
 
--- The first global of this name, an association. It dies where there is none, or where its value is no class.
-unfoldable pub class_association : {H : Type 0} → ObjectMemory H → Value → List ℕ → Step H Value
-class_association m globals name = do
-  found ← member_named m globals name
-  association ← or_die dead.Field found
-  class ← fetch_field m association 1
-  check_fields m class class_fields
-  answer association
-
--- the class of the instance side is the class itself, that of the class side is its metaclass
-unfoldable pub class_on_side : {H : Type 0} → ObjectMemory H → Value → (meta : Bool) → Step H Value
-class_on_side m class false = answer class
-class_on_side m class true = class_of m class
-
--- the class of a name and a side
-unfoldable pub class_named : {H : Type 0} → ObjectMemory H → Value → List ℕ → (meta : Bool) → Step H Value
-class_named m globals name meta = do
-  association ← class_association m globals name
-  class ← fetch_field m association 1
-  class_on_side m class meta
-
 -- CHAINS
 
 unfoldable pub none_if : {H : Type 0} → Bool → Step H (List Value) → Step H (List Value)
 none_if true otherwise = answer []
 none_if false otherwise = otherwise
 
--- a chain ends in nil
-unfoldable pub until_nil : {H : Type 0} → ObjectMemory H → Value → Step H (List Value) → Step H (List Value)
-until_nil m class otherwise = do
-  nil ← of_page m NilObject
-  none_if (same_value class nil) otherwise
-
--- the superclass of a class with so many fields or more
-unfoldable pub superclass : {H : Type 0} → ObjectMemory H → ℕ → Value → Step H Value
-superclass m least class = do
-  check_fields m class least
-  fetch_field m class 0
-
--- a class, and what its superclass gives
-unfoldable pub class_and : {H : Type 0} → ObjectMemory H → ℕ → Value → (Value → Step H (List Value)) → Step H (List Value)
-class_and m least class otherwise = do
-  above ← superclass m least class
-  classes ← otherwise above
-  answer (class ∷ classes)
-
--- of so many classes, and no more
-unfoldable pub chain_within : {H : Type 0} → ObjectMemory H → ℕ → ℕ → Value → Step H (List Value)
-chain_within m least zero class = until_nil m class (die dead.Chain)
-chain_within m least (suc left) class = until_nil m class (class_and m least class (chain_within m least left))
-
--- A class and its superclasses, upward. Each has so many fields or more, and the chain ends in nil within 32767 classes.
-unfoldable pub chain : {H : Type 0} → ObjectMemory H → ℕ → Value → Step H (List Value)
-chain m least class = chain_within m least 32767 class
-
 -- the classes whose instance variables a method sees, and those whose pools it sees, each from the class upward
 pub record Lineage : Type 0 where
   pub owners : List Value
   pub sharers : List Value
 
-unfoldable pub instance_lineage : {H : Type 0} → ObjectMemory H → Value → Step H Lineage
-instance_lineage m class = do
-  classes ← chain m class_fields class
-  answer (record { owners = classes; sharers = classes })
+module _ {H : Type 0} (m : ObjectMemory H) where
+  -- The first global of this name, an association. It dies where there is none, or where its value is no class.
+  unfoldable pub class_association : Value → List ℕ → Step H Value
+  class_association globals name = do
+    found ← member_named m globals name
+    association ← or_die dead.Field found
+    class ← fetch_field m association 1
+    check_fields m class class_fields
+    answer association
 
--- the pools that a method of a metaclass sees are those of its one instance
-unfoldable pub metaclass_lineage : {H : Type 0} → ObjectMemory H → Value → Step H Lineage
-metaclass_lineage m class = do
-  metaclasses ← chain m metaclass_fields class
-  instance ← fetch_field m class 6
-  classes ← chain m class_fields instance
-  answer (record { owners = metaclasses; sharers = classes })
+  -- the class of the instance side is the class itself, that of the class side is its metaclass
+  unfoldable pub class_on_side : Value → (meta : Bool) → Step H Value
+  class_on_side class false = answer class
+  class_on_side class true = class_of m class
 
-unfoldable pub lineage : {H : Type 0} → ObjectMemory H → Value → (meta : Bool) → Step H Lineage
-lineage m class false = instance_lineage m class
-lineage m class true = metaclass_lineage m class
+  -- the class of a name and a side
+  unfoldable pub class_named : Value → List ℕ → (meta : Bool) → Step H Value
+  class_named globals name meta = do
+    association ← class_association globals name
+    class ← fetch_field m association 1
+    class_on_side class meta
+
+  -- a chain ends in nil
+  unfoldable pub until_nil : Value → Step H (List Value) → Step H (List Value)
+  until_nil class otherwise = do
+    nil ← of_page m NilObject
+    none_if (same_value class nil) otherwise
+
+  -- the superclass of a class with so many fields or more
+  unfoldable pub superclass : ℕ → Value → Step H Value
+  superclass least class = do
+    check_fields m class least
+    fetch_field m class 0
+
+  -- a class, and what its superclass gives
+  unfoldable pub class_and : ℕ → Value → (Value → Step H (List Value)) → Step H (List Value)
+  class_and least class otherwise = do
+    above ← superclass least class
+    classes ← otherwise above
+    answer (class ∷ classes)
+
+  -- of so many classes, and no more
+  unfoldable pub chain_within : ℕ → ℕ → Value → Step H (List Value)
+  chain_within least zero class = until_nil class (die dead.Chain)
+  chain_within least (suc left) class = until_nil class (class_and least class (chain_within least left))
+
+  -- A class and its superclasses, upward. Each has so many fields or more, and the chain ends in nil within 32767 classes.
+  unfoldable pub chain : ℕ → Value → Step H (List Value)
+  chain least class = chain_within least 32767 class
+
+  unfoldable pub instance_lineage : Value → Step H Lineage
+  instance_lineage class = do
+    classes ← chain class_fields class
+    answer (record { owners = classes; sharers = classes })
+
+  -- the pools that a method of a metaclass sees are those of its one instance
+  unfoldable pub metaclass_lineage : Value → Step H Lineage
+  metaclass_lineage class = do
+    metaclasses ← chain metaclass_fields class
+    instance ← fetch_field m class 6
+    classes ← chain class_fields instance
+    answer (record { owners = metaclasses; sharers = classes })
+
+  unfoldable pub lineage : Value → (meta : Bool) → Step H Lineage
+  lineage class false = instance_lineage class
+  lineage class true = metaclass_lineage class

@@ -10,25 +10,26 @@ use Rattle.st_scope.specs.Tables.{check_fields}
 abbrev pub is_power_of_two : ℕ → Bool
 is_power_of_two n = nat_lt 0 n && (bit_and n (n - 1) == 0)
 
--- The tally is a SmallInteger, the number of places a power of two, and there is a method for each place.
-unfoldable pub check_dictionary : {H : Type 0} → ObjectMemory H → Value → Step H Unit
-check_dictionary m class = do
-  dictionary ← fetch_field m class 1
-  n ← count_fields m dictionary
-  check dead.Places (is_power_of_two (n - 2))
-  tally ← fetch_field m dictionary 0
-  bits ← bits_or_die tally
-  methods ← fetch_field m dictionary 1
-  check_fields m methods (n - 2)
+module _ {H : Type 0} (m : ObjectMemory H) where
+  -- The tally is a SmallInteger, the number of places a power of two, and there is a method for each place.
+  unfoldable pub check_dictionary : Value → Step H Unit
+  check_dictionary class = do
+    dictionary ← fetch_field m class 1
+    n ← count_fields m dictionary
+    check dead.Places (is_power_of_two (n - 2))
+    tally ← fetch_field m dictionary 0
+    bits ← bits_or_die tally
+    methods ← fetch_field m dictionary 1
+    check_fields m methods (n - 2)
 
--- an association, whose value is of kind Pointers
-unfoldable pub check_symbol_table : {H : Type 0} → ObjectMemory H → Value → Step H Unit
-check_symbol_table m association = do
-  check_fields m association 2
-  table ← fetch_field m association 1
-  check_fields m table 0
+  -- an association, whose value is of kind Pointers
+  unfoldable pub check_symbol_table : Value → Step H Unit
+  check_symbol_table association = do
+    check_fields m association 2
+    table ← fetch_field m association 1
+    check_fields m table 0
 
--- the symbol table, if the image names one
-unfoldable pub check_symbols : {H : Type 0} → ObjectMemory H → Option Value → Step H Unit
-check_symbols m None = answer tt
-check_symbols m (Some association) = check_symbol_table m association
+  -- the symbol table, if the image names one
+  unfoldable pub check_symbols : Option Value → Step H Unit
+  check_symbols None = answer tt
+  check_symbols (Some association) = check_symbol_table association

@@ -8,59 +8,60 @@ use Rattle.st_model.specs.Objects.{is_bytes}
 use Rattle.st_model.specs.Machine.{ObjectMemory, Step, answer, tried, ◌>>=◌, ◌>>◌}
 use Rattle.st_model.specs.Steps.{object, check, fetch_field, count_fields}
 
--- an object of kind Pointers with so many fields or more
-unfoldable pub check_fields : {H : Type 0} → ObjectMemory H → Value → ℕ → Step H Unit
-check_fields m v least = do
-  n ← count_fields m v
-  check dead.Field (nat_le least n)
-
--- the bytes of an object of kind Bytes
-unfoldable pub bytes_of : {H : Type 0} → ObjectMemory H → Value → Step H (List ℕ)
-bytes_of m v = do
-  o ← object m v
-  check dead.Kind (is_bytes o.kind)
-  answer o.units
-
-unfoldable pub member_key : {H : Type 0} → ObjectMemory H → Value → Step H Value
-member_key m v = do
-  check_fields m v 2
-  fetch_field m v 0
-
--- the name of a member
-unfoldable pub member_name : {H : Type 0} → ObjectMemory H → Value → Step H (List ℕ)
-member_name m v = do
-  key ← member_key m v
-  bytes_of m key
-
 abbrev pub is_text : List ℕ → Option (List ℕ) → Bool
 is_text text None = false
 is_text text (Some name) = bytes_eq name text
-
--- it is a member, of this name
-unfoldable pub has_name : {H : Type 0} → ObjectMemory H → Value → List ℕ → Step H Bool
-has_name m v text = do
-  name ← tried (member_name m v)
-  answer (is_text text name)
 
 -- this value where the test holds, and else what comes otherwise
 unfoldable pub found_or : {H : Type 0} → Bool → Value → Step H (Option Value) → Step H (Option Value)
 found_or true v otherwise = answer (Some v)
 found_or false v otherwise = otherwise
 
--- the first of so many fields from one on for which a test holds
-unfoldable pub first_from : {H : Type 0} → ObjectMemory H → Value → (Value → Step H Bool) → ℕ → ℕ → Step H (Option Value)
-first_from m o test i zero = answer None
-first_from m o test i (suc left) = do
-  v ← fetch_field m o i
-  holds ← test v
-  found_or holds v (first_from m o test (suc i) left)
+module _ {H : Type 0} (m : ObjectMemory H) where
+  -- an object of kind Pointers with so many fields or more
+  unfoldable pub check_fields : Value → ℕ → Step H Unit
+  check_fields v least = do
+    n ← count_fields m v
+    check dead.Field (nat_le least n)
 
--- of all fields of an object of kind Pointers
-unfoldable pub first_field : {H : Type 0} → ObjectMemory H → Value → (Value → Step H Bool) → Step H (Option Value)
-first_field m o test = do
-  n ← count_fields m o
-  first_from m o test 0 n
+  -- the bytes of an object of kind Bytes
+  unfoldable pub bytes_of : Value → Step H (List ℕ)
+  bytes_of v = do
+    o ← object m v
+    check dead.Kind (is_bytes o.kind)
+    answer o.units
 
--- the first member of this name
-unfoldable pub member_named : {H : Type 0} → ObjectMemory H → Value → List ℕ → Step H (Option Value)
-member_named m table text = first_field m table (λ v. has_name m v text)
+  unfoldable pub member_key : Value → Step H Value
+  member_key v = do
+    check_fields v 2
+    fetch_field m v 0
+
+  -- the name of a member
+  unfoldable pub member_name : Value → Step H (List ℕ)
+  member_name v = do
+    key ← member_key v
+    bytes_of key
+
+  -- it is a member, of this name
+  unfoldable pub has_name : Value → List ℕ → Step H Bool
+  has_name v text = do
+    name ← tried (member_name v)
+    answer (is_text text name)
+
+  -- the first of so many fields from one on for which a test holds
+  unfoldable pub first_from : Value → (Value → Step H Bool) → ℕ → ℕ → Step H (Option Value)
+  first_from o test i zero = answer None
+  first_from o test i (suc left) = do
+    v ← fetch_field m o i
+    holds ← test v
+    found_or holds v (first_from o test (suc i) left)
+
+  -- of all fields of an object of kind Pointers
+  unfoldable pub first_field : Value → (Value → Step H Bool) → Step H (Option Value)
+  first_field o test = do
+    n ← count_fields m o
+    first_from o test 0 n
+
+  -- the first member of this name
+  unfoldable pub member_named : Value → List ℕ → Step H (Option Value)
+  member_named table text = first_field table (λ v. has_name v text)

@@ -1,6 +1,6 @@
 -- What is said of what a session is asked to look at are whole lines, which acknowledge nothing.
 use Rattle.std.proofs.Common.{◌≡◌, ℕ, ◌+◌, ◌*◌, ◌/◌, ◌%◌, Bool, true, false, List, [], ◌∷◌, ◌++◌, length, refl}
-use Rattle.std.specs.Prelude.{codes, Option, Some, None, option_map, option_and_then, unwrap_or, sum_by, if◌then◌else◌}
+use Rattle.std.specs.Prelude.{codes, Option, Some, None, option_map, option_and_then, unwrap_or, sum_by}
 use Rattle.std.specs.Fmt.{decimal}
 use Rattle.std.specs.List.{flat_map, range_with_len}
 use Rattle.st_model.specs.declared.kind.Kind.{Kind}
@@ -12,20 +12,21 @@ use Rattle.st_model.specs.Text.{value_text, values_text, numbers_text, kind_text
 use Rattle.st_model.specs.View.{View, object_of}
 use Rattle.st_model.specs.BitBlt.{Form}
 use Rattle.st_chunk.specs.Asks.{Side, Ask, Object as AsksObject, Display, Classes, Methods, Source, Bytecodes, Senders, Until}
+use Rattle.st_chunk.specs.Groups.{side_text}
 use Rattle.st_browse.specs.Naming.{Named}
 use Rattle.st_browse.specs.Classes.{classes}
-use Rattle.st_browse.specs.Methods.{methods, has_method, method_named}
+use Rattle.st_browse.specs.Methods.{methods, method_named}
 use Rattle.st_browse.specs.Cutting.{codes_of}
 use Rattle.st_browse.specs.Display.{form_at, if_held, row_of, word_text, row_line, rows_text, form_text, display_reply}
-use Rattle.st_browse.specs.Replies.{count_text, object_reply, name_line, classes_text, methods_text, code_line, codes_text, bytecodes_text, side_text, sender_line, senders_lines, senders_on, senders_count, both_lines, senders_text}
+use Rattle.st_browse.specs.Replies.{count_text, object_reply, name_line, classes_text, methods_text, code_line, codes_text, bytecodes_text, sender_line, senders_lines, senders_on, senders_count, both_lines, senders_text}
 use Rattle.st_browse.specs.Sources.{lines_of, source_line, source_text}
-use Rattle.st_browse.specs.Asked.{class_of_side, bytecodes_of, bytecodes_in, source_in, reply}
+use Rattle.st_browse.specs.Asked.{class_of_side, method_of_side, code_text, source_in, reply}
 use Rattle.st_protocol.specs.Acknowledged.{counts, IsLines}
 use Rattle.st_protocol.proofs.Lawful.{lines_both}
 use Rattle.st_install.proofs.Selectors.{IsInLine, both_in_line}
 use Rattle.st_call.specs.Replies.{missing_text}
 use Rattle.st_session.specs.Browsing.{asked_text}
-use Rattle.st_session.proofs.WholeLines.{one_line, no_text, put, hexadecimal_in_line, ends, behind, decimal_in_line, value_in_line, values_in_line, numbers_in_line, numbers_lines, escaped_in_line}
+use Rattle.st_session.proofs.WholeLines.{one_line, no_text, put, hexadecimal_in_line, ends, behind, decimal_in_line, value_in_line, values_in_line, numbers_in_line, numbers_lines, escaped_in_line, side_in_line}
 
 -- LINES
 
@@ -143,15 +144,8 @@ bytecodes_lines o =
     let all = codes_of o.units in
     lines_both 0 0 (count_text (codes "bytecodes") (length all)) (codes_text (first_unit o + 1) all) (count_lines (codes "bytecodes") (length all) refl refl) (codes_lines (first_unit o + 1) all)
 
-bytecodes_if : (t : Table) (n : Named) → IsLines 0 (unwrap_or (bytecodes_of t n) missing_text)
-bytecodes_if t n = over (has_method t n.value)
-  where
-    over : (b : Bool) → IsLines 0 (unwrap_or (if b then Some (bytecodes_text (object_of t n.value)) else None) missing_text)
-    over true = bytecodes_lines (object_of t n.value)
-    over false = missing_lines
-
-bytecodes_said : (t : Table) (selector : List ℕ) (class : Value) → IsLines 0 (unwrap_or (bytecodes_in t selector class) missing_text)
-bytecodes_said t selector class = then_there (bytecodes_of t) (method_named t class selector) (bytecodes_if t)
+code_said : (v : View) (side : Side) (selector : List ℕ) → IsLines 0 (unwrap_or (option_map (code_text v.objects) (method_of_side v side selector)) missing_text)
+code_said v side selector = if_there (code_text v.objects) (method_of_side v side selector) (λ method. bytecodes_lines (object_of v.objects method))
 
 -- TEXTS
 
@@ -169,17 +163,13 @@ source_said t selector text class = then_there (λ n. option_map source_text tex
 
 -- SENDERS
 
-meta_in_line : (meta : Bool) → IsInLine (side_text meta)
-meta_in_line true = refl
-meta_in_line false = refl
-
 sender_lines : (class : List ℕ) (meta : Bool) (selector : List ℕ) → IsLines 0 (sender_line class meta selector)
 sender_lines class meta selector =
     let last = escaped selector ++ codes "\n" in
     let sided = side_text meta ++ (codes " " ++ last) in
     one_line 0 (sender_line class meta selector)
     (behind (codes "sender ") (escaped class ++ sided) refl (behind (escaped class) sided (escaped_in_line class)
-    (behind (side_text meta) (codes " " ++ last) (meta_in_line meta) (behind (codes " ") last refl (behind (escaped selector) (codes "\n") (escaped_in_line selector) ends))))) refl
+    (behind (side_text meta) (codes " " ++ last) (side_in_line meta) (behind (codes " ") last refl (behind (escaped selector) (codes "\n") (escaped_in_line selector) ends))))) refl
 
 one_side : (t : Table) (selector : List ℕ) (class : Named) (meta : Bool) → IsLines 0 (senders_lines t selector class meta)
 one_side t selector class meta = all_lines (λ n. sender_line class.name meta n.name) (senders_on t selector class meta) (λ n. sender_lines class.name meta n.name)
@@ -201,6 +191,6 @@ asked_lines v source (Methods side) = if_there (methods_text v.objects) (class_o
 asked_lines v source (Source side selector) =
     let text = source side selector in
     then_there (source_in v.objects selector text) (class_of_side v side) (source_said v.objects selector text)
-asked_lines v source (Bytecodes side selector) = then_there (bytecodes_in v.objects selector) (class_of_side v side) (bytecodes_said v.objects selector)
+asked_lines v source (Bytecodes side selector) = code_said v side selector
 asked_lines v source (Senders selector) = senders_said v.objects selector (classes v.objects v.head.globals)
-asked_lines v source (Until cycles side selector) = then_there (bytecodes_in v.objects selector) (class_of_side v side) (bytecodes_said v.objects selector)
+asked_lines v source (Until cycles side selector) = code_said v side selector

@@ -1,6 +1,7 @@
 -- How an export ends, from its parts: the store is opened, what it opens as is saved, its image is written, and a line is said.
 use Rattle.std.proofs.Common.{◌≡◌, ◌≢◌, ◌⊎◌, inl, inr, ℕ, ◌≤◌, List, [], ◌∷◌, ◌++◌, ◌∙◌, IsTrue, Option, refl, sym, ap, subst, arith, append-nil}
 use Rattle.std.specs.Prelude.{Some, None, Result, Ok, Err, IfErr}
+use Rattle.std.specs.Option.{option_or}
 use Rattle.st_host.specs.Files.{Files}
 use Rattle.st_host.specs.Runs.{LeavesOnly, NarrowsBut, ReadsAlike, ReadsAndSays, Changes, WritesAbove, Spares, IsAtRest}
 use Rattle.st_host.specs.Stops.{SaidPart, WhileSaying}
@@ -33,7 +34,7 @@ use Rattle.st_call.specs.LastLines.{last_line, SaysLastLine}
 use Rattle.st_session.specs.Commands.{opening_status}
 use Rattle.st_session.specs.Ends.{IsCalm, status_in}
 use Rattle.st_call.specs.Telling.{Tells}
-use Rattle.st_session.specs.Exports.{Export, ExportsImage, ExportsSaved, written, IsOfExporting, IsOfExport, LeavesOthers, HasExported, HasImage, ExportHas, Stays}
+use Rattle.st_session.specs.Exports.{Export, ExportsImage, ExportsSaved, IsOfExporting, IsOfExport, LeavesOthers, HasExported, HasImage, ExportHas, Stays}
 use Rattle.st_session.specs.declared.extent.Extent.{Extent}
 use Rattle.st_session.proofs.Commanded.{cause_between, opens_still}
 
@@ -109,7 +110,7 @@ module _ {D : Type 0} (host : Ghosts D) (name : List ℕ) where
   told_kind text mid new (Err e) tells = subst IsOfExporting (sym tells.fault) tt
 
   -- the file has been written, and the text is said
-  pub has_told : (exports : Export → Type 0) (x : Export) (old mid new : D) (result : Result Unit Status) → exports x → IsTrue host.is_told → host.files mid name ≡ written x.image (host.files old name) → host.said mid ≡ host.said old
+  pub has_told : (exports : Export → Type 0) (x : Export) (old mid new : D) (result : Result Unit Status) → exports x → IsTrue host.is_told → host.files mid name ≡ option_or x.image (host.files old name) → host.said mid ≡ host.said old
       → Tells host x.text mid new result → HasExported host name exports old new result
   has_told exports x old mid new (Ok u) is told file quiet tells = record {
     export = x;
@@ -201,7 +202,7 @@ module _ {D : Type 0} (host : Ghosts D) (store image : List ℕ) where
     whole = λ calm told. line.whole (λ rose. calm (rose_second (host.say_faults old) (host.say_faults closed) (host.say_faults new) low rose)) told ∙ ap (λ (t : List ℕ). t ++ last_line e) quiet;
   }
 
-  has_image : (i : Option (List ℕ)) (old mid new : D) → host.files new image ≡ written i (host.files mid image) → (IsNoFileOf store image → host.files mid image ≡ host.files old image) → HasImage host store image i old new
+  has_image : (i : Option (List ℕ)) (old mid new : D) → host.files new image ≡ option_or i (host.files mid image) → (IsNoFileOf store image → host.files mid image ≡ host.files old image) → HasImage host store image i old new
   has_image None old mid new is same = λ apart. is ∙ same apart
   has_image (Some bytes) old mid new is same = is
 

@@ -4,6 +4,7 @@ use Rattle.std.specs.Prelude.{codes, decimal, slice_index}
 use Rattle.std.proofs.lemmas.List.{append_cancel_left}
 use Rattle.st_host.specs.Stops.{SaidPart}
 use Rattle.st_model.specs.declared.fault.ImageFault.{ImageFault}
+use Rattle.st_model.specs.Faults.{row}
 use Rattle.st_model.specs.Text.{numbers_text}
 use Rattle.st_store.specs.declared.fault.StoreFault.{StoreFault}
 use Rattle.st_store.specs.declared.fault.StoreFault.TheVariants as store
@@ -37,7 +38,7 @@ quiet : (b d : ℕ) (rest : List ℕ) → ((w : List ℕ) → counts (b ∷ d �
 quiet b d rest none inside l = (one_line 0 (b ∷ d ∷ rest) l (quiet_word b d rest l.word none inside l.is)).count
 
 fault_quiet : (f : ImageFault) → acknowledged (fault_line f) ≡ 0
-fault_quiet f = quiet 105 109 _ (λ w. refl) (λ e. omega (arith, e)) (numbers_line (codes "image") (fault_numbers f) refl)
+fault_quiet f = quiet 105 109 _ (λ w. refl) (λ e. omega (arith, e)) (numbers_line (codes "image") (row f ∷ fault_numbers f) refl)
 
 script_quiet : (n : ℕ) → acknowledged (script_line n) ≡ 0
 script_quiet n = ap acknowledged (sym (word_line (codes "script") n)) ∙ quiet 115 99 _ (λ w. refl) (λ e. omega (arith, e)) (numbers_line (codes "script") (n ∷ []) refl)

@@ -2,6 +2,7 @@
 use Rattle.std.proofs.Common.{◌≡◌, ℕ, Bool, true, false, true≢false, List, [], ◌∷◌, refl, sym, ap, ◌∙◌}
 use Rattle.std.specs.Prelude.{◌&&◌, bytes_eq, Option, Some, None, MatchOption, Result, Ok, Err, if◌then◌else◌}
 use Rattle.std.specs.Bool.{beq}
+use Rattle.std.specs.Option.{option_or}
 use Rattle.std.specs.Cmp.{booleans_Decides}
 use Rattle.std.specs.Cmp.Lexicographic.{bytes_decides}
 use Rattle.std.proofs.lemmas.Bool.{and_parts, and_from}
@@ -16,25 +17,25 @@ use Rattle.st_browse.specs.Decompiling.{IsKeptOrMade, IsShown}
 use Rattle.st_session.specs.Decompiled.{made_text}
 use Rattle.st_session.proofs.Written.{made_is}
 use Rattle.st_grammar.specs.Syntax.{syntax}
-use Rattle.st_session.specs.Sources.{selector_of, is_named, is_of, or_earlier, last_text, kept_text, or_made, shown_text, text_for}
+use Rattle.st_session.specs.Sources.{is_named, is_of, last_text, shown_text, text_for}
 use Rattle.st_changes.proofs.KeptLast.{all_cons}
 use Rattle.st_changes.proofs.Lasts.{none_of}
 
 -- THE SELECTOR
 
-by_tree : (selector text : List ℕ) (r : Result MethodView Fault) → syntax text ≡ r → is_named selector (selector_of r) ≡ true → HasSelector text selector
+by_tree : (selector text : List ℕ) (r : Result MethodView Fault) → syntax text ≡ r → is_named selector r ≡ true → HasSelector text selector
 by_tree selector text (Ok tree) means e = record { tree = tree; means = means; is = (bytes_decides tree.selector selector).0 e }
 by_tree selector text (Err f) first e = cc
 
-named : (selector text : List ℕ) → HasSelector text selector → is_named selector (selector_of (syntax text)) ≡ true
+named : (selector text : List ℕ) → HasSelector text selector → is_named selector (syntax text) ≡ true
 named selector text h =
-    ap (λ (r : Result MethodView Fault). is_named selector (selector_of r)) h.means ∙ (bytes_decides h.tree.selector selector).1 h.is
+    ap (λ (r : Result MethodView Fault). is_named selector r) h.means ∙ (bytes_decides h.tree.selector selector).1 h.is
 
 -- ONE DEFINITION
 
 module _ (side : Side) (selector : List ℕ) (d : Definition) where
   test : Bool
-  test = is_named selector (selector_of (syntax d.text))
+  test = is_named selector (syntax d.text)
 
   meets : is_of side selector d ≡ true → IsOf side.class side.meta selector d
   unfolding test
@@ -60,16 +61,16 @@ module _ (side : Side) (selector : List ℕ) where
   abbrev IsText : List Definition → Option (List ℕ) → Type 0
   IsText ds o = MatchOption o (IsNowhere ds side.class side.meta selector) (IsLastText ds side.class side.meta selector)
 
-  with_one : (d : Definition) (ds : List Definition) (o : Option (List ℕ)) (t : Bool) → is_of side selector d ≡ t → IsText ds o → IsText (d ∷ ds) (or_earlier o (if t then Some d.text else None))
+  with_one : (d : Definition) (ds : List Definition) (o : Option (List ℕ)) (t : Bool) → is_of side selector d ≡ t → IsText ds o → IsText (d ∷ ds) (option_or o (if t then Some d.text else None))
   with_one d ds None true e h = record { before = []; last = d; behind = ds; is = refl; of = meets side selector d e; none = h; text_is = refl }
   with_one d ds None false e h = all_cons (λ x. IsOf side.class side.meta selector x → ⊥) d ds (fails side selector d e) h
   with_one d ds (Some text) t e h = record { before = d ∷ h.before; last = h.last; behind = h.behind; is = ap (λ (x : List Definition). d ∷ x) h.is; of = h.of; none = h.none; text_is = h.text_is }
 
-  last_is : (ds : List Definition) → IsText ds (last_text side selector ds)
+  last_is : (ds : List Definition) → IsText ds (last_text ds side selector)
   last_is [] = none_of (λ x. IsOf side.class side.meta selector x → ⊥)
-  last_is (d ∷ ds) = with_one d ds (last_text side selector ds) (is_of side selector d) refl (last_is ds)
+  last_is (d ∷ ds) = with_one d ds (last_text ds side selector) (is_of side selector d) refl (last_is ds)
 
-pub text_is : (ds : List Definition) (ask : Ask) → IsTextFor ds ask (text_for (kept_text ds) ask)
+pub text_is : (ds : List Definition) (ask : Ask) → IsTextFor ds ask (text_for (last_text ds) ask)
 text_is ds (Object pointer) = tt
 text_is ds Display = tt
 text_is ds Classes = tt
@@ -81,8 +82,8 @@ text_is ds (Until cycles side selector) = tt
 
 -- the text that is kept, or else one that is made of the code
 pub shown_is : (v : View) (ds : List Definition) (side : Side) (selector : List ℕ) → IsShown v ds side selector (shown_text v ds side selector)
-shown_is v ds side selector = record { kept = last_text side selector ds; is_kept = last_is side selector ds; is_shown = by (last_text side selector ds) }
+shown_is v ds side selector = record { kept = last_text ds side selector; is_kept = last_is side selector ds; is_shown = by (last_text ds side selector) }
   where
-    by : (kept : Option (List ℕ)) → IsKeptOrMade v side selector kept (or_made kept (made_text v side selector))
+    by : (kept : Option (List ℕ)) → IsKeptOrMade v side selector kept (option_or kept (made_text v side selector))
     by (Some text) = refl
     by None = made_is v side selector

@@ -15,7 +15,7 @@ use Rattle.st_model.specs.Machine.{State, Registers, Devices, World}
 use Rattle.st_model.specs.Table.{Table}
 use Rattle.st_model.specs.Births.{Births, object_born}
 use Rattle.st_model.specs.Text.{value_text, values_text, numbers_text, registers_text, input_text, held_text, dead_text, hexadecimal, escaped_byte, escaped, said_text, said_value}
-use Rattle.st_chunk.specs.Groups.{is_name}
+use Rattle.st_chunk.specs.Groups.{is_name, side_text}
 use Rattle.st_chunk.specs.Definitions.{Definition}
 use Rattle.st_protocol.specs.declared.refusal.Refusal.{Refusal}
 use Rattle.st_protocol.specs.declared.refusal.Refusal.TheVariants as refusal
@@ -23,7 +23,7 @@ use Rattle.st_protocol.specs.Acknowledged.{counts, acknowledged_from, rest_from,
 use Rattle.st_protocol.proofs.Lawful.{lines_both}
 use Rattle.st_install.proofs.Selectors.{IsInLine, both_in_line, all_passing}
 use Rattle.st_recover.specs.Replays.{Loss}
-use Rattle.st_call.specs.Replies.{machine_text, side_text, accepted_text, why_text, refused_text, snapshot_text}
+use Rattle.st_call.specs.Replies.{machine_text, accepted_text, why_text, refused_text, snapshot_text}
 use Rattle.st_session.specs.FirstLines.{lost_text, opened_text, opening_text}
 use Rattle.st_chunk.proofs.WholeLines.{no_feed}
 
@@ -186,7 +186,7 @@ said_value_lines h (Ref n) = said_lines (object_born h n)
 class_in_line : (class : List ℕ) → is_name class ≡ true → IsInLine class
 class_in_line class e = all_passing is_ascii_alphanumeric refl class (and_parts _ _ e).1
 
-side_in_line : (meta : Bool) → IsInLine (side_text meta)
+pub side_in_line : (meta : Bool) → IsInLine (side_text meta)
 side_in_line true = refl
 side_in_line false = refl
 

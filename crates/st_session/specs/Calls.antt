@@ -22,13 +22,8 @@ use Rattle.st_call.specs.Words.{Command, command_of, Once, Import, Export, Clean
 abbrev pub OnlySays : Option Command → Type 0
 OnlySays None = ⊤
 OnlySays (Some (Once image cycles)) = ⊤
-OnlySays (Some (Import image store over)) = ⊥
-OnlySays (Some (Export store image)) = ⊥
-OnlySays (Some (Clean store image)) = ⊥
-OnlySays (Some (Condense store)) = ⊥
-OnlySays (Some (Session store)) = ⊥
-OnlySays (Some (Build kernel store)) = ⊥
 OnlySays (Some (Drill number)) = ⊤
+OnlySays (Some command) = ⊥
 
 -- A call of the program with these words, over the bytes of a script, of which the source still has `left`. `read` says that it
 -- tells these, and `reads` that it had a fault.

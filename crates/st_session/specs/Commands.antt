@@ -16,7 +16,7 @@ use Rattle.st_session.specs.Reports.{run_text}
 use Rattle.st_call.specs.LastLines.{SaysLastLine}
 use Rattle.st_call.specs.Refusals.{store_status}
 use Rattle.st_protocol.specs.declared.status.Status.{Status}
-use Rattle.st_protocol.specs.declared.status.Status.TheVariants.{Done, Usage, Image, Script, ReadFault, SayFault, DiskFault, Store, Kernel, TooLarge, OutOfMemory}
+use Rattle.st_protocol.specs.declared.status.Status.TheVariants.{Done, Image, SayFault, DiskFault, TooLarge, OutOfMemory}
 
 -- the status after a store wasn't opened
 abbrev pub opening_status : OpenFault → Status
@@ -42,20 +42,16 @@ module _ {D : Type 0} (host : Ghosts D) where
   abbrev pub OnceEnds : List ℕ → ℕ → D → D → Status → Type 0
   OnceEnds bytes n old new Done = IsTrue host.is_told
       → (text : List ℕ) × IsReadable bytes × IsReport bytes n text × (host.said new ≡ host.said old ++ text)
-  OnceEnds bytes n old new Usage = ⊥
   OnceEnds bytes n old new (Image f) =
       (IsTrue host.is_told → IsFaulty bytes f) × SaysLastLine host (Image f) old new
-  OnceEnds bytes n old new (Script line) = ⊥
-  OnceEnds bytes n old new ReadFault = ⊥
   OnceEnds bytes n old new SayFault = IsTrue host.is_told
       → (text : List ℕ) × IsReadable bytes × IsReport bytes n text
       × SaidPart (host.said old) text (host.said new)
   OnceEnds bytes n old new DiskFault = SaysLastLine host DiskFault old new
-  OnceEnds bytes n old new (Store f) = ⊥
-  OnceEnds bytes n old new (Kernel chunk cause) = ⊥
   OnceEnds bytes n old new TooLarge =
       (IsTrue host.is_told → longest_image < length bytes) × SaysLastLine host TooLarge old new
   OnceEnds bytes n old new OutOfMemory = SaysLastLine host OutOfMemory old new
+  OnceEnds bytes n old new _ = ⊥
 
   -- A run of calls that leaves the files of these names alone: a stop may leave of each just what it could leave before, and
   -- where no disk fault was counted each reads as before.

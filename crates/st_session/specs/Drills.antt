@@ -13,7 +13,7 @@ use Rattle.st_model.specs.Contexts.{fetch_scheduled_registers}
 use Rattle.st_model.specs.Start.{idle_registers}
 use Rattle.st_model.specs.Text.{used_text}
 use Rattle.st_protocol.specs.declared.status.Status.{Status}
-use Rattle.st_protocol.specs.declared.status.Status.TheVariants.{Done, Usage, Image, Script, ReadFault, SayFault, DiskFault, Store, Kernel, TooLarge, OutOfMemory}
+use Rattle.st_protocol.specs.declared.status.Status.TheVariants.{Done, SayFault, Kernel, OutOfMemory}
 use Rattle.st_kernel.specs.declared.fault.KernelFault.{KernelFault}
 use Rattle.st_kernel.specs.declared.fault.KernelFault.TheVariants as kernel
 use Rattle.st_kernel.specs.Drills.{drill_text}
@@ -57,16 +57,10 @@ module _ {D : Type 0} (host : Ghosts D) where
   -- what is so in each status that a drill can have
   abbrev pub DrillHas : ℕ → D → D → Status → Type 0
   DrillHas n old new Done = (text : List ℕ) × IsDrill n text × SaysAll host text old new
-  DrillHas n old new Usage = ⊥
-  DrillHas n old new (Image f) = ⊥
-  DrillHas n old new (Script line) = ⊥
-  DrillHas n old new ReadFault = ⊥
   DrillHas n old new SayFault = (text : List ℕ) × IsDrill n text × (IsTrue host.is_told → SaidPart (host.said old) text (host.said new))
-  DrillHas n old new DiskFault = ⊥
-  DrillHas n old new (Store f) = ⊥
   DrillHas n old new (Kernel chunk cause) = IsWrongAt (drill_text n) (record { chunk = chunk; cause = cause }) × SaysLastLine host (Kernel chunk cause) old new
-  DrillHas n old new TooLarge = ⊥
   DrillHas n old new OutOfMemory = SaysLastLine host OutOfMemory old new
+  DrillHas n old new _ = ⊥
 
   -- How the command drill ends.
   pub record DrillEnds (n : ℕ) (old new : D) (status : Status) : Type 0 where

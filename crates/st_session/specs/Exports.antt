@@ -1,5 +1,6 @@
 -- How an image of what a store holds is exported: of all objects, or of those that can be reached.
 use Rattle.std.specs.Prelude.{◌≡◌, ◌≢◌, ◌⊎◌, ℕ, List, ◌++◌, length, Option, Some, None, IsTrue, Result, Ok, Err, ⊤}
+use Rattle.std.specs.Option.{option_or}
 use Rattle.st_host.specs.Files.{Files}
 use Rattle.st_host.specs.Runs.{LeavesOnly, Spares, IsAtRest}
 use Rattle.st_host.specs.Stops.{SaidPart}
@@ -57,11 +58,6 @@ ExportsSaved extent (Went u s) x = ExportsImage extent (show s).memory (show s).
 abbrev pub ExportsState : Extent → State Births → Export → Type 0
 ExportsState extent s x = ExportsSaved extent (save births s) x
 
--- a file once this was written, if any
-abbrev pub written : Option (List ℕ) → Option (List ℕ) → Option (List ℕ)
-written (Some image) file = Some image
-written None file = file
-
 -- the statuses in which an export can end that was begun, on any host
 abbrev pub IsOfExporting : Status → Type 0
 IsOfExporting SayFault = ⊤
@@ -81,7 +77,7 @@ module _ {D : Type 0} (host : Ghosts D) where
   pub record IsWritten (exports : Export → Type 0) (says : List ℕ → Type 0) (name : List ℕ) (old new : D) : Type 0 where
     pub export : Export
     pub is : exports export
-    pub file : host.files new name ≡ written export.image (host.files old name)
+    pub file : host.files new name ≡ option_or export.image (host.files old name)
     pub said : says export.text
 
   -- all of a text was said

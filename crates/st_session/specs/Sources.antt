@@ -1,6 +1,7 @@
 -- The text that a session shows of a method: that of its last definition among those that are kept, or else one that is made of its code.
 use Rattle.std.specs.Prelude.{ℕ, Bool, false, ◌&&◌, bytes_eq, List, [], ◌∷◌, Option, Some, None, Result, Ok, Err, if◌then◌else◌}
 use Rattle.std.specs.Bool.{beq}
+use Rattle.std.specs.Option.{option_or}
 use Rattle.st_model.specs.View.{View}
 use Rattle.st_scan.specs.declared.fault.Fault.{Fault}
 use Rattle.st_scan.specs.Views.{MethodView}
@@ -9,40 +10,23 @@ use Rattle.st_chunk.specs.Asks.{Side, Ask, Source}
 use Rattle.st_grammar.specs.Syntax.{syntax}
 use Rattle.st_session.specs.Decompiled.{made_text}
 
--- the selector of a method's tree, if there is one
-abbrev pub selector_of : Result MethodView Fault → Option (List ℕ)
-selector_of (Ok tree) = Some tree.selector
-selector_of (Err fault) = None
-
-abbrev pub is_named : List ℕ → Option (List ℕ) → Bool
-is_named selector None = false
-is_named selector (Some name) = bytes_eq name selector
+-- a text means a tree of this selector
+abbrev pub is_named : List ℕ → Result MethodView Fault → Bool
+is_named selector (Ok tree) = bytes_eq tree.selector selector
+is_named selector (Err fault) = false
 
 -- a definition of this class, this side of it and this selector
 abbrev pub is_of : Side → List ℕ → Definition → Bool
-is_of side selector d = bytes_eq d.class side.class && (beq d.meta side.meta && is_named selector (selector_of (syntax d.text)))
-
--- a later text takes the place of an earlier one
-abbrev pub or_earlier : Option (List ℕ) → Option (List ℕ) → Option (List ℕ)
-or_earlier None earlier = earlier
-or_earlier (Some text) earlier = Some text
+is_of side selector d = bytes_eq d.class side.class && (beq d.meta side.meta && is_named selector (syntax d.text))
 
 -- the text of the last of these definitions that is of this class, this side of it and this selector
-abbrev pub last_text : Side → List ℕ → List Definition → Option (List ℕ)
-last_text side selector [] = None
-last_text side selector (d ∷ ds) = or_earlier (last_text side selector ds) (if is_of side selector d then Some d.text else None)
-
--- where these definitions are kept
-abbrev pub kept_text : List Definition → Side → List ℕ → Option (List ℕ)
-kept_text ds side selector = last_text side selector ds
-
-abbrev pub or_made : (kept made : Option (List ℕ)) → Option (List ℕ)
-or_made (Some text) made = Some text
-or_made None made = made
+abbrev pub last_text : List Definition → Side → List ℕ → Option (List ℕ)
+last_text [] side selector = None
+last_text (d ∷ ds) side selector = option_or (last_text ds side selector) (if is_of side selector d then Some d.text else None)
 
 -- the text that is kept, or else one that is made
 abbrev pub shown_text : View → List Definition → Side → List ℕ → Option (List ℕ)
-shown_text v ds side selector = or_made (kept_text ds side selector) (made_text v side selector)
+shown_text v ds side selector = option_or (last_text ds side selector) (made_text v side selector)
 
 -- where a source is asked for, and such texts are shown
 abbrev pub text_for : (Side → List ℕ → Option (List ℕ)) → Ask → Option (List ℕ)

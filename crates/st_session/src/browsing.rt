@@ -1,7 +1,7 @@
 ghost use Rattle.std.specs.Prelude.{◌≡◌, None};
 ghost use Rattle.st_chunk.specs.Asks.{Source, ask_of, side_of};
 ghost use Rattle.st_session.specs.{Answers.browse_course, Browsing.{asked_text, TellsOrStarves}};
-ghost use Rattle.st_session.specs.{Sources.{kept_text, shown_text}, Keeping.in_a_store};
+ghost use Rattle.st_session.specs.{Sources.{last_text, shown_text}, Keeping.in_a_store};
 ghost use Rattle.st_session.specs.Standing.{MayGoOn, Serves};
 ghost use Rattle.st_call.specs.Telling.{Tells};
 
@@ -23,7 +23,7 @@ fn say_asked<H: Host, M: Memory>(
     changes: &Changes,
     ask: Ask<'_>,
 ) -> Result<(), Status>
-    ensures { let text = asked_text (M.view m.now) (kept_text changes.now.listed) (ask_of ask.entry) in
+    ensures { let text = asked_text (M.view m.now) (last_text changes.now.listed) (ask_of ask.entry) in
         Tells H.Host.own text host.old host.new result }
 {
     match browse_line(m, changes, ask, host) {

@@ -34,8 +34,8 @@ fn accept<H: Host, M: Memory>(
         (λ p. definition_course in_a_store installed p.being p.kept (definition_of definition.now))
         (host.new ≡ host.old) kept.old host.old result kept.new host.new }
 {
-    let called = &prepared.selector;
-    match kept.archive.accept(alloc, host, definition, called) {
+    let selector = &prepared.selector;
+    match kept.archive.accept(alloc, host, definition, selector) {
         Ok(()) => {
             let selector = carry_out(kept.machine.memory_mut(), prepared);
             let reply = Reply::Accepted {

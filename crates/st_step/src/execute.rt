@@ -1,4 +1,4 @@
-ghost use Rattle.std.specs.Prelude.{◌≤◌, ◌+◌};
+ghost use Rattle.std.specs.Prelude.{◌≤◌};
 ghost use Rattle.st_model.specs.{Outcomes.end_of, Deeds.deed_of_end, Sends.{call_of, call_if_any}};
 ghost use Rattle.st_model.specs.Executing.{execute, execute_if_any};
 ghost use Rattle.st_frames.specs.Rows.{RowLeaves, Takes, execution_changes};

@@ -1,4 +1,4 @@
-ghost use Rattle.std.specs.Prelude.{◌≤◌, ◌+◌};
+ghost use Rattle.std.specs.Prelude.{◌≤◌};
 ghost use Rattle.st_model.specs.{Values.word, Outcomes.end_of, Deeds.deed_of_end, Sends.call_of};
 ghost use Rattle.st_model.specs.{Executing.goes_on, Contexts.activate, Methods.flag_of};
 ghost use Rattle.st_step.specs.Responding.{by_flag};

@@ -1,4 +1,4 @@
-ghost use Rattle.std.specs.Prelude.{◌≡◌, ◌<◌, ◌≤◌, ◌+◌};
+ghost use Rattle.std.specs.Prelude.{◌<◌, ◌≤◌};
 ghost use Rattle.st_model.specs.{Outcomes.end_of, Deeds.deed_of_end, Executing.executed_if_any};
 ghost use Rattle.st_model.specs.Bytecodes.{short_jump_on_false};
 ghost use Rattle.st_step.specs.Jumping.{long_conditional_jump};

@@ -1,4 +1,4 @@
-ghost use Rattle.std.specs.Prelude.{◌≡◌, ◌<◌, ◌≤◌, ◌+◌, ◌==◌, ◌&&◌};
+ghost use Rattle.std.specs.Prelude.{◌≡◌, ◌<◌, ◌≤◌, ◌==◌, ◌&&◌};
 ghost use Rattle.st_model.specs.{declared.deed.Deed.TheVariants.Nothing, Outcomes.end_of, Deeds.deed_of_end};
 ghost use Rattle.st_model.specs.{Arithmetic.arithmetic, Executing.{asks, is_from}, Storage.is_storage};
 ghost use Rattle.st_model.specs.{Blocks.is_block, Processes.is_process, Input.is_input};

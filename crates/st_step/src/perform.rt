@@ -1,8 +1,9 @@
-ghost use Rattle.std.specs.Prelude.{◌≡◌, ◌<◌, ◌≤◌, ◌+◌, IfOk};
+ghost use Rattle.std.specs.Prelude.{◌<◌, ◌≤◌, ◌+◌, IfOk};
 ghost use Rattle.st_model.specs.{Values.word, Outcomes.end_of, Deeds.deed_of_end, Sends.call_of};
-ghost use Rattle.st_model.specs.Executing.{takes, execute_performed, execute_found, drop_selector, spread_array, spreading};
+ghost use Rattle.st_model.specs.Executing.{takes, execute_performed, drop_selector, spread_array, spreading};
 ghost use Rattle.st_model.specs.Calls.{itself};
-ghost use Rattle.st_step.specs.Trying.{performs, performs_selector, performs_with, end_if_any, deed_if_any, number_changes};
+ghost use Rattle.st_step.specs.Responding.{execute_sent};
+ghost use Rattle.st_step.specs.Trying.{performs_above, performs_selector, performs_fields, performs_with, end_if_any, deed_if_any, number_changes};
 ghost use Rattle.st_lookup.specs.Places.{found_word};
 ghost use Rattle.st_frames.specs.Rows.{RowReads, RowDoes, RowLeaves, Takes, send_changes, response_changes, execution_changes};
 
@@ -57,8 +58,7 @@ fn execute_found<O: Objects>(
     found: Option<Word>,
 ) -> Result<StepEnd, Dead>
     requires room { send_changes + response_changes ≤ O.room m.old }
-    ensures does { RowLeaves O.Objects.own
-        (execute_found O.names (word sent.class) (word sent.selector) sent.arguments (found_word found))
+    ensures does { RowLeaves O.Objects.own (execute_sent O.names sent found)
         end_of deed_of_end m.old r.old result m.new r.new }
     ensures takes { Takes O.Objects.own (send_changes + response_changes) m.old m.new }
 {
@@ -138,8 +138,7 @@ fn performs_above<O: Objects>(
 ) -> Result<Option<StepEnd>, Dead>
     requires few { n < 16384 }
     requires room { execution_changes ≤ O.room m.old }
-    ensures does { RowLeaves O.Objects.own
-        (performs O.names (word receiver) (word selector) n (drop_selector O.names n))
+    ensures does { RowLeaves O.Objects.own (performs_above O.names (word receiver) (word selector) n)
         end_if_any deed_if_any m.old r.old result m.new r.new }
     ensures takes { Takes O.Objects.own (number_changes execution_changes result) m.old m.new }
 {
@@ -195,7 +194,7 @@ fn performs_fields<O: Objects>(
     requires above { 7 ≤ r.old.sp }
     requires room { execution_changes ≤ O.room m.old }
     ensures does { RowLeaves O.Objects.own
-        (performs O.names (word receiver) (word selector) n (spread_array O.names (word array) n))
+        (performs_fields O.names (word receiver) (word selector) (word array) n)
         end_if_any deed_if_any m.old r.old result m.new r.new }
     ensures takes { Takes O.Objects.own (number_changes execution_changes result) m.old m.new }
 {

@@ -1,7 +1,7 @@
-ghost use Rattle.std.specs.Prelude.{◌≡◌, ◌<◌, ◌≤◌, ◌+◌};
-ghost use Rattle.st_model.specs.{Values.word, Outcomes.end_of, Deeds.deed_of_end, Decoded.IsNumbered};
-ghost use Rattle.st_model.specs.Bytecodes.{bytecode, step};
-ghost use Rattle.st_frames.specs.Rows.{RowLeaves, Takes, bytecode_changes};
+ghost use Rattle.std.specs.Prelude.{◌≤◌};
+ghost use Rattle.st_model.specs.{Outcomes.end_of, Deeds.deed_of_end, Decoded.IsNumbered};
+ghost use Rattle.st_model.specs.{Executing.executed_if_any, Bytecodes.{return_constant, bytecode, step}};
+ghost use Rattle.st_frames.specs.Rows.{RowLeaves, Takes, executed_return_changes, bytecode_changes};
 
 use crate::jump::{long_conditional_jump, short_jump_on_false};
 use crate::returns::{return_top_to_caller, return_top_to_sender, return_word};
@@ -16,10 +16,22 @@ use st_control::{
 };
 use st_frames::{Registers, next_byte};
 use st_memory::Objects;
-use st_model::{Bytecode, Dead, Deed, PageObject, StepEnd, decode};
+use st_model::{Bytecode, Constant, Dead, Deed, PageObject, StepEnd, decode};
+
+/// Returns a constant to the sender.
+#[tactic(auto, using(st_frames::proofs::Doing::rows), unfolding(st_model::specs::Bytecodes::return_constant, st_model::specs::Executing::executed_if_any))]
+fn return_constant<O: Objects>(m: &mut O, r: &mut Registers, c: Constant) -> Result<StepEnd, Dead>
+    requires room { executed_return_changes ≤ O.room m.old }
+    ensures does { RowLeaves O.Objects.own (executed_if_any O.names (return_constant O.names c))
+        end_of deed_of_end m.old r.old result m.new r.new }
+    ensures takes { Takes O.Objects.own executed_return_changes m.old m.new }
+{
+    let x = constant_value(m, r, c);
+    return_word(m, r, x)
+}
 
 /// Does the row of a bytecode.
-#[tactic(auto, using(st_frames::proofs::Doing::rows), unfolding(st_model::specs::Bytecodes::bytecode, st_model::specs::Bytecodes::long_jump_on_true, st_model::specs::Bytecodes::long_jump_on_false, crate::specs::Jumping::long_conditional_jump, st_model::specs::Executing::goes_on, st_model::specs::Bytecodes::return_receiver, st_model::specs::Bytecodes::return_constant, st_model::specs::Executing::executed_if_any))]
+#[tactic(auto, using(st_frames::proofs::Doing::rows), unfolding(st_model::specs::Bytecodes::bytecode, st_model::specs::Bytecodes::long_jump_on_true, st_model::specs::Bytecodes::long_jump_on_false, crate::specs::Jumping::long_conditional_jump, st_model::specs::Executing::goes_on, st_model::specs::Bytecodes::return_receiver, st_model::specs::Executing::executed_if_any))]
 fn bytecode<O: Objects>(m: &mut O, r: &mut Registers, code: Bytecode) -> Result<StepEnd, Dead>
     requires numbered { IsNumbered code }
     requires room { bytecode_changes ≤ O.room m.old }
@@ -33,10 +45,7 @@ fn bytecode<O: Objects>(m: &mut O, r: &mut Registers, code: Bytecode) -> Result<
         Bytecode::PushReceiver => push_receiver(m, r)?,
         Bytecode::PushConstant(constant) => push_constant(m, r, constant)?,
         Bytecode::ReturnReceiver => return return_word(m, r, r.receiver),
-        Bytecode::ReturnConstant(constant) => {
-            let x = constant_value(m, r, constant);
-            return return_word(m, r, x);
-        }
+        Bytecode::ReturnConstant(constant) => return return_constant(m, r, constant),
         Bytecode::ReturnTopToSender => return return_top_to_sender(m, r),
         Bytecode::ReturnTopToCaller => return return_top_to_caller(m, r),
         Bytecode::Unused => return Err(Dead::Code),

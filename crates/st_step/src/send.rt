@@ -1,4 +1,4 @@
-ghost use Rattle.std.specs.Prelude.{◌≡◌, ◌<◌, ◌≤◌, ◌+◌};
+ghost use Rattle.std.specs.Prelude.{◌<◌, ◌≤◌};
 ghost use Rattle.st_model.specs.{Values.word, Outcomes.end_of, Deeds.deed_of_end};
 ghost use Rattle.st_model.specs.{Sends.{call_of, special_send}, Executing.executed};
 ghost use Rattle.st_model.specs.Bytecodes.{send_literal, extended_send, double_extended_send, extended_super_send, double_extended_super_send, or_send, arithmetic_by, arithmetic_send, primitive_send};

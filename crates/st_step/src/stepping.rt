@@ -6,9 +6,10 @@ ghost use Rattle.st_control.specs.Foreseen.{IsForeseen};
 ghost use Rattle.st_step.specs.Planned.{HasTop, Plans, PlansBirths, TopSaid};
 
 use crate::rows::step_row;
+use st_draft::Draft;
 use st_frames::{Frame, World, hold, load};
 use st_input::carry_out;
-use st_memory::{Draft, Memory};
+use st_memory::Memory;
 use st_model::{Dead, Deed, Demand, Outcome, StepEnd};
 
 /// What the next bytecode would take of the capacities, or the cause of which the machine would die, also over births that

@@ -18,7 +18,7 @@ use Rattle.st_model.specs.Storage.{count_literals, check_header, Replacing, repl
 use Rattle.st_model.specs.Deeds.{changed_object, changed_by, bytes_stored, bytes_replaced, bytes_from, header_stored, literal_stored, over}
 use Rattle.st_model.proofs.Leaving.{word-left, word-unleft, byte-left, byte-unleft, literal-left, died}
 use Rattle.st_frames.proofs.BytesLeft.{got, HasByte, size_with_bytes, below, read_is, has_byte, fetched, past, sized}
-use Rattle.st_memory.proofs.Keeping.{got_below}
+use Rattle.st_memory.proofs.Bodies.{got_below}
 
 module _ (m : ObjectMemory Table) (tabular : IsTabular m) where
   looks : {A : Type 0} → (Object → Step Table A) → Option Object → Step Table A

@@ -4,6 +4,7 @@ ghost use Rattle.st_model.specs.Deeds.{is_done, deed_of_trial};
 ghost use Rattle.st_storage.specs.Numbers.{takes_arguments};
 ghost use Rattle.st_frames.specs.Rows.{RowLeaves, Takes, storage_changes};
 
+use crate::compiled_methods::{primitive_new_method, primitive_object_at, primitive_object_at_put};
 use crate::copying::primitive_copy_bits;
 use crate::fetching::{primitive_at, primitive_instance_variable_at, primitive_size};
 use crate::finding::{
@@ -11,7 +12,6 @@ use crate::finding::{
     primitive_some_instance,
 };
 use crate::making::{primitive_new, primitive_new_with};
-use crate::methods::{primitive_new_method, primitive_object_at, primitive_object_at_put};
 use crate::putting::{
     primitive_at_put, primitive_instance_variable_at_put, primitive_string_at_put,
 };

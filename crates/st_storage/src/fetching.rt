@@ -1,28 +1,32 @@
 ghost use Rattle.std.specs.Prelude.{◌≡◌, ◌<◌, ◌≤◌, ◌+◌, true, false, IfOk};
 ghost use Rattle.st_model.specs.Values.{word};
-ghost use Rattle.st_model.specs.Storage.{element_by, fetch_element, primitive_at, primitive_size, primitive_instance_variable_at};
+ghost use Rattle.st_model.specs.Storage.{fetch_element, primitive_at, primitive_size, primitive_instance_variable_at};
 ghost use Rattle.st_model.specs.Deeds.{is_done, deed_of_trial, copies_pixels};
 ghost use Rattle.st_frames.specs.Answering.{succeed_by, answer_word, answer_deed};
 ghost use Rattle.st_frames.specs.Rows.{RowLeaves, Takes};
 
 use crate::elements::{count_elements, place_at, place_behind_fixed};
 use crate::large::answer_integer;
-use crate::shapes::{Indexed, Placed};
+use crate::shapes::Indexed;
 use st_frames::{Answer, Registers, number, small, succeed_leaving, top, under};
 use st_memory::Objects;
 use st_model::{Dead, Deed, Kind, Tried, Word};
 
 /// The element at a place: a field, or the number of a word or byte.
 #[tactic(auto, using(st_frames::proofs::Doing::rows), unfolding(st_model::specs::Storage::fetch_element, st_model::specs::Storage::element_by, st_model::specs::Storage::word_number, st_model::specs::Storage::byte_number))]
-pub fn fetch_element<O: Objects>(m: &mut O, r: &Registers, x: Placed) -> Result<Answer, Dead>
+pub fn fetch_element<O: Objects>(
+    m: &mut O,
+    r: &Registers,
+    object: Word,
+    place: u32,
+) -> Result<Answer, Dead>
     requires room { 1 ≤ O.room m.old }
-    ensures does { RowLeaves O.Objects.own (fetch_element O.names (word x.object) x.place)
+    ensures does { RowLeaves O.Objects.own (fetch_element O.names (word object) place)
         answer_word answer_deed m.old r.now result m.new r.now }
     ensures takes { Takes O.Objects.own 1 m.old m.new }
     ensures plain { IfOk result (λ a. copies_pixels a.deed ≡ false) }
 {
     let deed = Deed::Nothing;
-    let Placed { object, place } = x;
     match m.fetch_kind(object)? {
         Kind::Pointers => {
             let word = m.fetch_field(object, place)?;
@@ -55,7 +59,7 @@ fn answer_element<O: Objects>(
     ensures done { IfOk result (λ t. is_done t ≡ true) }
     ensures takes { Takes O.Objects.own 2 m.old m.new }
 {
-    let answer = fetch_element(m, r, Placed { object, place })?;
+    let answer = fetch_element(m, r, object, place)?;
     succeed_leaving(m, r, 1, answer)
 }
 

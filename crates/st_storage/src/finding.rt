@@ -1,7 +1,7 @@
 ghost use Rattle.std.specs.Prelude.{◌≡◌, ◌<◌, ◌≤◌, ◌+◌, ◌^◌, IfOk};
 ghost use Rattle.st_model.specs.Values.{word};
 ghost use Rattle.st_model.specs.Calls.{itself};
-ghost use Rattle.st_model.specs.Storage.{check_object, check_objects, exchange_and_answer, primitive_become, half_pointer, primitive_as_oop, kept_object_at, primitive_as_object, first_kept_instance, primitive_some_instance, instance_after, primitive_next_instance};
+ghost use Rattle.st_model.specs.Storage.{check_objects, exchange_and_answer, primitive_become, half_pointer, primitive_as_oop, kept_object_at, primitive_as_object, first_kept_instance, primitive_some_instance, instance_after, primitive_next_instance};
 ghost use Rattle.st_frames.specs.Answering.{succeed_by};
 ghost use Rattle.st_model.specs.Deeds.{is_done, deed_of_trial};
 ghost use Rattle.st_frames.specs.Rows.{RowReads, RowLeaves, Takes};
@@ -11,23 +11,15 @@ use st_frames::{Registers, bits_or_die, succeed_with, top, under};
 use st_memory::Objects;
 use st_model::{Dead, Tried, Word};
 
-/// An object, and no SmallInteger.
-#[tactic(auto, using(st_frames::proofs::Doing::rows), unfolding(st_model::specs::Storage::check_object))]
-fn check_object<O: Objects>(m: &O, r: &Registers, v: Word) -> Result<(), Dead>
-    ensures does { RowReads O.Objects.own (check_object O.names (word v)) itself m.now r.now result }
-{
-    m.fetch_kind(v)?;
-    Ok(())
-}
-
-/// Two objects.
-#[tactic(auto, using(st_frames::proofs::Doing::rows), unfolding(st_model::specs::Storage::check_objects))]
+/// Two objects, of which none is a SmallInteger.
+#[tactic(auto, using(st_frames::proofs::Doing::rows), unfolding(st_model::specs::Storage::check_objects, st_model::specs::Storage::check_object))]
 fn check_objects<O: Objects>(m: &O, r: &Registers, v: Word, w: Word) -> Result<(), Dead>
     ensures does { RowReads O.Objects.own (check_objects O.names (word v) (word w))
         itself m.now r.now result }
 {
-    check_object(m, r, v)?;
-    check_object(m, r, w)
+    m.fetch_kind(v)?;
+    m.fetch_kind(w)?;
+    Ok(())
 }
 
 /// Exchanges what two words name, and answers the first.
@@ -65,12 +57,12 @@ pub fn primitive_become<O: Objects>(m: &mut O, r: &mut Registers) -> Result<Trie
 }
 
 /// Half of the pointer of an object.
-#[tactic(auto, using(st_frames::proofs::Doing::rows), unfolding(st_model::specs::Storage::half_pointer))]
+#[tactic(auto, using(st_frames::proofs::Doing::rows), unfolding(st_model::specs::Storage::half_pointer, st_model::specs::Storage::check_object))]
 fn half_pointer<O: Objects>(m: &O, r: &Registers, v: Word) -> Result<u32, Dead>
     ensures does { RowReads O.Objects.own (half_pointer O.names (word v)) itself m.now r.now result }
     ensures half { IfOk result (λ n. n < 2 ^ 31) }
 {
-    check_object(m, r, v)?;
+    m.fetch_kind(v)?;
     Ok(m.half_word(v))
 }
 

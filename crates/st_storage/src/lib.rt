@@ -2,6 +2,7 @@
 //! does is a definition of `st_model/specs/Storage.antt`, of the same name; that of 96 is in `BitBlt.antt`.
 #![tactic(auto)]
 
+mod compiled_methods;
 mod copying;
 mod dispatch;
 mod elements;
@@ -9,7 +10,6 @@ mod fetching;
 mod finding;
 mod large;
 mod making;
-mod methods;
 mod numbers;
 mod putting;
 mod replacing;

@@ -1,7 +1,7 @@
 ghost use Rattle.std.specs.Prelude.{◌≡◌, ◌<◌, ◌^◌, IfOk};
 ghost use Rattle.st_model.specs.Values.{Small, word};
 ghost use Rattle.st_model.specs.Calls.{itself};
-ghost use Rattle.st_model.specs.Primitives.{byte_or_die, has_pointers, has_words, is_indexable, fixed_count, specification, fixed_of_class, fixed_fields};
+ghost use Rattle.st_model.specs.Primitives.{byte_or_die, has_pointers, has_words, is_indexable, fixed_count, specification, fixed_fields};
 ghost use Rattle.st_frames.specs.Rows.{RowReads};
 
 use st_frames::{Registers, bits_or_die};
@@ -59,25 +59,16 @@ pub fn specification<O: Objects>(m: &O, r: &Registers, class: Word) -> Result<u3
     bits_or_die(m, r, x)
 }
 
-/// How many fixed fields the class of an object gives it.
-#[tactic(auto, using(st_frames::proofs::Doing::rows), unfolding(st_model::specs::Primitives::fixed_of_class))]
-fn fixed_of_class<O: Objects>(m: &O, r: &Registers, v: Word) -> Result<u32, Dead>
-    ensures does { RowReads O.Objects.own (fixed_of_class O.names (word v)) itself m.now r.now result }
-    ensures few { IfOk result (λ n. n < 2048) }
-{
-    let class = m.fetch_class(v)?;
-    let s = specification(m, r, class)?;
-    Ok(fixed_count(s))
-}
-
-/// How many fixed fields an object has.
-#[tactic(auto, using(st_frames::proofs::Doing::rows), unfolding(st_model::specs::Primitives::fixed_fields, st_model::specs::Primitives::fixed_by))]
+/// How many fixed fields an object has: of kind Pointers those that its class gives it.
+#[tactic(auto, using(st_frames::proofs::Doing::rows), unfolding(st_model::specs::Primitives::fixed_fields, st_model::specs::Primitives::fixed_by, st_model::specs::Primitives::fixed_of_class))]
 pub fn fixed_fields<O: Objects>(m: &O, r: &Registers, v: Word) -> Result<u32, Dead>
     ensures does { RowReads O.Objects.own (fixed_fields O.names (word v)) itself m.now r.now result }
     ensures few { IfOk result (λ n. n < 2048) }
 {
     if m.fetch_kind(v)?.is_pointers() {
-        fixed_of_class(m, r, v)
+        let class = m.fetch_class(v)?;
+        let s = specification(m, r, class)?;
+        Ok(fixed_count(s))
     } else {
         Ok(0)
     }

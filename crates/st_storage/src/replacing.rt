@@ -1,11 +1,10 @@
 ghost use Rattle.std.specs.Prelude.{◌≡◌, ◌<◌, ◌≤◌, ◌+◌, length, IfOk, false};
 ghost use Rattle.st_model.specs.declared.kind.Kind.TheVariants.{Bytes};
 ghost use Rattle.st_model.specs.Values.{word};
-ghost use Rattle.st_model.specs.Calls.{itself};
 ghost use Rattle.st_model.specs.Storage.{checked_replacing, replacing, replace_and_answer, primitive_replace};
 ghost use Rattle.st_model.specs.Steps.{fetch_bytes};
 ghost use Rattle.st_model.specs.Deeds.{bytes_from, is_done, deed_of_trial, copies_pixels};
-ghost use Rattle.st_frames.specs.Answering.{IsOfKind, succeed_by, answer_word, answer_deed};
+ghost use Rattle.st_frames.specs.Answering.{IsOfKind, answer_word, answer_deed};
 ghost use Rattle.st_storage.specs.Storing.{replacing_in, IsFewBytes};
 ghost use Rattle.st_frames.specs.Rows.{RowReads, RowLeaves, Takes};
 

@@ -1,4 +1,6 @@
-//! What conditions find, for the effects that follow.
+//! What primitives are given (`Indexed`, `Put`), and what their conditions find of that, for the effects that follow: what is stored,
+//! and where (`Element`, `Storing`); where a stream stands, and what is put there (`Elements`, `Standing`, `Putting`); what is made
+//! (`Shape`, `MethodShape`); and which bytes are replaced (`Replacing`).
 
 ghost use Rattle.std.specs.Prelude.{◌≡◌, ◌<◌, ◌≤◌, ◌+◌, ◌%◌, ◌^◌, false};
 ghost use Rattle.st_model.specs.Objects.{is_method, place_of};
@@ -16,15 +18,6 @@ pub struct Indexed {
     pub object: Word,
     /// The index.
     pub index: Word,
-}
-
-/// An object, and the place of one of its elements.
-#[derive(Clone, Copy)]
-pub struct Placed {
-    /// The object.
-    pub object: Word,
-    /// The place, counted from 0.
-    pub place: u32,
 }
 
 /// A value, and where it is put.
@@ -73,7 +66,7 @@ pub struct Shape {
     pub ghost body: { body_words kind size ≤ 65533 },
 }
 
-/// The header of a new Method, and how many bytes it has.
+/// What a new Method is made of: its class, its header, and how many bytes it has.
 #[derive(Clone, Copy)]
 pub struct MethodShape {
     /// Its class, CompiledMethod.

@@ -3,7 +3,7 @@ ghost use Rattle.st_model.specs.declared.kind.Kind.TheVariants.{Bytes};
 ghost use Rattle.st_model.specs.Values.{Small, word};
 ghost use Rattle.st_model.specs.Calls.{itself};
 ghost use Rattle.st_model.specs.Primitives.{truth};
-ghost use Rattle.st_model.specs.Storage.{has_characters, is_at_end, primitive_at_end, place_of_object, place_of_character, stream_place, position_below, standing_at, stream_standing, stream_element, take_next, primitive_next, stream_unit, putting_at, stream_putting, put_next, primitive_next_put};
+ghost use Rattle.st_model.specs.Storage.{has_characters, is_at_end, primitive_at_end, stream_place, position_below, stream_standing, stream_element, take_next, primitive_next, stream_unit, stream_putting, put_next, primitive_next_put};
 ghost use Rattle.st_model.specs.Steps.{store_field};
 ghost use Rattle.st_model.specs.Deeds.{is_done, deed_of_trial, copies_pixels};
 ghost use Rattle.st_frames.specs.Answering.{IsOfKind, succeed_by, answer_word, answer_deed};
@@ -14,7 +14,7 @@ use crate::elements::place_of_element;
 use crate::fetching::fetch_element;
 use crate::numbers::fixed_fields;
 use crate::putting::store_element;
-use crate::shapes::{Element, Elements, Placed, Putting, Standing, Storing};
+use crate::shapes::{Element, Elements, Putting, Standing, Storing};
 use crate::storing::unit_of_element;
 use crate::strings::{character_byte, fetch_character};
 use st_frames::{
@@ -85,33 +85,9 @@ pub fn primitive_at_end<O: Objects>(m: &mut O, r: &mut Registers) -> Result<Trie
     }
 }
 
-/// The place of element number i of an Array.
-#[tactic(auto, using(st_frames::proofs::Doing::rows), unfolding(st_model::specs::Storage::place_of_object))]
-fn place_of_object<O: Objects>(m: &O, r: &Registers, v: Word, i: u32) -> Result<u32, Dead>
-    requires { i ≤ 16384 }
-    ensures does { RowReads O.Objects.own (place_of_object O.names (word v) i)
-        itself m.now r.now result }
-{
-    let fixed = fixed_fields(m, r, v)?;
-    place_of_element(m, r, v, fixed, i)
-}
-
-/// The place of element number i of a String, whose Character the table has.
-#[tactic(auto, using(st_frames::proofs::Doing::rows), unfolding(st_model::specs::Storage::place_of_character))]
-fn place_of_character<O: Objects>(m: &O, r: &Registers, v: Word, i: u32) -> Result<u32, Dead>
-    requires { i ≤ 16384 }
-    ensures does { RowReads O.Objects.own (place_of_character O.names (word v) i)
-        itself m.now r.now result }
-    ensures bytes { IfOk result (λ p. IsOfKind O.Objects.own m.now v Bytes) }
-{
-    check_bytes(m, r, v)?;
-    let place = place_of_element(m, r, v, 0, i)?;
-    fetch_character(m, r, v, place)?;
-    Ok(place)
-}
-
-/// The place of element number i of a stream's collection.
-#[tactic(auto, using(st_frames::proofs::Doing::rows), unfolding(st_model::specs::Storage::stream_place))]
+/// The place of element number i of a stream's collection: of an Array behind its fixed fields, and of a String where the table has
+/// its Character.
+#[tactic(auto, using(st_frames::proofs::Doing::rows), unfolding(st_model::specs::Storage::stream_place, st_model::specs::Storage::place_of_object, st_model::specs::Storage::place_of_character))]
 fn stream_place<O: Objects>(
     m: &O,
     r: &Registers,
@@ -126,8 +102,16 @@ fn stream_place<O: Objects>(
         IsOfKind O.Objects.own m.now v Bytes) }
 {
     match elements {
-        Elements::Objects => place_of_object(m, r, v, i),
-        Elements::Characters => place_of_character(m, r, v, i),
+        Elements::Objects => {
+            let fixed = fixed_fields(m, r, v)?;
+            place_of_element(m, r, v, fixed, i)
+        }
+        Elements::Characters => {
+            check_bytes(m, r, v)?;
+            let place = place_of_element(m, r, v, 0, i)?;
+            fetch_character(m, r, v, place)?;
+            Ok(place)
+        }
     }
 }
 
@@ -181,11 +165,7 @@ fn stream_element<O: Objects>(m: &mut O, r: &Registers, s: Standing) -> Result<A
     ensures plain { IfOk result (λ a. copies_pixels a.deed ≡ false) }
 {
     match s.elements {
-        Elements::Objects => {
-            let object = s.collection;
-            let place = s.place;
-            fetch_element(m, r, Placed { object, place })
-        }
+        Elements::Objects => fetch_element(m, r, s.collection, s.place),
         Elements::Characters => {
             let word = fetch_character(m, r, s.collection, s.place)?;
             Ok(Answer {

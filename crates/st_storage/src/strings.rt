@@ -2,7 +2,7 @@ ghost use Rattle.std.specs.Prelude.{◌≡◌, ◌<◌, ◌≤◌, ◌+◌, IfOk
 ghost use Rattle.st_model.specs.declared.kind.Kind.TheVariants.{Bytes};
 ghost use Rattle.st_model.specs.Values.{word};
 ghost use Rattle.st_model.specs.Calls.{itself};
-ghost use Rattle.st_model.specs.Storage.{fetch_character, place_in_bytes, character_at, primitive_string_at, character_byte, character_storing_at, storing_character};
+ghost use Rattle.st_model.specs.Storage.{fetch_character, place_in_bytes, character_at, primitive_string_at, character_byte, storing_character};
 ghost use Rattle.st_frames.specs.Answering.{IsOfKind};
 ghost use Rattle.st_storage.specs.Storing.{storing_in, IsStoringOf};
 ghost use Rattle.st_model.specs.Deeds.{is_done, deed_of_trial};

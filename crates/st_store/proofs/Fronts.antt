@@ -1,12 +1,12 @@
 -- The first bytes of a roots file tell what the file chooses, or where it is wrong.
-use Rattle.std.proofs.Common.{◌≡◌, inl, inr, ⊎_elim, ℕ, ◌+◌, ◌%◌, ◌<◌, ◌≤◌, min, List, length, take, drop, slice_index, Option, Some, refl, sym, subst, ◌∙◌, ap, arith, lit<, length-take}
+use Rattle.std.proofs.Common.{◌≡◌, inl, inr, ⊎_elim, ℕ, ◌+◌, ◌%◌, ◌<◌, ◌≤◌, min, List, length, take, drop, slice_index, Option, Some, Bool, true, false, IsTrue, unwrap_or, refl, sym, subst, ◌∙◌, ap, arith, lit<, length-take}
 use Rattle.std.proofs.Math.Nat.{mod-lt}
 use Rattle.std.proofs.lemmas.List.{get_or-take, get_or-drop, get_or_past}
 use Rattle.std.proofs.lemmas.Bool.{cases_lt}
-use Rattle.std.specs.Prelude.{None, IsSome}
+use Rattle.std.specs.Prelude.{◌↔◌, None, IsSome, MatchOption, is_some, not}
 use Rattle.st_host.specs.Files.{bytes_of, length_of, IsRead}
-use Rattle.st_store.specs.Roots.{place, root_at, chosen_number, Chooses}
-use Rattle.st_store.specs.Refusals.{IsWrongFront}
+use Rattle.st_store.specs.Roots.{HasLetters, place, root_at, chosen_number, Chooses}
+use Rattle.st_store.specs.Refusals.{IsWrongLetter, IsWrongFront}
 use Rattle.st_store.specs.declared.root.Root.{Root}
 use Rattle.st_store.proofs.Bytes.{root_same}
 
@@ -15,17 +15,36 @@ pub is_there : (l : Option ℕ) (file : Option (List ℕ)) → l ≡ length_of f
 is_there l None is some = subst IsSome is some
 is_there l (Some bytes) is some = refl
 
+-- the length of a file, and 0 where it is absent
+pub length_read : (l : Option ℕ) (now was : Option (List ℕ)) → l ≡ length_of now → now ≡ was → unwrap_or l 0 ≡ length (bytes_of was)
+length_read l now None is same = ap (λ (x : Option ℕ). unwrap_or x 0) (is ∙ ap length_of same)
+length_read l now (Some bytes) is same = ap (λ (x : Option ℕ). unwrap_or x 0) (is ∙ ap length_of same)
+
+module _ (n : ℕ) (file : List ℕ) (k : ℕ) (into : List ℕ) (long : length into ≡ n) (read : IsRead file 0 k into) where
+  -- the bytes that were read are those of the file
+  read_same : (i : ℕ) → i < n → slice_index (take k into) i ≡ slice_index file i
+  read_same i low = ⊎_elim
+      (λ within.
+      let there : 0 + i ≡ i = omega arith in
+      ap (λ (x : List ℕ). slice_index x i) read.bytes ∙ get_or-take k (drop 0 file) i 0 within ∙ get_or-drop 0 file i 0 ∙ ap (λ (j : ℕ). slice_index file j) there)
+      (λ past. get_or_past (take k into) i 0 (omega (arith, length-take k into, read.count)) ∙ sym (get_or_past file i 0 (omega (arith, read.count))))
+      (cases_lt i k)
+
+module _ (file : List ℕ) (k : ℕ) (into : List ℕ) (long : length into ≡ 8) (read : IsRead file 0 k into) where
+  -- whether the file has the letters, as the bytes read tell
+  pub letters_found : (wrong : Option ℕ) (there : Bool) → MatchOption wrong (HasLetters (take k into)) (IsWrongLetter (take k into)) → is_some wrong ≡ not there
+      → IsTrue there ↔ HasLetters file
+  letters_found None true letters is = (λ so i low. sym (read_same 8 file k into long read i low) ∙ letters i low, λ has. refl)
+  letters_found None false letters is = (λ so. cc, λ has. cc)
+  letters_found (Some at) true wrong is = (λ so. cc, λ has. refl)
+  letters_found (Some at) false wrong is = (λ so. cc, λ has. absurd (wrong.wrong (read_same 8 file k into long read at wrong.below ∙ has at wrong.below)))
+
 module _ (file : List ℕ) (k : ℕ) (into : List ℕ) (long : length into ≡ 80) (read : IsRead file 0 k into) where
   front_long : length (take k into) ≡ min 80 (length file)
   front_long = omega (arith, length-take k into, read.count)
 
   same : (i : ℕ) → i < 80 → slice_index (take k into) i ≡ slice_index file i
-  same i low = ⊎_elim
-      (λ within.
-      let there : 0 + i ≡ i = omega arith in
-      ap (λ (x : List ℕ). slice_index x i) read.bytes ∙ get_or-take k (drop 0 file) i 0 within ∙ get_or-drop 0 file i 0 ∙ ap (λ (j : ℕ). slice_index file j) there)
-      (λ past. get_or_past (take k into) i 0 (omega (arith, front_long, read.count)) ∙ sym (get_or_past file i 0 (omega (arith, read.count))))
-      (cases_lt i k)
+  same = read_same 80 file k into long read
 
   pub chooses_front : (j : ℕ) (root : Root) (f : Option (List ℕ)) → bytes_of f ≡ file → j ≤ 1 → Chooses j root (Some (take k into)) → Chooses j root f
   chooses_front j root f is one chosen =

@@ -1,5 +1,5 @@
 -- What a fault of the disk leaves of a store.
-use Rattle.std.proofs.Common.{◌≡◌, inl, inr, ⊎_elim, ℕ, ◌≤◌, List, Option, IsTrue, refl, sym, subst, arith}
+use Rattle.std.proofs.Common.{◌≡◌, inl, inr, ⊎_elim, ℕ, List, Option, IsTrue, refl, sym, subst}
 use Rattle.std.specs.Prelude.{◌⊎◌, Result, Ok, Err, OnErr}
 use Rattle.st_host.specs.Files.{Files}
 use Rattle.st_host.specs.Stops.{Here}

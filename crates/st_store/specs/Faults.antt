@@ -40,6 +40,10 @@ module _ {D : Type 0} (host : Ghosts D) where
     pub is : IsSynced host file synced
     pub behind : Narrows host synced new
 
+  -- or no more than that sync was tried
+  abbrev pub TriesSync : List ℕ → D → D → Type 0
+  TriesSync file old new = Syncs host file old new ⊎ SyncsFirst file old new
+
   -- From the first sync of the roots file on a stop leaves files that open as this.
   pub record OpensSince (name : List ℕ) (c : Stored) (old new : D) : Type 0 where
     pub synced : D

@@ -1,5 +1,5 @@
 -- What a store has, and what a stop may leave of it.
-use Rattle.std.specs.Prelude.{◌≡◌, ◌⊎◌, ◌≤◌, ◌^◌, ◌-◌, ℕ, List, length, take, Option}
+use Rattle.std.specs.Prelude.{◌≡◌, ◌⊎◌, ◌≤◌, ◌^◌, ◌-◌, ℕ, List, length, take, Option, IsTrue}
 use Rattle.st_host.specs.Files.{Files, bytes_of}
 use Rattle.st_host.specs.declared.host.Host.{Ghosts}
 use Rattle.st_store.specs.Names.{roots_file, changes_file, image_file}
@@ -62,6 +62,10 @@ module _ {D : Type 0} (host : Ghosts D) (h : D) where
     pub which : k ≤ 1
     pub roots : Leaves (roots_file name) (Chooses k c.root)
     pub firm : IsFirm name c
+
+  -- where this root is chosen as number k, and what it names is firm, what it stores has P
+  abbrev pub WhereChosen : List ℕ → ℕ → Root → (Stored → Type 0) → Type 0
+  WhereChosen name k root P = (c : Stored) → IsTrue host.is_told → IsChosen name k c → c.root ≡ root → P c
 
   -- the store is at rest, and has this
   pub record IsKept (store : StoreState) (c : Stored) : Type 0 where

@@ -43,7 +43,6 @@ impl NewStore {
 }
 
 /// Syncs the roots file, and tells whether it begins with the letters.
-#[tactic(auto, using(crate::proofs::Looking::looks))]
 fn find_store<H: Host>(host: &mut H, roots: &str) -> Result<bool, HostFault>
     ensures found { IfOk result (λ there. IsTrue H.is_told
         → IsTrue there ↔ HasLetters (bytes_of (H.files host.old roots.now))) }

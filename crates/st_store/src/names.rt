@@ -1,5 +1,5 @@
 // The names of a store's files, which are made when it is opened or begun.
-ghost use Rattle.std.specs.Prelude.{◌≡◌, ◌≤◌, ◌++◌, IfOk, string_bytes};
+ghost use Rattle.std.specs.Prelude.{◌≡◌, ◌++◌, IfOk, string_bytes};
 ghost use Rattle.st_store.specs.Names.{roots_file, changes_file, image_file};
 
 use std::alloc::{AllocError, Global};

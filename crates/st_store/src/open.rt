@@ -1,13 +1,13 @@
 // Opening a store, in steps of a few calls.
-ghost use Rattle.std.specs.Prelude.{◌≡◌, ◌≢◌, ◌≤◌, ◌<◌, ◌+◌, ◌^◌, ◌⊎◌, IsTrue, IfOk, IfErr, OnOk, OnErr, MatchOption, length, string_bytes};
+ghost use Rattle.std.specs.Prelude.{◌≡◌, ◌≢◌, ◌≤◌, ◌^◌, IsTrue, IfOk, IfErr, OnOk, OnErr, MatchOption, length, string_bytes};
 ghost use Rattle.st_host.specs.Counts.{HasCause};
 ghost use Rattle.st_host.specs.Files.{bytes_of};
-ghost use Rattle.st_host.specs.Runs.{LeavesOnly, ReadsAlike, Narrows, NarrowsBut, Changes, Spares, Syncs, IsSynced, Makes};
+ghost use Rattle.st_host.specs.Runs.{LeavesOnly, ReadsAlike, Narrows, NarrowsBut, Changes, Spares, IsSynced, Makes};
 ghost use Rattle.st_store.specs.Names.{roots_file, IsNoFileOf};
 ghost use Rattle.st_store.specs.Roots.{Chooses, IsFresh};
 ghost use Rattle.st_store.specs.Refusals.{IsWrongNumber, Fit, RefusesFront, RefusesNumbers, Refuses, IsOfOpening, FaultHasCause};
-ghost use Rattle.st_store.specs.Stored.{Stored, Opens, IsSound, IsChosen, IsKept, IsReady, IsOpening, OpensAsOne, stored_in};
-ghost use Rattle.st_store.specs.Faults.{SyncsFirst, HasSettled, Settles};
+ghost use Rattle.st_store.specs.Stored.{Opens, IsSound, IsChosen, WhereChosen, IsKept, IsReady, IsOpening, OpensAsOne, stored_in};
+ghost use Rattle.st_store.specs.Faults.{SyncsFirst, TriesSync, HasSettled, Settles};
 ghost use Rattle.st_store.specs.declared.fault.StoreFault.TheVariants.{NotAStore, Disk};
 ghost use Rattle.st_store.specs.declared.fault.StorePlace.TheVariants.{Roots};
 
@@ -27,7 +27,6 @@ fn damaged(at: u64) -> StoreFault
 }
 
 /// Syncs the roots file, and reads the root that it chooses.
-#[tactic(auto, using(crate::proofs::Looking::looks))]
 fn look<H: Host>(host: &mut H, roots: &str) -> Result<Chosen, StoreFault>
     ensures number { IfOk result (λ r. r.number ≤ 1) }
     ensures slot { IfOk result (λ r. r.root.slot ≤ 3) }
@@ -37,8 +36,7 @@ fn look<H: Host>(host: &mut H, roots: &str) -> Result<Chosen, StoreFault>
     ensures kind { IfErr result IsOfOpening }
     ensures synced { OnOk result (IsSynced H.Host.own roots.now host.new) }
     ensures first { OnOk result (SyncsFirst H.Host.own roots.now host.old host.new) }
-    ensures tried { OnErr result (Syncs H.Host.own roots.now host.old host.new
-        ⊎ SyncsFirst H.Host.own roots.now host.old host.new) }
+    ensures tried { OnErr result (TriesSync H.Host.own roots.now host.old host.new) }
     ensures alike { OnOk result (ReadsAlike H.Host.own host.old host.new) }
     ensures narrows { Narrows H.Host.own host.old host.new }
     ensures only { Changes H.Host.own roots.now host.old host.new }
@@ -46,11 +44,11 @@ fn look<H: Host>(host: &mut H, roots: &str) -> Result<Chosen, StoreFault>
 {
     sync_file(host, roots)?;
     let length = file_length(host, roots)?;
-    let mut front = [0; 80];
-    let count = read_from(host, roots, 0, &mut front)?;
     if length.is_none() {
         return Err(StoreFault::Missing);
     }
+    let mut front = [0; 80];
+    let count = read_from(host, roots, 0, &mut front)?;
     match choose(&front[..count]) {
         Ok(chosen) => Ok(chosen),
         Err(at) => Err(damaged(at)),
@@ -78,7 +76,6 @@ fn find_wrong_number(chosen: &Chosen, image: u64, changes: u64) -> Option<u64>
 }
 
 /// Syncs the files that a root names, and tests it against their lengths.
-#[tactic(auto, using(crate::proofs::Looking::looks))]
 fn make_firm<H: Host>(
     host: &mut H,
     image: &str,
@@ -113,7 +110,6 @@ fn make_firm<H: Host>(
 }
 
 /// Syncs the roots file and reads the root that it chooses, and then syncs and tests what this names.
-#[tactic(auto, using(crate::proofs::Looking::looks))]
 fn seek<H: Host>(host: &mut H, names: &Names) -> Result<Chosen, StoreFault>
     ensures number { IfOk result (λ r. r.number ≤ 1) }
     ensures sound { IfOk result (λ r. IsSound r.root) }
@@ -122,10 +118,10 @@ fn seek<H: Host>(host: &mut H, names: &Names) -> Result<Chosen, StoreFault>
     ensures refused { IfErr result (λ e. IsTrue H.is_told
         → Refuses (string_bytes names.now.name) (H.files host.old) e) }
     ensures kind { IfErr result IsOfOpening }
-    ensures first { OnOk result (SyncsFirst H.Host.own (roots_file (string_bytes names.now.name))
-        host.old host.new) }
+    ensures first { OnOk result (let roots = roots_file (string_bytes names.now.name) in
+        SyncsFirst H.Host.own roots host.old host.new) }
     ensures tried { OnErr result (let roots = roots_file (string_bytes names.now.name) in
-        Syncs H.Host.own roots host.old host.new ⊎ SyncsFirst H.Host.own roots host.old host.new) }
+        TriesSync H.Host.own roots host.old host.new) }
     ensures alike { OnOk result (ReadsAlike H.Host.own host.old host.new) }
     ensures narrows { Narrows H.Host.own host.old host.new }
     ensures spares { Spares H.Host.own (IsNoFileOf (string_bytes names.now.name)) host.old host.new }
@@ -139,18 +135,16 @@ fn seek<H: Host>(host: &mut H, names: &Names) -> Result<Chosen, StoreFault>
 
 /// Writes the root that isn't chosen as a copy of the chosen one, and the gate afresh. Where no stop leaves another root
 /// chosen and what this one names is firm, it stays so at each moment.
-#[tactic(auto, using(crate::proofs::Looking::looks))]
 fn freshen<H: Host>(host: &mut H, names: &Names, number: u64, root: &Root) -> Result<(), HostFault>
     requires { number ≤ 1 }
-    ensures makes { let name = string_bytes names.now.name in (c : Stored) → IsTrue H.is_told
-        → IsChosen H.Host.own host.old name number c → c.root ≡ root.now
-        → Makes H.Host.own (Opens name) c c host.old host.new result }
-    ensures chosen { OnOk result (let name = string_bytes names.now.name in (c : Stored) → IsTrue H.is_told
-        → IsChosen H.Host.own host.old name number c → c.root ≡ root.now
-        → IsChosen H.Host.own host.new name number c) }
-    ensures fresh { OnOk result (let name = string_bytes names.now.name in (c : Stored) → IsTrue H.is_told
-        → IsChosen H.Host.own host.old name number c → c.root ≡ root.now
-        → IsFresh number root.now (H.files host.new (roots_file name))) }
+    ensures makes { let name = string_bytes names.now.name in
+        WhereChosen H.Host.own host.old name number root.now
+        (λ c. Makes H.Host.own (Opens name) c c host.old host.new result) }
+    ensures chosen { OnOk result (let name = string_bytes names.now.name in
+        WhereChosen H.Host.own host.old name number root.now (IsChosen H.Host.own host.new name number)) }
+    ensures fresh { OnOk result (let name = string_bytes names.now.name in
+        WhereChosen H.Host.own host.old name number root.now
+        (λ c. IsFresh number c.root (H.files host.new (roots_file name)))) }
     ensures changes { Changes H.Host.own (roots_file (string_bytes names.now.name)) host.old host.new }
     ensures cause { HasCause (H.disk_faults host.old) (H.disk_faults host.new) result }
 {

@@ -5,7 +5,7 @@ use Rattle.st_bitblt.proofs.row.copy_up.Goals as goal
 pub loop-done-init : goal.loop-done-init
 loop-done-init g c = record {
   within = omega arith;
-  copied = copied_none _ _ _ _ _ _ _ _ c.requires.dest refl;
+  copied = copied_none _ _ _ _ _ _ _ _ c.requires.can.dest refl;
 }
 
 pub loop-done-preserved : goal.loop-done-preserved
@@ -14,5 +14,5 @@ loop-done-preserved g c =
     let t = c.loop-done-test.true in
     record {
       within = omega (arith, count, t);
-      copied = copied_up _ _ _ _ _ _ _ _ _ _ _ c.requires.dest c.requires.order c.loop-done.invariant.copied c.copy_stretch.ensures;
+      copied = copied_up _ _ _ _ _ _ _ _ _ _ _ c.requires.can.dest c.requires.order c.loop-done.invariant.copied c.copy_stretch.ensures;
     }

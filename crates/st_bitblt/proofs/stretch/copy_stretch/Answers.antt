@@ -12,7 +12,7 @@ returns g c =
     let old = g.M.Memory.view c.args.m.now in
     let dest = value c.args.ends.now.dest in
     let few = c.requires.few in
-    let room = c.requires.buffers in
+    let room = c.requires.can.buffers in
     let count : ℕ = (c.args.a.p % 16 + c.args.a.n + 15) / 16 in
     let whole : ℕ = (count + 15) / 16 * 16 in
     let read = c.read_source.new.into in
@@ -29,7 +29,7 @@ returns g c =
     let long : length (take count made) ≡ count = length-take-le count made (omega (arith, long_made, enough)) in
     let kept : take count (take whole (was ++ drop count c.args.dest.now)) ≡ was = taken_twice count whole _ enough ∙ take_at was (drop count c.args.dest.now) count long_was in
     stretch_copied c.args.rule.now c.args.tone (object_of_source c.args.ends.now.source) dest old (g.M.Memory.view c.write_words.new.self) c.args.a.p c.args.a.q c.args.a.n
-    _ (take count made) _ c.requires.dest c.requires.some few long c.requires.room
+    _ (take count made) _ c.requires.can.dest c.requires.some few long c.requires.can.room
     (λ k h le. pixel_taken_first (whole + 1) k _ (omega (arith, h, long, enough)) ∙ pixel_front read _ k (omega (arith, h, long, long_read)) ∙ c.read_source.ensures k (omega (arith, h, long, long_read)) le)
     (kept ∙ c.read_words.ensures ∙ ap (units_from old.objects dest (c.args.a.p / 16)) (taken ∙ sym long))
     c.combine_pixels.ensures.pixels (taken_fits count made c.combine_pixels.ensures.fits)

@@ -7,7 +7,7 @@ use Rattle.st_session.specs.Answers.{browse_course}
 use Rattle.st_session.specs.Browsing.{asked_text, memory_of, TellsOrStarves}
 use Rattle.st_session.specs.Keeping.{in_a_store}
 use Rattle.st_session.specs.Points.{alive}
-use Rattle.st_session.specs.Sources.{kept_text, shown_text}
+use Rattle.st_session.specs.Sources.{last_text, shown_text}
 use Rattle.st_call.specs.Telling.{Tells}
 use Rattle.st_session.proofs.Lines.{look_is, unsourced}
 use Rattle.st_session.proofs.Looking.{memory_shown}
@@ -64,6 +64,6 @@ returns-in_default g c =
     let listed = c.changes-in_default.ensures.listed ∙ holds.listed in
     subst (λ course. GoesAs g.M.Memory.view g.H.Host kept.archive.name kept.machine kept.archive old new k course result) (sym (look_is in_a_store s k c.args.ask c.in_default.not-Until))
     (line_said g.M.Memory.view g.H.Host kept.machine kept.archive k (asked_text (memory_of (show s)) (shown_text (memory_of (show s)) (all_of k)) ask) (alive s k) old new result
-    (subst (λ (text : List ℕ). Tells g.H.Host text old new result) (unsourced (memory_of (show s)) (kept_text (all_of k)) (shown_text (memory_of (show s)) (all_of k)) c.args.ask c.in_default.not-Source)
-    (subst (λ v. Tells g.H.Host (asked_text v (kept_text (all_of k)) ask) old new result) same
-    (subst (λ (ds : List Definition). Tells g.H.Host (asked_text (g.M.Memory.view c.memory-in_default.result.now) (kept_text ds) ask) old new result) listed c.say_asked.ensures))) holds (lives, shows) refl)))
+    (subst (λ (text : List ℕ). Tells g.H.Host text old new result) (unsourced (memory_of (show s)) (last_text (all_of k)) (shown_text (memory_of (show s)) (all_of k)) c.args.ask c.in_default.not-Source)
+    (subst (λ v. Tells g.H.Host (asked_text v (last_text (all_of k)) ask) old new result) same
+    (subst (λ (ds : List Definition). Tells g.H.Host (asked_text (g.M.Memory.view c.memory-in_default.result.now) (last_text ds) ask) old new result) listed c.say_asked.ensures))) holds (lives, shows) refl)))

@@ -1,4 +1,4 @@
-use Rattle.std.proofs.Common.{◌≡◌, ◌⊎◌, inl, inr, List, ℕ, string_bytes, refl, subst}
+use Rattle.std.proofs.Common.{◌⊎◌, inl, inr, List, ℕ, string_bytes, refl, subst}
 use Rattle.st_host.specs.Runs.{NarrowsBut, Spares, Syncs}
 use Rattle.st_store.specs.Names.{roots_file, IsNoFileOf}
 use Rattle.st_store.specs.Roots.{IsFresh}

@@ -1,6 +1,8 @@
 use Rattle.std.proofs.lemmas.Result.{err_from_is_err_and}
-use Rattle.std.proofs.Common.{◌≡◌, ◌⊎◌, inr, List, ℕ, string_bytes, subst}
+use Rattle.std.proofs.Common.{◌∙◌, ◌⊎◌, inr, List, ℕ, string_bytes, subst}
 use Rattle.st_host.specs.Runs.{Syncs}
+use Rattle.st_host.proofs.Joining.{alike_join, narrows_join}
+use Rattle.st_host.proofs.Touching.{changes_spare}
 use Rattle.st_store.specs.Refusals.{RefusesFront}
 use Rattle.st_store.specs.Faults.{SyncsFirst}
 use Rattle.st_store.proofs.Opening.{looked_at, front_refuses, refused_at, spared}
@@ -18,6 +20,9 @@ pub returns-in_err-chosen-clause-tried : goal.returns-in_err-chosen-clause-tried
 returns-in_err-chosen-clause-tried g c = when_err _ _
     (subst (λ (y : List ℕ). Syncs g.H.Host y c.args.host.now c.look.new.host ⊎ SyncsFirst g.H.Host y c.args.host.now c.look.new.host) c.roots.ensures c.in_err-chosen.ensures.tried)
 
+pub returns-in_err-chosen-clause-spares : goal.returns-in_err-chosen-clause-spares
+returns-in_err-chosen-clause-spares g c = changes_spare g.H.Host _ _ _ _ (λ n no same. no.roots (same ∙ c.roots.ensures)) c.look.ensures.only
+
 pub returns-in_err-make_firm-clause-refused : goal.returns-in_err-make_firm-clause-refused
 returns-in_err-make_firm-clause-refused g c =
     let look = c.in_ok-chosen.ensures in
@@ -28,6 +33,9 @@ returns-in_err-make_firm-clause-refused g c =
 pub returns-in_err-make_firm-clause-tried : goal.returns-in_err-make_firm-clause-tried
 returns-in_err-make_firm-clause-tried g c = when_err _ _
     (inr (first_more g.H.Host _ _ _ _ (subst (λ (y : List ℕ). SyncsFirst g.H.Host y c.args.host.now c.look.new.host) c.roots.ensures c.in_ok-chosen.ensures.first) c.make_firm.ensures.narrows))
+
+pub returns-in_err-make_firm-clause-narrows : goal.returns-in_err-make_firm-clause-narrows
+returns-in_err-make_firm-clause-narrows g c = narrows_join g.H.Host _ _ _ c.look.ensures.narrows c.make_firm.ensures.narrows
 
 pub returns-in_err-make_firm-clause-spares : goal.returns-in_err-make_firm-clause-spares
 returns-in_err-make_firm-clause-spares g c =
@@ -43,6 +51,12 @@ returns-clause-chosen g c told =
 pub returns-clause-first : goal.returns-clause-first
 returns-clause-first g c =
     first_more g.H.Host _ _ _ _ (subst (λ (y : List ℕ). SyncsFirst g.H.Host y c.args.host.now c.look.new.host) c.roots.ensures c.in_ok-chosen.ensures.first) c.make_firm.ensures.narrows
+
+pub returns-clause-alike : goal.returns-clause-alike
+returns-clause-alike g c = alike_join g.H.Host _ _ _ c.in_ok-chosen.ensures.alike c.in_ok-make_firm.ensures.alike
+
+pub returns-clause-narrows : goal.returns-clause-narrows
+returns-clause-narrows g c = narrows_join g.H.Host _ _ _ c.look.ensures.narrows c.make_firm.ensures.narrows
 
 pub returns-clause-spares : goal.returns-clause-spares
 returns-clause-spares g c =

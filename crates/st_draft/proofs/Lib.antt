@@ -1,0 +1,14 @@
+mod Alike
+mod Bearing
+mod Behind
+mod Drafted
+mod Exchanged
+mod Freeing
+mod Keeping
+mod Moved
+mod Renaming
+mod Replaying
+mod Sizes
+mod Storing
+mod Units
+mod Writing

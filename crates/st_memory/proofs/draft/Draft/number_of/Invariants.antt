@@ -1,5 +1,0 @@
-use Rattle.st_memory.specs.Bearing.{IsNumberOf}
-use Rattle.st_memory.proofs.draft.Draft.number_of.Given as goal
-
-abbrev pub invariant-loop-before : goal.invariant-loop-before
-invariant-loop-before g l = IsNumberOf (g.M.Memory.view l.self.base.now).objects l.self.notes.made_count l.before l.number
