@@ -111,12 +111,19 @@ module _ {D : Type 0} (host : Ghosts D) (old : D) (store : StoreState) (listed :
         })
 
   -- a fault came while it was condensed, or there was no memory
-  pub unmade : {R E : Type 0} (mid : D) (result : Result R E)
+  unmade : {R E : Type 0} (mid : D) (result : Result R E)
       → (IsErr result × Makes host (Opens store.name) (stored_of store.root.slot c) (stored_of store.root.slot c) old mid result) ⊎ Condenses listed store.root.base
       → ((z : Condenses listed store.root.base) → Makes host (Opens store.name) (stored_of store.root.slot c) (condensed (stored_of store.root.slot c) z) old mid result)
       → LeavesOnly host old mid At × (host.said mid ≡ host.said old)
   unmade mid result (inl p) makes = (as_same mid result p.1, p.1.quiet)
   unmade mid result (inr z) makes = let m = makes z in (as_condensed mid result z m, m.quiet)
+
+  -- which ends in this status
+  pub does_unmade : {R E : Type 0} (mid : D) (result : Result R E) (e : Status)
+      → (IsErr result × Makes host (Opens store.name) (stored_of store.root.slot c) (stored_of store.root.slot c) old mid result) ⊎ Condenses listed store.root.base
+      → ((z : Condenses listed store.root.base) → Makes host (Opens store.name) (stored_of store.root.slot c) (condensed (stored_of store.root.slot c) z) old mid result)
+      → (host.said mid ≡ host.said old → ResultHas host store.name c old mid (Err e)) → DoesCondense host store.name c old mid (Err e)
+  does_unmade mid result e either makes has = let un = unmade mid result either makes in record { moments = un.0; has = has un.1 }
 
 -- WITH THE LAST LINE BEHIND IT
 

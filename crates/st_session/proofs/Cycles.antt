@@ -190,7 +190,10 @@ none_so_far host n first s c old before only w = record {
   pushed = push_none host old only;
 }
 
-module _ {D : Type 0} {host : Ghosts D} {n first : ℕ} {s : State Births} {done : ℕ} {c : State Table} {old mid : D} {p q : List ℕ} (far : SaidSoFar host n first s done c old mid p q) (e : RunEnd) (d : State Table) (ends : EndsAs (n - done) far.state e d) where
+module _ {D : Type 0} {host : Ghosts D} {n first : ℕ} {s : State Births} {done : ℕ} {c : State Table} {old mid : D} {p q : List ℕ} (far : SaidSoFar host n first s done c old mid p q) (e : RunEnd) (d : State Table) (ended : (t : State Births) → Shows c t → EndsAs (n - done) t e d) where
+  ends : EndsAs (n - done) far.state e d
+  ends = ended far.state far.shows
+
   abbrev now : ℕ
   now = done + cycles_of (n - done) e
 
