@@ -1,14 +1,14 @@
 -- How condensing ends, from its parts: the store is opened, its changes are condensed, and a line is said.
-use Rattle.std.proofs.Common.{◌≡◌, ◌≢◌, ◌⊎◌, inl, inr, ⊎_elim, ℕ, ◌≤◌, List, [], ◌++◌, ◌∙◌, length, IsTrue, refl, sym, ap, subst, arith, true≢false}
+use Rattle.std.proofs.Common.{◌≡◌, ◌⊎◌, inl, inr, ⊎_elim, ℕ, ◌≤◌, List, ◌++◌, ◌∙◌, length, IsTrue, refl, sym, ap, subst, true≢false}
 use Rattle.std.specs.Prelude.{Result, Ok, Err, IfErr, IsErr, OnOk, All}
 use Rattle.st_host.specs.Files.{Files}
-use Rattle.st_host.specs.Runs.{LeavesOnly, ReadsAlike, ReadsAndSays, Spares, IsAtRest, Makes, ChangesBoth}
+use Rattle.st_host.specs.Runs.{LeavesOnly, ReadsAndSays, IsAtRest, Makes}
 use Rattle.st_host.specs.Stops.{SaidPart, WhileSaying}
 use Rattle.st_host.specs.declared.host.Host.{Ghosts}
 use Rattle.st_host.proofs.Joining.{weaker, moments_join}
 use Rattle.st_chunk.specs.Definitions.{Definition, IsDefinition, entries}
 use Rattle.st_store.specs.Faults.{RestsUnlessGate}
-use Rattle.st_store.specs.Stored.{StoreState, Opens, IsKept, IsOpening}
+use Rattle.st_store.specs.Stored.{StoreState, Opens, IsOpening}
 use Rattle.st_store.specs.declared.root.Root.{Root}
 use Rattle.st_protocol.specs.declared.status.Status.{Status}
 use Rattle.st_protocol.specs.declared.status.Status.TheVariants as status
@@ -23,7 +23,7 @@ use Rattle.st_call.specs.Replies.{condensed_text}
 use Rattle.st_call.specs.Telling.{Tells}
 use Rattle.st_session.specs.Ends.{status_in}
 use Rattle.st_session.specs.Exports.{IsOfExporting}
-use Rattle.st_session.specs.Condensings.{IsKeptAs, HasCondensed, ResultHas, DoesCondense, CondenseHas}
+use Rattle.st_session.specs.Condensings.{IsKeptAs, ResultHas, DoesCondense, CondenseHas}
 use Rattle.st_session.proofs.Commanded.{opens_still}
 use Rattle.st_session.proofs.Exported.{none_more, line_behind}
 
