@@ -143,10 +143,10 @@ class Desk:
 
     def why_ended(self, end):
         if end.line:
-            return f"the session has ended: {end.line}: {end.complaint.strip() or meaning_of(end.line)}"
+            return f"the session has ended: {end.line}: {end.complaint or meaning_of(end.line)}"
         if end.status < 0:
             return f"the session has ended: the program was stopped by signal {-end.status}"
-        return f"the session has ended: {end.complaint.strip() or 'no line came'}"
+        return f"the session has ended: {end.complaint or 'no line came'}"
 
     def end(self, end):
         """The session is over; what was acknowledged is in the store."""

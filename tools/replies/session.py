@@ -15,11 +15,14 @@ BEFORE_AN_END = ("say", "snapshot", "at")
 
 
 class Ended(Exception):
-    """The session has ended: its last line, which may be empty, and its exit status."""
+    """The session has ended: its last line, which may be empty, its exit status, and what it said on standard error."""
 
     def __init__(self, line, status, complaint=""):
         super().__init__(line, status)
-        self.line, self.status, self.complaint = line, status, complaint
+        self.line, self.status, self.complaint = line, status, complaint.strip()
+
+    def __str__(self):
+        return f"the session ended: {self.line or self.complaint or 'no line'}"
 
 
 def program_words():
@@ -56,14 +59,17 @@ class Session:
         try:
             self.opened = self.next_line()
             self.lost = [self.next_line() for _ in range(int(self.opened.split()[2]))]
-        except Ended:
+        except BaseException:
             self.process.kill()
             raise
 
     def __enter__(self):
         return self
 
-    def __exit__(self, *_):
+    def __exit__(self, kind, *_):
+        # (who is in the middle of a reply doesn't read what is left of it, and the program would wait for that)
+        if kind:
+            self.process.kill()
         self.close()
 
     def next_line(self):
