@@ -1,14 +1,11 @@
 """One store's session, in a thread of its own: what windows ask is done one after the other, and between two pieces of a run."""
 
 import concurrent.futures
-import pathlib
 import queue
-import sys
 import threading
 import time
 import traceback
 
-sys.path.insert(0, str(pathlib.Path(__file__).resolve().parent.parent))
 from replies.chunks import BLANKS
 from replies.expressions import BEGIN, HEADER, INTERRUPT, is_open, source_of
 from replies.image import Wrong as NoStore

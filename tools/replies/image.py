@@ -35,7 +35,21 @@ class Object:
         self.of_class, self.kind, self.fields, self.units = of_class, kind, fields, units
 
 
-class Image:
+class Objects:
+    """What is asked of objects by their pointers, where `get` answers the one of a pointer, or none."""
+
+    def bytes_of(self, pointer):
+        """The bytes of a String or Symbol, or none."""
+        found = self.get(pointer)
+        return bytes(found.units) if found and found.kind == "b" else b""
+
+    def elements_of(self, pointer):
+        """The fields of an object of kind Pointers, or none."""
+        found = self.get(pointer)
+        return found.fields if found and found.kind == "p" else []
+
+
+class Image(Objects):
     """An image's objects by their pointers, and the pointers of its tables of names."""
 
     def __init__(self, data):
@@ -83,16 +97,6 @@ class Image:
 
     def get(self, pointer):
         return None if is_small(pointer) else self.objects.get(pointer)
-
-    def bytes_of(self, pointer):
-        """The bytes of a String or Symbol, or none."""
-        found = self.get(pointer)
-        return bytes(found.units) if found and found.kind == "b" else b""
-
-    def elements_of(self, pointer):
-        """The fields of an object of kind Pointers, or none."""
-        found = self.get(pointer)
-        return found.fields if found and found.kind == "p" else []
 
 
 def is_of_store(file):
