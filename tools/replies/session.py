@@ -1,5 +1,6 @@
 """A session of the program, and its replies, as docs/FORMATS.md has them."""
 
+import functools
 import os
 import pathlib
 import subprocess
@@ -7,6 +8,7 @@ import tempfile
 
 TOP = pathlib.Path(__file__).resolve().parent.parent.parent
 PROGRAM = "ST80_PROGRAM"  # an environment variable that names another program than ./st80
+NOT_BUILT = 70  # the status of ./st80 where it can't be built
 
 # The replies that further lines follow, as many as their word of this place says.
 COUNTED = {"display": 2, "classes": 1, "methods": 1, "source": 1, "bytecodes": 1, "senders": 1, "stack": 1}
@@ -25,9 +27,21 @@ class Ended(Exception):
         return f"the session ended: {self.line or self.complaint or 'no line'}"
 
 
+@functools.cache
+def build_program():
+    """Has ./st80 built where it must be, which says on standard error what it does; `ChildProcessError` where it can't be."""
+    # (without an image `once` does nothing else)
+    ran = subprocess.run([TOP / "st80", "once"], stdin=subprocess.DEVNULL, stdout=subprocess.DEVNULL)
+    if ran.returncode == NOT_BUILT:
+        raise ChildProcessError("the program can't be built")
+
+
 def program_words():
-    """The words that begin a command of the program."""
-    return [os.environ.get(PROGRAM) or str(TOP / "st80")]
+    """The words that begin a command of the program, which is there then."""
+    named = os.environ.get(PROGRAM)
+    if not named:
+        build_program()
+    return [named or str(TOP / "st80")]
 
 
 def unescape(text):
