@@ -7,9 +7,7 @@ ghost use Rattle.st_store.specs.declared.fault.StorePlace.TheVariants.{Changes a
 ghost use Rattle.st_chunk.specs.Definitions.{IsDefinition, entries};
 ghost use Rattle.st_changes.specs.Lists.{Lists, StandsAt, RefusesChanges, IsOfLoading, IsOutside, kept_changes};
 
-use crate::changes::Changes;
-use crate::listing::list;
-use crate::noting::index_all;
+use crate::listing::{Listing, list};
 use st_host::{Host, read_from};
 use st_store::{Store, StoreFault, StorePlace};
 use std::alloc::{AllocError, Global};
@@ -52,7 +50,7 @@ fn damaged(at: u64) -> StoreFault
 }
 
 /// Reads the changes file of a store up to the length that its root has, and lists the definitions that it keeps.
-pub fn load<H: Host>(alloc: Global, host: &mut H, store: &Store) -> Result<Changes, StoreFault>
+pub fn load<H: Host>(alloc: Global, host: &mut H, store: &Store) -> Result<Listing, StoreFault>
     ensures named { IfOk result (λ changes. changes.name ≡ store.now.name) }
     ensures second { IfOk result (λ changes. changes.second ≡ nat_lt 1 store.now.root.slot) }
     ensures good { IfOk result (λ changes. All IsDefinition changes.listed) }
@@ -73,13 +71,11 @@ pub fn load<H: Host>(alloc: Global, host: &mut H, store: &Store) -> Result<Chang
     let bytes = read_front(alloc, host, store.changes_name(), root.length)?;
     let end = bytes.len() as u64;
     match list(alloc, &bytes, root.base)? {
-        Ok(listed) if end == root.length => Ok(Changes {
-            name: owned(alloc, store.name())?,
-            second: root.slot > 1,
-            index: index_all(alloc, &listed)?,
+        Ok(listed) if end == root.length => Ok(Listing {
             listed,
             length: end,
-            ready: None,
+            name: owned(alloc, store.name())?,
+            second: root.slot > 1,
         }),
         Ok(_) => Err(damaged(end)),
         Err(at) => Err(damaged(at)),
