@@ -20,7 +20,7 @@ ghost use Rattle.st_recover.specs.{Openings.OpeningHasCause, Fetched.IsFetchedAs
 use crate::fault::OpenFault;
 use crate::opened::Opened;
 use crate::replay::{Replay, replay_all};
-use st_changes::{Changes, Listing, load};
+use st_changes::{Changes, Listing, read_listing};
 use st_frames::Loaded;
 use st_host::{Host, read_from};
 use st_image::{HeadValues, ReadImage, read};
@@ -124,7 +124,7 @@ fn fetch<L: Loader, H: Host>(
 {
     let store = open_store(alloc, host, name)?;
     let loaded = read_image::<L, H>(alloc, host, &store)?;
-    let changes = load(alloc, host, &store)?;
+    let changes = read_listing(alloc, host, &store)?;
     Ok(Fetched {
         loaded,
         store,

@@ -37,22 +37,13 @@ fn host_of(alloc: Global, base: u8, changes: &[u8], length: u8) -> Result<MemHos
     host_with(alloc, &roots(base, length), changes)
 }
 
-/// The list of a store's changes, for which each text is parsed.
-fn loaded(alloc: Global, host: &mut MemHost, store: &Store) -> Result<Changes, StoreFault>
-    ensures whole { IfOk result (λ changes. store.now.root.length ≡ length (entries changes.listed)) }
-    ensures second { IfOk result (λ changes. changes.second ≡ nat_lt 1 store.now.root.slot) }
-{
-    let changes = load(alloc, host, store)?;
-    Ok(changes.index(alloc, &[])?)
-}
-
 /// The store of a host's files, and the list of its changes.
 fn opened(alloc: Global, host: &mut MemHost) -> Result<(Store, Changes), StoreFault>
     ensures place { IfOk result (λ r. r.0.root.length ≡ length (entries r.1.listed)) }
     ensures file { IfOk result (λ r. r.1.second ≡ nat_lt 1 r.0.root.slot) }
 {
     let store = open_store(alloc, host, "s")?;
-    let changes = loaded(alloc, host, &store)?;
+    let changes = load(alloc, host, &store)?;
     Ok((store, changes))
 }
 
@@ -169,7 +160,7 @@ fn kept(rt: &impl Abort, alloc: Global, host: &mut MemHost) -> Result<Changes, S
     check_lasts(rt, &changes, Span { at: 24, length: 4 });
     let (store, changes) = keep(rt, alloc, host, store, changes)?;
     check_lasts(rt, &changes, Span { at: 109, length: 7 });
-    loaded(alloc, host, &store)
+    load(alloc, host, &store)
 }
 
 #[test]
