@@ -21,20 +21,20 @@ loop-rest-preserved g c =
     let is = c.definition-item.is in
     let inv = c.loop-rest.invariant in
     let old = g.M.Memory.view c.loop-rest.m in
-    let new = g.M.Memory.view c.define-installation.new.m in
-    let did = c.define-installation.ensures in
+    let new = g.M.Memory.view c.install_one-attempt.new.m in
+    let did = c.install_one-attempt.ensures in
     record {
       good = later_good rest x there is inv.good;
       numbers = omega (arith, rest_length rest x there is, inv.numbers);
-      count = omega (arith, counted (c.loop-rest.number + 1) c.define-installation.result c.loop-rest.replay c.note.new.replay c.in_ok-note.ensures, inv.count);
-      few = omega (arith, listed (c.loop-rest.number + 1) c.define-installation.result c.loop-rest.replay c.note.new.replay c.in_ok-note.ensures, inv.few);
+      count = omega (arith, counted (c.loop-rest.number + 1) c.install_one-attempt.result c.loop-rest.replay c.note.new.replay c.in_ok-note.ensures, inv.count);
+      few = omega (arith, listed (c.loop-rest.number + 1) c.install_one-attempt.result c.loop-rest.replay c.note.new.replay c.in_ok-note.ensures, inv.few);
       ready = λ f w ready. did.ready f w (inv.ready f w ready);
       replays = λ f w s ready shows.
           let at = inv.ready f w ready in
           underway_more installed (replay installed s c.args.before (definitions_of c.args.definitions.now)) c.loop-rest.replay c.note.new.replay c.loop-rest.number
-          (definition_of x) (definitions_of (take (length rest - 1) (drop 1 rest))) old new (shown old f w) (shown new f w) c.define-installation.result
+          (definition_of x) (definitions_of (take (length rest - 1) (drop 1 rest))) old new (shown old f w) (shown new f w) c.install_one-attempt.result
           (λ same. ap (λ v. shown v f w) same)
-          (λ t shown_t. subst (λ d. InstallsAs (installed d t) c.define-installation.result (shown new f w)) c.lend.ensures (did.installs f w t at shown_t))
+          (λ t shown_t. subst (λ d. InstallsAs (installed d t) c.install_one-attempt.result (shown new f w)) c.lend.ensures (did.installs f w t at shown_t))
           did.refused
           c.in_ok-note.ensures
           (subst (λ ds. IsUnderway installed (replay installed s c.args.before (definitions_of c.args.definitions.now)) c.loop-rest.replay c.loop-rest.number ds (shown old f w))
