@@ -1,6 +1,7 @@
 -- The first of some definitions, and the others.
-use Rattle.std.proofs.Common.{◌≡◌, ◌≤◌, ◌<◌, ◌+◌, ◌-◌, ◌∙◌, ℕ, suc, List, [], ◌∷◌, length, take, drop, get_or, refl, sym, ap, subst, arith, length-append}
+use Rattle.std.proofs.Common.{◌≡◌, ◌≤◌, ◌<◌, ◌+◌, ◌-◌, ◌∙◌, ℕ, suc, List, [], ◌∷◌, ◌++◌, length, take, drop, get_or, refl, sym, ap, subst, arith, length-append}
 use Rattle.std.specs.Prelude.{All}
+use Rattle.std.proofs.Math.ListN.{length-map}
 use Rattle.std.proofs.lemmas.List.{drop_more, take_rest, get_or-append-add}
 use Rattle.st_chunk.specs.Definitions.{Definition, IsDefinition}
 use Rattle.st_changes.specs.declared.definition.Definition as declared
@@ -50,3 +51,8 @@ listed n installation.OutOfMemory old new notes = absurd notes
 pub later_all : (front later ds : List Definition) → front ++ later ≡ ds → All IsDefinition ds → All IsDefinition later
 later_all front later ds is all k d less = subst IsDefinition (get_or-append-add front later k d)
     (subst (All IsDefinition) (sym is) all (length front + k) d (omega (arith, length-append front later, less)))
+
+pub parted : (front later : List declared.Definition) (ds : List Definition) → definitions_of front ++ definitions_of later ≡ ds → length front + length later ≡ length ds
+parted front later ds is =
+    let all = ap length is in
+    omega (arith, all, length-append (definitions_of front) (definitions_of later), length-map front definition_of, length-map later definition_of)

@@ -207,17 +207,12 @@ pub fn reopen<L: Loader, H: Host>(
         changes,
     } = fetch::<L, H>(alloc, host, name)?;
     let base = store.root().base;
-    let (Replay { count, lost }, changes) = install_again(
-        alloc,
-        &mut loaded.memory,
-        changes,
-        base,
-    )?;
+    let (replay, changes) = install_again(alloc, &mut loaded.memory, changes, base)?;
     Ok(Opened {
         loaded,
         store,
         changes,
-        replayed: count,
-        lost,
+        replayed: replay.count,
+        lost: replay.lost,
     })
 }
