@@ -5,7 +5,7 @@ use Rattle.st_changes.specs.IndexStates.{found}
 use Rattle.st_changes.specs.Last.{Answers}
 use Rattle.st_changes.specs.declared.noting.Indexed.{Indexed}
 
--- the index is one of these definitions, and their entries have so many bytes
+-- it is an index of these definitions, whose entries have `end` bytes
 pub record Indexes (ds : List Definition) (indexed : Indexed) : Type 0 where
   pub end : indexed.end ≡ length (entries ds)
   pub answers : Answers ds (found indexed.index)

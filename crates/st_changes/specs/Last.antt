@@ -26,7 +26,7 @@ FindsSelector text (Some selector) = HasSelector text selector
 abbrev pub FindsEach : List Definition → List (Option (Vec ℕ Global)) → Type 0
 FindsEach ds selectors = AllZip (λ d s. FindsSelector d.text (option_map (λ v. v.items) s)) ds selectors
 
--- so it is for the last of these definitions
+-- the list ends with definitions of whose texts these are the selectors
 pub record FindsLast (ds : List Definition) (selectors : List (Option (Vec ℕ Global))) : Type 0 where
   pub front : List Definition
   pub behind : List Definition

@@ -50,7 +50,8 @@ fn lend(definition: &KeptDefinition) -> Definition<'_>
     }
 }
 
-/// Installs a definition, or says why it isn't installed, and finds its selector. Only a text that is refused is parsed again for it.
+/// Installs a definition, or says why it isn't installed, and finds its selector. Where the definition is refused, its text is parsed
+/// for that.
 fn install_one<M: Memory>(
     alloc: Global,
     m: &mut M,
@@ -95,8 +96,8 @@ fn note(replay: &mut Replay, number: u32, installation: Installation) -> Result<
     Ok(())
 }
 
-/// Installs definitions, behind so many in the changes file. Each is installed, or listed with its number and why it is refused; and
-/// their selectors.
+/// Installs definitions, behind so many in the changes file. Each is installed, or listed with its number and why it is refused.
+/// Answers also the selector of each.
 pub(crate) fn replay_all<M: Memory>(
     alloc: Global,
     m: &mut M,
