@@ -1,14 +1,11 @@
 """One store's session, in a thread of its own: what windows ask is done one after the other, and between two pieces of a run."""
 
 import concurrent.futures
-import pathlib
 import queue
-import sys
 import threading
 import time
 import traceback
 
-sys.path.insert(0, str(pathlib.Path(__file__).resolve().parent.parent))
 from replies.chunks import BLANKS
 from replies.expressions import BEGIN, HEADER, INTERRUPT, is_open, source_of
 from replies.image import Wrong as NoStore
@@ -143,10 +140,10 @@ class Desk:
 
     def why_ended(self, end):
         if end.line:
-            return f"the session has ended: {end.line}: {end.complaint.strip() or meaning_of(end.line)}"
+            return f"the session has ended: {end.line}: {end.complaint or meaning_of(end.line)}"
         if end.status < 0:
             return f"the session has ended: the program was stopped by signal {-end.status}"
-        return f"the session has ended: {end.complaint.strip() or 'no line came'}"
+        return f"the session has ended: {end.complaint or 'no line came'}"
 
     def end(self, end):
         """The session is over; what was acknowledged is in the store."""

@@ -1,9 +1,7 @@
 """The texts and categories of methods: those of a store's definitions, and those of kernel texts that are at hand."""
 
 import pathlib
-import sys
 
-sys.path.insert(0, str(pathlib.Path(__file__).resolve().parent.parent))
 from replies.chunks import definitions_of
 from replies.image import changes_of
 

@@ -52,6 +52,13 @@ def chunks_of(text):
     return chunks
 
 
+def marked(text, place):
+    """The line of a text in which a byte stands, counted from 1, and a line with a mark under that byte."""
+    begin = text.rfind("\n", 0, place - 1) + 1
+    line = text[begin:].partition("\n")[0]
+    return line, "".join("\t" if it == "\t" else " " for it in text[begin : place - 1]) + "^"
+
+
 class Definition:
     """A method's text, with its class, whether it is of the class side, its category and its selector."""
 

@@ -1,9 +1,9 @@
 """The classes, variables and methods of an image, as docs/FORMATS.md has them, and whether two images have the same."""
 
-from .image import NIL, integer, is_small
+from .image import NIL, WORDS, integer, is_small
 
-# Bits of an instance specification, a SmallInteger's word
-POINTERS, WORDS, INDEXED = 0x8000, 0x4000, 0x2000
+# Bits of an instance specification, a SmallInteger's word, beside `WORDS`
+POINTERS, INDEXED = 0x8000, 0x2000
 SUPERCLASS, DICTIONARY, SPECIFICATION, VARIABLES, NAME, CLASS_POOL, SHARED_POOLS = 0, 1, 2, 4, 6, 7, 8
 CLASS_FIELDS = 9
 SCHEDULER = 8  # the pointer of its association

@@ -4,7 +4,8 @@ import pathlib
 import struct
 
 NIL, METHODS = 2, 34
-SHORT, FAR = 512, 1 << 30
+SHORT = 512
+WORDS = 0x4000  # the bit of an instance specification, a SmallInteger's word, of instances that have words
 
 
 class Wrong(Exception):
@@ -35,7 +36,21 @@ class Object:
         self.of_class, self.kind, self.fields, self.units = of_class, kind, fields, units
 
 
-class Image:
+class Objects:
+    """What is asked of objects by their pointers, where `get` answers the one of a pointer, or none."""
+
+    def bytes_of(self, pointer):
+        """The bytes of a String or Symbol, or none."""
+        found = self.get(pointer)
+        return bytes(found.units) if found and found.kind == "b" else b""
+
+    def elements_of(self, pointer):
+        """The fields of an object of kind Pointers, or none."""
+        found = self.get(pointer)
+        return found.fields if found and found.kind == "p" else []
+
+
+class Image(Objects):
     """An image's objects by their pointers, and the pointers of its tables of names."""
 
     def __init__(self, data):
@@ -44,19 +59,23 @@ class Image:
         lettered = data[8:12] == b"ST80"
         self.globals = long_at(data, 24) if lettered else 0
         self.symbols = long_at(data, 28) if lettered else 0
-        self.objects = {}
-        for pointer, marks, location in self.entries_of(data, 3 if lettered and long_at(data, 12) == 2 else 2):
-            if not marks & 32:
-                self.objects[pointer] = self.object_at(data, marks, SHORT + 2 * location)
+        entries = list(self.entries_of(data, 3 if lettered and long_at(data, 12) == 2 else 2))
+        self.objects = {pointer: self.object_at(data, marks, at) for pointer, marks, at in entries}
+        if not lettered:
+            for pointer, marks, at in entries:
+                marks = marks | 16 if self.has_words(self.objects[pointer].of_class) else marks & ~16
+                self.objects[pointer] = self.object_at(data, marks, at)
 
     @classmethod
     def entries_of(cls, data, words):
-        """The pointer, the marks and the location of each entry, which has two words in version 1 and three in version 2."""
+        """The pointer, the marks and the object's place of each entry in use, which has two words in version 1 and three in version 2."""
         table = cls.table_of(data)
         for number in range(1, long_at(data, 4) // words):
             at = table + 2 * words * number
             marks, low = word_at(data, at), word_at(data, at + 2 * words - 2)
-            yield 2 * number, marks, (marks & 15 if words == 2 else word_at(data, at + 2)) * 65536 + low
+            high = marks & 15 if words == 2 else word_at(data, at + 2)
+            if not marks & 32:
+                yield 2 * number, marks, SHORT + 2 * (high * 65536 + low)
 
     @staticmethod
     def table_of(data):
@@ -81,18 +100,13 @@ class Image:
             return Object(of_class, "w", [], words)
         return Object(of_class, "b", [], body[: len(body) - (marks >> 7 & 1)])
 
+    def has_words(self, of_class):
+        """Whether a class says that its instances have words, which in a file without letters no mark says."""
+        fields = self.elements_of(of_class)
+        return len(fields) > 2 and is_small(fields[2]) and bool(fields[2] & WORDS)
+
     def get(self, pointer):
         return None if is_small(pointer) else self.objects.get(pointer)
-
-    def bytes_of(self, pointer):
-        """The bytes of a String or Symbol, or none."""
-        found = self.get(pointer)
-        return bytes(found.units) if found and found.kind == "b" else b""
-
-    def elements_of(self, pointer):
-        """The fields of an object of kind Pointers, or none."""
-        found = self.get(pointer)
-        return found.fields if found and found.kind == "p" else []
 
 
 def is_of_store(file):

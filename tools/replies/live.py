@@ -1,7 +1,7 @@
 """The objects of a machine in a session, by its replies to `object`, in the form of `image`'s, and words for what they are."""
 
 from .classes import DICTIONARY, NAME, SUPERCLASS, class_name, field_of, is_class, members_of
-from .image import NIL, Object, current_image, integer, is_small, long_at
+from .image import NIL, Object, Objects, current_image, integer, is_small, long_at
 from .session import escape
 
 # The classes of the root page, whose names an image needn't have.
@@ -31,7 +31,7 @@ def object_of(line):
     return Object(of_class, kind, [], bytes(units) if kind == "b" else units)
 
 
-class Live:
+class Live(Objects):
     """The objects as they are now, each asked for once until `forget`, and the pointers of a store's tables of names."""
 
     def __init__(self, session, store):
@@ -53,14 +53,6 @@ class Live:
             line = self.session.ask(f"object {pointer}")[0]
             self.objects[pointer] = object_of(line) if line.startswith("object ") else None
         return self.objects[pointer]
-
-    def bytes_of(self, pointer):
-        found = self.get(pointer)
-        return bytes(found.units) if found and found.kind == "b" else b""
-
-    def elements_of(self, pointer):
-        found = self.get(pointer)
-        return found.fields if found and found.kind == "p" else []
 
     def named_classes(self):
         """The pointers of the classes by their names."""

@@ -1,5 +1,6 @@
 """A session of the program, and its replies, as docs/FORMATS.md has them."""
 
+import functools
 import os
 import pathlib
 import subprocess
@@ -7,6 +8,7 @@ import tempfile
 
 TOP = pathlib.Path(__file__).resolve().parent.parent.parent
 PROGRAM = "ST80_PROGRAM"  # an environment variable that names another program than ./st80
+NOT_BUILT = 70  # the status of ./st80 where it can't be built
 
 # The replies that further lines follow, as many as their word of this place says.
 COUNTED = {"display": 2, "classes": 1, "methods": 1, "source": 1, "bytecodes": 1, "senders": 1, "stack": 1}
@@ -15,16 +17,31 @@ BEFORE_AN_END = ("say", "snapshot", "at")
 
 
 class Ended(Exception):
-    """The session has ended: its last line, which may be empty, and its exit status."""
+    """The session has ended: its last line, which may be empty, its exit status, and what it said on standard error."""
 
     def __init__(self, line, status, complaint=""):
         super().__init__(line, status)
-        self.line, self.status, self.complaint = line, status, complaint
+        self.line, self.status, self.complaint = line, status, complaint.strip()
+
+    def __str__(self):
+        return f"the session ended: {self.line or self.complaint or 'no line'}"
+
+
+@functools.cache
+def build_program():
+    """Has ./st80 built where it must be, which says on standard error what it does; `ChildProcessError` where it can't be."""
+    # (without an image `once` does nothing else)
+    ran = subprocess.run([TOP / "st80", "once"], stdin=subprocess.DEVNULL, stdout=subprocess.DEVNULL)
+    if ran.returncode == NOT_BUILT:
+        raise ChildProcessError("the program can't be built")
 
 
 def program_words():
-    """The words that begin a command of the program."""
-    return [os.environ.get(PROGRAM) or str(TOP / "st80")]
+    """The words that begin a command of the program, which is there then."""
+    named = os.environ.get(PROGRAM)
+    if not named:
+        build_program()
+    return [named or str(TOP / "st80")]
 
 
 def unescape(text):
@@ -56,14 +73,17 @@ class Session:
         try:
             self.opened = self.next_line()
             self.lost = [self.next_line() for _ in range(int(self.opened.split()[2]))]
-        except Ended:
+        except BaseException:
             self.process.kill()
             raise
 
     def __enter__(self):
         return self
 
-    def __exit__(self, *_):
+    def __exit__(self, kind, *_):
+        # (who is in the middle of a reply doesn't read what is left of it, and the program would wait for that)
+        if kind:
+            self.process.kill()
         self.close()
 
     def next_line(self):

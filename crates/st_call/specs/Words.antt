@@ -17,13 +17,13 @@ pub data Command : Type 0 where
   Drill : (number : ℕ) → Command
 
 -- a command of one operand, or of two
-abbrev pub of_one : (List ℕ → Option Command) → List (List ℕ) → Option Command
-of_one command (operand ∷ []) = command operand
-of_one command operands = None
+abbrev pub of_operand : (List ℕ → Option Command) → List (List ℕ) → Option Command
+of_operand command (operand ∷ []) = command operand
+of_operand command operands = None
 
-abbrev pub of_two : (List ℕ → List ℕ → Option Command) → List (List ℕ) → Option Command
-of_two command (first ∷ second ∷ []) = command first second
-of_two command operands = None
+abbrev pub of_operands : (List ℕ → List ℕ → Option Command) → List (List ℕ) → Option Command
+of_operands command (first ∷ second ∷ []) = command first second
+of_operands command operands = None
 
 abbrev pub has_values : HeadValues → Bool
 has_values v = is_some v.entries || (is_some v.words || (is_some v.globals || is_some v.symbols))
@@ -31,15 +31,15 @@ has_values v = is_some v.entries || (is_some v.words || (is_some v.globals || is
 -- the command of this name; only import has options, and a number is at most 1,000,000,000
 abbrev pub command_named : List ℕ → Arguments → Option Command
 command_named w a =
-    if bytes_eq w (codes "import") then of_two (λ image store. Some (Import image store a.options)) a.operands else
+    if bytes_eq w (codes "import") then of_operands (λ image store. Some (Import image store a.options)) a.operands else
     if has_values a.options then None else
-    if bytes_eq w (codes "once") then of_two (λ image n. option_map (Once image) (number 1000000000 n)) a.operands else
-    if bytes_eq w (codes "export") then of_two (λ store image. Some (Export store image)) a.operands else
-    if bytes_eq w (codes "clean") then of_two (λ store image. Some (Clean store image)) a.operands else
-    if bytes_eq w (codes "condense") then of_one (λ store. Some (Condense store)) a.operands else
-    if bytes_eq w (codes "session") then of_one (λ store. Some (Session store)) a.operands else
-    if bytes_eq w (codes "build") then of_two (λ kernel store. Some (Build kernel store)) a.operands else
-    if bytes_eq w (codes "drill") then of_one (λ n. option_map Drill (number 1000000000 n)) a.operands else None
+    if bytes_eq w (codes "once") then of_operands (λ image n. option_map (Once image) (number 1000000000 n)) a.operands else
+    if bytes_eq w (codes "export") then of_operands (λ store image. Some (Export store image)) a.operands else
+    if bytes_eq w (codes "clean") then of_operands (λ store image. Some (Clean store image)) a.operands else
+    if bytes_eq w (codes "condense") then of_operand (λ store. Some (Condense store)) a.operands else
+    if bytes_eq w (codes "session") then of_operand (λ store. Some (Session store)) a.operands else
+    if bytes_eq w (codes "build") then of_operands (λ kernel store. Some (Build kernel store)) a.operands else
+    if bytes_eq w (codes "drill") then of_operand (λ n. option_map Drill (number 1000000000 n)) a.operands else None
 
 -- the command that the words say; None of all other words
 abbrev pub command_of : List (List ℕ) → Option Command

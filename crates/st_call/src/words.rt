@@ -2,7 +2,7 @@ ghost use Rattle.std.specs.Prelude.{◌≡◌, Some, map, option_map};
 ghost use Rattle.std.specs.String.{string_bytes};
 ghost use Rattle.st_chunk.specs.Lines.{number};
 ghost use Rattle.st_call.specs.Words.{Once, Import, Export, Clean, Condense, Session, Build, Drill};
-ghost use Rattle.st_call.specs.Words.{of_one, of_two, has_values, command_named, command_of};
+ghost use Rattle.st_call.specs.Words.{of_operand, of_operands, has_values, command_named, command_of};
 ghost use Rattle.st_call.specs.CommandViews.{operands_view, arguments_view, command_view};
 
 use crate::arguments::{Arguments, Operands, read_arguments};
@@ -58,7 +58,8 @@ const LARGEST_OPERAND: u32 = 1_000_000_000;
 /// The command of `IMAGE N`.
 fn once(operands: Operands<'_>) -> Option<Command<'_>>
     ensures { option_map command_view result
-        ≡ of_two (λ image n. option_map (Once image) (number 1000000000 n)) (operands_view operands.entry) }
+        ≡ of_operands (λ image n. option_map (Once image) (number 1000000000 n))
+        (operands_view operands.entry) }
 {
     match operands {
         Operands::Two(image, number) => {
@@ -72,7 +73,7 @@ fn once(operands: Operands<'_>) -> Option<Command<'_>>
 /// The command of `IMAGE STORE`.
 fn import(over: HeadValues, operands: Operands<'_>) -> Option<Command<'_>>
     ensures { option_map command_view result
-        ≡ of_two (λ image store. Some (Import image store over)) (operands_view operands.entry) }
+        ≡ of_operands (λ image store. Some (Import image store over)) (operands_view operands.entry) }
 {
     match operands {
         Operands::Two(image, store) => Some(Command::Import { image, store, over }),
@@ -83,7 +84,7 @@ fn import(over: HeadValues, operands: Operands<'_>) -> Option<Command<'_>>
 /// The command of `STORE IMAGE`.
 fn export(operands: Operands<'_>) -> Option<Command<'_>>
     ensures { option_map command_view result
-        ≡ of_two (λ store image. Some (Export store image)) (operands_view operands.entry) }
+        ≡ of_operands (λ store image. Some (Export store image)) (operands_view operands.entry) }
 {
     match operands {
         Operands::Two(store, image) => Some(Command::Export { store, image }),
@@ -94,7 +95,7 @@ fn export(operands: Operands<'_>) -> Option<Command<'_>>
 /// The command of `STORE IMAGE`.
 fn clean(operands: Operands<'_>) -> Option<Command<'_>>
     ensures { option_map command_view result
-        ≡ of_two (λ store image. Some (Clean store image)) (operands_view operands.entry) }
+        ≡ of_operands (λ store image. Some (Clean store image)) (operands_view operands.entry) }
 {
     match operands {
         Operands::Two(store, image) => Some(Command::Clean { store, image }),
@@ -105,7 +106,7 @@ fn clean(operands: Operands<'_>) -> Option<Command<'_>>
 /// The command of `STORE`.
 fn condense(operands: Operands<'_>) -> Option<Command<'_>>
     ensures { option_map command_view result
-        ≡ of_one (λ store. Some (Condense store)) (operands_view operands.entry) }
+        ≡ of_operand (λ store. Some (Condense store)) (operands_view operands.entry) }
 {
     match operands {
         Operands::One(store) => Some(Command::Condense { store }),
@@ -116,7 +117,7 @@ fn condense(operands: Operands<'_>) -> Option<Command<'_>>
 /// The command of `STORE`.
 fn session(operands: Operands<'_>) -> Option<Command<'_>>
     ensures { option_map command_view result
-        ≡ of_one (λ store. Some (Session store)) (operands_view operands.entry) }
+        ≡ of_operand (λ store. Some (Session store)) (operands_view operands.entry) }
 {
     match operands {
         Operands::One(store) => Some(Command::Session { store }),
@@ -127,7 +128,7 @@ fn session(operands: Operands<'_>) -> Option<Command<'_>>
 /// The command of `KERNEL STORE`.
 fn build(operands: Operands<'_>) -> Option<Command<'_>>
     ensures { option_map command_view result
-        ≡ of_two (λ kernel store. Some (Build kernel store)) (operands_view operands.entry) }
+        ≡ of_operands (λ kernel store. Some (Build kernel store)) (operands_view operands.entry) }
 {
     match operands {
         Operands::Two(kernel, store) => Some(Command::Build { kernel, store }),
@@ -138,7 +139,7 @@ fn build(operands: Operands<'_>) -> Option<Command<'_>>
 /// The command of `N`.
 fn drill(operands: Operands<'_>) -> Option<Command<'_>>
     ensures { option_map command_view result
-        ≡ of_one (λ n. option_map Drill (number 1000000000 n)) (operands_view operands.entry) }
+        ≡ of_operand (λ n. option_map Drill (number 1000000000 n)) (operands_view operands.entry) }
 {
     match operands {
         Operands::One(number) => {

@@ -15,8 +15,8 @@ abbrev pub byte_of : ℕ → ℕ → ℕ
 byte_of w i = if i % 2 == 0 then w / 256 else w % 256
 
 -- these are the n bytes from place i on, of which the words from another place on have two each
-abbrev pub HasBytes : List ℕ → (at i n : ℕ) → List ℕ → Type 0
-HasBytes words at i n bytes = (k : ℕ) → k < n → slice_index bytes k ≡ byte_of (slice_index words (at + (i + k) / 2)) (i + k)
+abbrev pub ReadsBytes : List ℕ → (at i n : ℕ) → List ℕ → Type 0
+ReadsBytes words at i n bytes = (k : ℕ) → k < n → slice_index bytes k ≡ byte_of (slice_index words (at + (i + k) / 2)) (i + k)
 
 -- a word with another byte in that half
 abbrev pub with_byte : ℕ → ℕ → ℕ → ℕ

@@ -2,7 +2,7 @@
 #![tactic(auto)]
 
 ghost use Rattle.std.specs.Prelude.{◌≡◌, ℕ, ◌+◌, ◌<◌, ◌≤◌, ◌/◌, length, replicate, take, drop, slice_index, slice_set, IfOk};
-ghost use Rattle.st_cells.specs.Words.{slid, with_run, byte_of, HasBytes, with_byte, with_bytes};
+ghost use Rattle.st_cells.specs.Words.{slid, with_run, byte_of, ReadsBytes, with_byte, with_bytes};
 
 mod region;
 
@@ -80,7 +80,7 @@ impl Cells {
     /// the upper half.
     pub fn read_bytes(&self, at: u32, first: u32, into: &mut [u8])
         requires { at + (first + length into.old + 1) / 2 ≤ length self.now }
-        ensures { HasBytes self.now at first (length into.old) into.new }
+        ensures { ReadsBytes self.now at first (length into.old) into.new }
     {
         let words = self.region.words();
         for k in 0..into.len() {

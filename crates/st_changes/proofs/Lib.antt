@@ -13,3 +13,4 @@ pub mod Superseding
 pub mod Extending
 pub mod OtherFile
 pub mod KeptLast
+pub mod Indexing

@@ -35,6 +35,16 @@ entries_append (d ∷ ds) es = ap (λ (y : List ℕ). entry d ++ y) (entries_app
 
 -- THE ITEMS OF A LIST
 
+-- the first ones have no more bytes than all
+pub front_within : (listed : List declared.Definition) (n : ℕ) → length (entries (definitions_of (take n listed))) ≤ length (entries (definitions_of listed))
+front_within listed n =
+    let front : List Definition = definitions_of (take n listed) in
+    let back : List Definition = definitions_of (drop n listed) in
+    let e : front ++ back ≡ definitions_of listed = sym (map-append definition_of (take n listed) (drop n listed)) ∙ ap definitions_of (take-append-drop n listed) in
+    let all = ap (λ (ds : List Definition). length (entries ds)) e in
+    let both = ap length (entries_append front back) ∙ length-append (entries front) (entries back) in
+    omega (arith, all, both)
+
 module _ (listed : List declared.Definition) (i : ℕ) (x : declared.Definition) (less : i < length listed) (is : x ≡ get_or listed i x) where
   pub item_more : definitions_of (take (i + 1) listed) ≡ definitions_of (take i listed) ++ definition_of x ∷ []
   item_more = ap definitions_of (take_more listed i x less ∙ ap (λ (y : declared.Definition). take i listed ++ y ∷ []) (sym is)) ∙ map-append definition_of (take i listed) (x ∷ [])
@@ -45,14 +55,9 @@ module _ (listed : List declared.Definition) (i : ℕ) (x : declared.Definition)
 
   pub item_within : length (entries (definitions_of (take i listed))) + length (entry (definition_of x)) ≤ length (entries (definitions_of listed))
   item_within =
-      let front : List Definition = definitions_of (take (i + 1) listed) in
-      let back : List Definition = definitions_of (drop (i + 1) listed) in
-      let e : front ++ back ≡ definitions_of listed = sym (map-append definition_of (take (i + 1) listed) (drop (i + 1) listed)) ∙ ap definitions_of (take-append-drop (i + 1) listed) in
-      let all = ap (λ (ds : List Definition). length (entries ds)) e in
-      let both = ap length (entries_append front back) ∙ length-append (entries front) (entries back) in
       let more = ap (λ (ds : List Definition). length (entries ds)) item_more in
       let last = ap length (entries_more (definitions_of (take i listed)) (definition_of x)) ∙ length-append (entries (definitions_of (take i listed))) (entry (definition_of x)) in
-      omega (arith, all, both, more, last)
+      omega (arith, front_within listed (i + 1), more, last)
 
 -- WHERE A BASE STANDS
 

@@ -1,6 +1,8 @@
 -- The last definition of a class, a side of it and a selector, and where its text stands in the changes file.
-use Rattle.std.specs.Prelude.{◌≡◌, ℕ, ◌+◌, ◌-◌, ◌≤◌, Bool, List, ◌∷◌, ◌++◌, length, Option, Some, None, Ok, MatchOption, All}
-use Rattle.std.specs.Option.{ForSome}
+use Rattle.std.specs.Prelude.{◌≡◌, ℕ, ◌+◌, ◌-◌, ◌≤◌, Bool, List, ◌∷◌, ◌++◌, length, Option, Some, None, Ok, MatchOption, All, Vec}
+use Rattle.std.specs.Global.{Global}
+use Rattle.std.specs.Option.{ForSome, option_map}
+use Rattle.std.specs.List.{AllZip}
 use Rattle.st_scan.specs.Views.{MethodView}
 use Rattle.st_grammar.specs.Syntax.{syntax}
 use Rattle.st_chunk.specs.Texts.{doubled}
@@ -19,6 +21,17 @@ pub record HasSelector (text selector : List ℕ) : Type 0 where
 abbrev pub FindsSelector : List ℕ → Option (List ℕ) → Type 0
 FindsSelector text None = (selector : List ℕ) → HasSelector text selector → ⊥
 FindsSelector text (Some selector) = HasSelector text selector
+
+-- of each definition's text the selector was found, or it means no tree
+abbrev pub FindsEach : List Definition → List (Option (Vec ℕ Global)) → Type 0
+FindsEach ds selectors = AllZip (λ d s. FindsSelector d.text (option_map (λ v. v.items) s)) ds selectors
+
+-- the list ends with definitions of whose texts these are the selectors
+pub record FindsLast (ds : List Definition) (selectors : List (Option (Vec ℕ Global))) : Type 0 where
+  pub front : List Definition
+  pub behind : List Definition
+  pub is : ds ≡ front ++ behind
+  pub finds : FindsEach behind selectors
 
 -- a definition of this class, this side of it and this selector
 pub record IsOf (class : List ℕ) (meta : Bool) (selector : List ℕ) (d : Definition) : Type 0 where

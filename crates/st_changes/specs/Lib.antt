@@ -6,5 +6,6 @@ pub mod Last
 pub mod Readying
 pub mod States
 pub mod IndexStates
+pub mod Indexing
 pub mod Condensing
 pub mod Writing

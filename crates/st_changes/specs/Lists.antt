@@ -63,7 +63,7 @@ pub record EndsShort (bytes : List ℕ) (root : Root) (at : ℕ) : Type 0 where
   pub place : at ≡ length bytes
   pub short : at < root.length
 
--- Why these bytes of a changes file, of which this is the root, aren't loaded. The last two come from outside.
+-- Why these bytes of a changes file, of which this is the root, aren't loaded. Disk and OutOfMemory come from outside.
 abbrev pub RefusesChanges : List ℕ → Root → StoreFault → Type 0
 RefusesChanges bytes root (NotAStore (Changes at)) = IsDamaged bytes root.base at ⊎ EndsShort bytes root at
 RefusesChanges bytes root Disk = ⊤

@@ -1,5 +1,5 @@
 -- The list of a changes file's definitions as contracts see it, and how a store grows by one.
-use Rattle.std.specs.Prelude.{◌≡◌, ℕ, Bool, ◌+◌, ◌-◌, ◌^◌, ◌<◌, ◌≤◌, List, ◌++◌, length, Option}
+use Rattle.std.specs.Prelude.{◌≡◌, ℕ, Bool, ◌+◌, ◌-◌, ◌^◌, ◌<◌, ◌≤◌, List, ◌++◌, length, Option, None}
 use Rattle.std.specs.Option.{ForSome}
 use Rattle.st_chunk.specs.Definitions.{Definition, entry, entries}
 use Rattle.st_store.specs.Stored.{Stored, StoreState}
@@ -10,6 +10,10 @@ pub record ChangesState : Type 0 where
   pub second : Bool
   pub listed : List Definition
   pub reserved : Option (List ℕ)
+
+-- a list for which no entry is made ready
+abbrev pub unreserved : List ℕ → Bool → List Definition → ChangesState
+unreserved name second ds = record { name = name; second = second; listed = ds; reserved = None }
 
 -- the length of the entries of these definitions
 abbrev pub IsTotal : ℕ → List Definition → Type 0

@@ -23,5 +23,7 @@ pub use changes::Changes;
 pub use condensing::{CondenseFault, Condensed, condense};
 pub use definition::Definition;
 pub use laws::{condensing_keeps_last, one_damage, one_list};
-pub use loading::load;
+pub use listing::Listing;
+pub use loading::{load, read_listing};
+pub use selector::find_selector;
 pub use span::Span;

@@ -8,8 +8,7 @@ ghost use Rattle.st_chunk.specs.Definitions.{IsDefinition, entries};
 ghost use Rattle.st_changes.specs.Lists.{Lists, StandsAt, RefusesChanges, IsOfLoading, IsOutside, kept_changes};
 
 use crate::changes::Changes;
-use crate::listing::list;
-use crate::noting::index_all;
+use crate::listing::{Listing, list};
 use st_host::{Host, read_from};
 use st_store::{Store, StoreFault, StorePlace};
 use std::alloc::{AllocError, Global};
@@ -51,8 +50,12 @@ fn damaged(at: u64) -> StoreFault
     }
 }
 
-/// Reads the changes file of a store up to the length that its root has, and lists the definitions that it keeps.
-pub fn load<H: Host>(alloc: Global, host: &mut H, store: &Store) -> Result<Changes, StoreFault>
+/// Reads the changes file of a store up to the length that its root has, and lists the definitions that it keeps, without an index.
+pub fn read_listing<H: Host>(
+    alloc: Global,
+    host: &mut H,
+    store: &Store,
+) -> Result<Listing, StoreFault>
     ensures named { IfOk result (λ changes. changes.name ≡ store.now.name) }
     ensures second { IfOk result (λ changes. changes.second ≡ nat_lt 1 store.now.root.slot) }
     ensures good { IfOk result (λ changes. All IsDefinition changes.listed) }
@@ -73,15 +76,35 @@ pub fn load<H: Host>(alloc: Global, host: &mut H, store: &Store) -> Result<Chang
     let bytes = read_front(alloc, host, store.changes_name(), root.length)?;
     let end = bytes.len() as u64;
     match list(alloc, &bytes, root.base)? {
-        Ok(listed) if end == root.length => Ok(Changes {
-            name: owned(alloc, store.name())?,
-            second: root.slot > 1,
-            index: index_all(alloc, &listed)?,
+        Ok(listed) if end == root.length => Ok(Listing {
             listed,
             length: end,
-            ready: None,
+            name: owned(alloc, store.name())?,
+            second: root.slot > 1,
         }),
         Ok(_) => Err(damaged(end)),
         Err(at) => Err(damaged(at)),
     }
+}
+
+/// The same with an index, for which the text of each definition is parsed.
+pub fn load<H: Host>(alloc: Global, host: &mut H, store: &Store) -> Result<Changes, StoreFault>
+    ensures named { IfOk result (λ changes. changes.name ≡ store.now.name) }
+    ensures second { IfOk result (λ changes. changes.second ≡ nat_lt 1 store.now.root.slot) }
+    ensures good { IfOk result (λ changes. All IsDefinition changes.listed) }
+    ensures stands { IfOk result (λ changes. StandsAt changes.listed store.now.root.base) }
+    ensures listed { IfOk result (λ changes. IsTrue H.is_told
+        → Lists (kept_changes store.now (H.files host.old)) store.now.root.base changes.listed) }
+    ensures whole { IfOk result (λ changes. store.now.root.length ≡ length (entries changes.listed)) }
+    ensures refused { IfErr result (λ e. IsTrue H.is_told
+        → RefusesChanges (kept_changes store.now (H.files host.old)) store.now.root e) }
+    ensures kind { IfErr result IsOfLoading }
+    ensures alike { OnOk result (ReadsAlike H.Host.own host.old host.new) }
+    ensures reads { OnlyReads H.Host.own host.old host.new }
+    ensures only { ChangesFile H.Host.own (changes_file store.now.name store.now.root.slot) host.old
+        host.new }
+    ensures cause { FaultHasCause (H.disk_faults host.old) (H.disk_faults host.new) result }
+{
+    let listing = read_listing(alloc, host, store)?;
+    Ok(listing.index(alloc, &[])?)
 }

@@ -3,7 +3,7 @@ ghost use Rattle.std.specs.Prelude.{◌≡◌, ◌≤◌, ◌+◌, ◌<◌, ◌^
 ghost use Rattle.std.specs.Option.{option_map};
 ghost use Rattle.st_chunk.specs.Definitions.{Definition as Defined, IsDefinition, entry, entries};
 ghost use Rattle.st_changes.specs.{IndexStates.{found, HasName}, Views.{definition_of, definitions_of}};
-ghost use Rattle.st_changes.specs.Last.{IsPrepared, Answers, FindsSelector, span_of};
+ghost use Rattle.st_changes.specs.{Last.{IsPrepared, Answers, FindsSelector, FindsLast, span_of}, Indexing.Indexes};
 
 use crate::Definition;
 use crate::index::Index;
@@ -62,19 +62,66 @@ pub(crate) fn note(index: &mut Index, definition: &Definition, selector: &Option
     }
 }
 
-/// The index of the definitions that a changes file lists.
-pub(crate) fn index_all(alloc: Global, listed: &[Definition]) -> Result<Index, AllocError>
+/// An index of some definitions, and how many bytes their entries have.
+#[derive(Drop)]
+struct Indexed {
+    index: Index,
+    end: u64,
+}
+
+/// Indexes one definition more, of this selector, or of none where its text means no tree.
+fn add(
+    alloc: Global,
+    indexed: &mut Indexed,
+    definition: &Definition,
+    selector: &Option<Text>,
+) -> Result<(), AllocError>
+    requires good { IsDefinition (definition_of definition.now) }
+    requires finds { FindsSelector (definition_of definition.now).text
+        (option_map (λ v. v.items) selector.now) }
+    requires fits { indexed.old.end + length (entry (definition_of definition.now)) < 2 ^ 64 }
+    ensures { OnOk result ((ds : List Defined) → Indexes ds indexed.old
+        → Indexes (ds ++ definition_of definition.now ∷ []) indexed.new) }
+{
+    prepare(alloc, &mut indexed.index, definition, selector)?;
+    indexed.end += entry_length(definition);
+    note(&mut indexed.index, definition, selector, indexed.end);
+    Ok(())
+}
+
+/// Indexes definitions whose selectors aren't known, so that each text is parsed.
+fn index_parsed(alloc: Global, listed: &[Definition]) -> Result<Indexed, AllocError>
     requires good { All IsDefinition (definitions_of listed.now) }
     requires fits { length (entries (definitions_of listed.now)) < 2 ^ 64 }
-    ensures { IfOk result (λ index. Answers (definitions_of listed.now) (found index)) }
+    ensures { IfOk result (Indexes (definitions_of listed.now)) }
 {
-    let mut index = Index::new(alloc);
-    let mut end = 0;
+    let mut indexed = Indexed {
+        index: Index::new(alloc),
+        end: 0,
+    };
     for definition in listed {
         let selector = find_selector(alloc, &definition.text)?;
-        prepare(alloc, &mut index, definition, &selector)?;
-        end += entry_length(definition);
-        note(&mut index, definition, &selector, end);
+        add(alloc, &mut indexed, definition, &selector)?;
     }
-    Ok(index)
+    Ok(indexed)
+}
+
+/// The index of the definitions that a changes file lists: of the last ones by these selectors, of those before them by their
+/// texts, which are parsed.
+pub(crate) fn index_all(
+    alloc: Global,
+    listed: &[Definition],
+    selectors: &[Option<Text>],
+) -> Result<Index, AllocError>
+    requires good { All IsDefinition (definitions_of listed.now) }
+    requires fits { length (entries (definitions_of listed.now)) < 2 ^ 64 }
+    requires finds { FindsLast (definitions_of listed.now) selectors.now }
+    ensures { IfOk result (λ index. Answers (definitions_of listed.now) (found index)) }
+{
+    let front = listed.len() - selectors.len();
+    let mut indexed = index_parsed(alloc, &listed[..front])?;
+    for (i, selector) in selectors.iter().enumerate() {
+        add(alloc, &mut indexed, &listed[front + i], selector)?;
+    }
+    Ok(indexed.index)
 }

@@ -8,7 +8,7 @@ use st_scan::{MethodTree, SyntaxFault, Text};
 use std::alloc::{AllocError, Global};
 
 /// The selector of the tree that a method's text means, or none where it means none.
-pub(crate) fn find_selector(alloc: Global, text: &[u8]) -> Result<Option<Text>, AllocError>
+pub fn find_selector(alloc: Global, text: &[u8]) -> Result<Option<Text>, AllocError>
     requires { length text.now ≤ 2 ^ 32 - 2 }
     ensures { IfOk result (λ s. FindsSelector text.now (option_map (λ v. v.items) s)) }
 {

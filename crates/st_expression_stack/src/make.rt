@@ -243,7 +243,8 @@ fn with_blocks(
     first: StatementList,
     second: StatementList,
 ) -> Result<Expression, AllocError>
-    ensures { IfOk result (λ e. expression_view e ≡ blocks_to receiver selector.now first.items second.items) }
+    ensures { IfOk result (λ e. expression_view e
+        ≡ blocks_to receiver selector.now first.items second.items) }
 {
     let mut arguments: ExpressionList = Vec::new(alloc);
     let names: NameList = Vec::new(alloc);

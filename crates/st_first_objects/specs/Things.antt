@@ -1,5 +1,7 @@
 -- What the first objects are. Each is named by what it is, and, where there are several of that, by a name or a number.
+use denote.Enum.Bare.{sameb}
 use Rattle.std.specs.Prelude.{ℕ, ◌&&◌, nat_eq, bytes_eq, Bool, true, false, List, []}
+use Rattle.st_first_objects.specs.contracts.thing.What.{the_type}
 use Rattle.st_first_objects.specs.declared.thing.What.{What}
 use Rattle.st_first_objects.specs.declared.thing.What.TheVariants as what
 
@@ -29,39 +31,11 @@ class name = named what.Class name
 abbrev pub symbol : List ℕ → Thing
 symbol name = named what.Symbol name
 
--- each of what a thing can be by a number of its own
-abbrev pub rank : What → ℕ
-rank what.Nil = 0
-rank what.False = 1
-rank what.True = 2
-rank what.SchedulerAssociation = 3
-rank what.Selectors = 4
-rank what.Characters = 5
-rank what.Character = 6
-rank what.Symbols = 7
-rank what.SymbolTable = 8
-rank what.Globals = 9
-rank what.Class = 10
-rank what.Metaclass = 11
-rank what.Dictionary = 12
-rank what.Methods = 13
-rank what.MetaDictionary = 14
-rank what.MetaMethods = 15
-rank what.Symbol = 16
-rank what.Names = 17
-rank what.Variable = 18
-rank what.Pool = 19
-rank what.Shared = 20
-rank what.Global = 21
-rank what.Scheduler = 22
-rank what.Lists = 23
-rank what.List = 24
-
 abbrev pub is : What → Thing → Bool
-is w t = nat_eq (rank t.what) (rank w)
+is w t = sameb the_type t.what w
 
 abbrev pub same : Thing → Thing → Bool
-same a b = nat_eq (rank a.what) (rank b.what) && (bytes_eq a.name b.name && nat_eq a.number b.number)
+same a b = sameb the_type a.what b.what && (bytes_eq a.name b.name && nat_eq a.number b.number)
 
 -- it is an object that a class has
 abbrev pub is_of_class : What → Bool

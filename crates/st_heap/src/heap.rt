@@ -1,5 +1,5 @@
 ghost use Rattle.std.specs.Prelude.{◌≡◌, ◌≢◌, ◌+◌, ◌<◌, ◌≤◌, ◌/◌, ◌↔◌, length, replicate, take, drop, slice_index, slice_set, IfOk, IfSome, IfNone, IsTrue};
-ghost use Rattle.st_cells.specs.Words.{with_run, HasBytes, with_bytes};
+ghost use Rattle.st_cells.specs.Words.{with_run, ReadsBytes, with_bytes};
 ghost use Rattle.st_table.specs.Entries.{HasEntry, IsFree};
 ghost use Rattle.st_heap.specs.Blocks.{none, block, block_at, held, HoldsPlace, HoldsRun, IsLaid, IsTied, IsClosedBelow, IsAbove, IsBlock, given_back, moved, exchanged_blocks, exchanged_entries};
 
@@ -88,7 +88,7 @@ impl Heap {
     /// each, the first one in the upper half.
     pub fn read_bytes(&self, at: u32, first: u32, into: &mut [u8])
         requires { HoldsRun (blocks_of self.now) at ((first + length into.old + 1) / 2) }
-        ensures { HasBytes (words_of self.now) at first (length into.old) into.new }
+        ensures { ReadsBytes (words_of self.now) at first (length into.old) into.new }
     {
         self.words.read_bytes(at, first, into);
     }

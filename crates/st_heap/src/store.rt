@@ -1,6 +1,6 @@
 ghost use Rattle.std.specs.Prelude.{◌≡◌, ◌+◌, ◌≤◌, ◌<◌, ◌/◌, ◌↔◌, ℕ, Some, None, true, is_some, length, take, drop, slice_index, slice_index_or, slice_set, IfOk, IfSome, IfNone, IsTrue};
 ghost use Rattle.st_model.specs.declared.oop.Oop.{Oop as Pointer};
-ghost use Rattle.st_cells.specs.Words.{HasBytes, with_run, with_bytes};
+ghost use Rattle.st_cells.specs.Words.{ReadsBytes, with_run, with_bytes};
 ghost use Rattle.st_table.specs.Entries.{place};
 ghost use Rattle.st_heap.specs.Blocks.{held};
 ghost use Rattle.st_heap.specs.Heaps.{words_of, blocks_of};
@@ -157,7 +157,8 @@ impl Store {
         requires there { HasStored (stored_of self.now) o }
         requires range { 2 + (first + length into.old + 1) / 2
             ≤ length (stored (stored_of self.now) (place o)).cells }
-        ensures { HasBytes (stored (stored_of self.now) (place o)).cells 2 first (length into.old) into.new }
+        ensures { ReadsBytes (stored (stored_of self.now) (place o)).cells 2 first (length into.old)
+            into.new }
     {
         let at = self.table.entry(o).at;
         self.heap.read_bytes(at + 2, first, into);

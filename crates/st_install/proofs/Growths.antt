@@ -1,6 +1,7 @@
 -- A dictionary's growth, and what comes behind it.
 use Rattle.std.proofs.Common.{◌≡◌, ℕ, ◌+◌, List, [], ◌∷◌, ◌++◌, Bool, true, false, Some, None, Ok, Err, refl, sym, ap, ◌∙◌, length}
-use Rattle.std.specs.Prelude.{◌==◌, if◌then◌else◌}
+use Rattle.std.specs.Prelude.{◌==◌, if◌then◌else◌, not}
+use Rattle.std.specs.Bool.{then_some}
 use Rattle.st_model.specs.declared.dead.Dead.{Dead}
 use Rattle.st_model.specs.Values.{Value, value}
 use Rattle.st_model.specs.Machine.{State, Died, Went, Step, after, ◌>>=◌}
@@ -43,7 +44,7 @@ module _ (class : Value) (selector : Part) (next : ℕ) (t : Table) where
   not_grown dictionary f OutOfMemory g = tt
 
 -- the number of a grown dictionary, by how many objects are made for it
-pub number_if : (b : Bool) (n : ℕ) (next : ℕ) → n ≡ (if b then 2 else 0) → (if n == 0 then None else Some next) ≡ (if b then Some next else None)
+pub number_if : (b : Bool) (n : ℕ) (next : ℕ) → n ≡ (if b then 2 else 0) → then_some (not (n == 0)) next ≡ (if b then Some next else None)
 number_if true n next e = rw e refl
 number_if false n next e = rw e refl
 

@@ -23,12 +23,21 @@ use Rattle.st_chunk.specs.Definitions.{Definition}
 use Rattle.st_protocol.specs.declared.refusal.Refusal.{Refusal}
 use Rattle.st_protocol.specs.Installing.{Refused, Accepted}
 use Rattle.st_grammar.specs.Syntax.{syntax}
-use Rattle.st_install.specs.Defining.{of_syntax, of_code, of_install, Prepared, with_plan, prepare_code, prepare_under, prepare_tree, prepare_in, prepare, carry_out, define, outcome_of, installed}
+use Rattle.st_install.specs.Defining.{of_syntax, of_code, of_install, Prepared, on_ok_by, on_ok, prepare, carry_out, define, outcome_of, installed}
 
 module _ {H A B : Type 0} where
   then_at : (m : Step H A) (f : A → Step H B) (a : A) (s t : State H) → m.run s ≡ Went a t → (m >>= f).run s ≡ (f a).run t
   unfolding ◌>>=◌ after
   then_at m f a s t e = rw e refl
+
+module _ {H A B E : Type 0} (says : E → Refusal) (m : Step H (Result A E)) (f : A → Step H (Result B Refusal)) (s : State H) where
+  pub refuses_at : (fault : E) → m.run s ≡ Went (Err fault) s → (on_ok says m f).run s ≡ Went (Err (says fault)) s
+  unfolding on_ok answer
+  refuses_at fault e = then_at m (on_ok_by says f) (Err fault) s s e
+
+  pub goes_at : (a : A) → m.run s ≡ Went (Ok a) s → (on_ok says m f).run s ≡ (f a).run s
+  unfolding on_ok
+  goes_at a e = then_at m (on_ok_by says f) (Ok a) s s e
 
 module _ (s : State Births) (d : Definition) where
   -- what is prepared is refused, or carried out
@@ -44,42 +53,41 @@ module _ (s : State Births) (d : Definition) where
 
   -- how far it comes
 
+  told : {A : Type 0} (a b : A) → a ≡ b → (answer {H = Births} a).run s ≡ Went b s
+  unfolding answer
+  told a b e = ap (λ x. Went x s) e
+
   no_class : (fault : InstallFault) → (class_of_name births s.head d.class d.meta).run s ≡ Went (Err fault) s → (prepare births s.head d).run s ≡ Went (Err (of_install fault)) s
-  unfolding prepare prepare_in answer
-  no_class fault e = then_at _ (prepare_in births s.head d) (Err fault) s s e
+  unfolding prepare
+  no_class fault e = refuses_at of_install _ _ s fault e
 
   module _ (class : Value) (found : (class_of_name births s.head d.class d.meta).run s ≡ Went (Ok class) s) where
     no_tree : (fault : syntax_fault.Fault) → syntax d.text ≡ Err fault → (prepare births s.head d).run s ≡ Went (Err (of_syntax fault)) s
-    unfolding prepare prepare_in prepare_tree answer
-    no_tree fault e = then_at _ (prepare_in births s.head d) (Ok class) s s found ∙ ap (λ r. (prepare_tree births s.head d class r).run s) e
+    unfolding prepare
+    no_tree fault e = goes_at of_install _ _ s class found ∙ refuses_at of_syntax _ _ s fault (told _ _ e)
 
     module _ (tree : MethodView) (reads : syntax d.text ≡ Ok tree) where
-      to_tree : (prepare births s.head d).run s ≡ (prepare_tree births s.head d class (Ok tree)).run s
-      unfolding prepare prepare_in
-      to_tree = then_at _ (prepare_in births s.head d) (Ok class) s s found ∙ ap (λ r. (prepare_tree births s.head d class r).run s) reads
-
       no_names : (fault : InstallFault) → (names births s.head class d.meta tree).run s ≡ Went (Err fault) s → (prepare births s.head d).run s ≡ Went (Err (of_install fault)) s
-      unfolding prepare_tree prepare_under answer
-      no_names fault e = to_tree ∙ then_at _ (prepare_under births s.head d class tree) (Err fault) s s e
+      unfolding prepare
+      no_names fault e = goes_at of_install _ _ s class found ∙ goes_at of_syntax _ _ s tree (told _ _ reads) ∙ refuses_at of_install _ _ s fault e
 
       module _ (seen : NamesView) (sees : (names births s.head class d.meta tree).run s ≡ Went (Ok seen) s) where
-        to_code : (r : Result PartsView code_fault.Fault) → code tree seen ≡ r → (prepare births s.head d).run s ≡ (prepare_code births s.head d class r).run s
-        unfolding prepare_tree prepare_under
-        to_code r e = to_tree ∙ then_at _ (prepare_under births s.head d class tree) (Ok seen) s s sees ∙ ap (λ x. (prepare_code births s.head d class x).run s) e
-
         no_code : (fault : code_fault.Fault) → code tree seen ≡ Err fault → (prepare births s.head d).run s ≡ Went (Err (of_code fault)) s
-        unfolding prepare_code answer
-        no_code fault e = to_code (Err fault) e
+        unfolding prepare
+        no_code fault e = goes_at of_install _ _ s class found ∙ goes_at of_syntax _ _ s tree (told _ _ reads) ∙ goes_at of_install _ _ s seen sees
+            ∙ refuses_at of_code _ _ s fault (told _ _ e)
 
         module _ (parts : PartsView) (coded : code tree seen ≡ Ok parts) where
           no_plan : (fault : InstallFault) → (ready births s.head class d.class d.meta parts).run s ≡ Went (Err fault) s → (prepare births s.head d).run s ≡ Went (Err (of_install fault)) s
-          unfolding prepare_code answer
-          no_plan fault e = to_code (Ok parts) coded ∙ then_at _ (λ r. answer (with_plan parts.selector r)) (Err fault) s s e
+          unfolding prepare
+          no_plan fault e = goes_at of_install _ _ s class found ∙ goes_at of_syntax _ _ s tree (told _ _ reads) ∙ goes_at of_install _ _ s seen sees
+              ∙ goes_at of_code _ _ s parts (told _ _ coded) ∙ refuses_at of_install _ _ s fault e
 
           a_plan : (p : Plan) → (ready births s.head class d.class d.meta parts).run s ≡ Went (Ok p) s
               → (prepare births s.head d).run s ≡ Went (Ok (record { selector = parts.selector; plan = p })) s
-          unfolding prepare_code answer
-          a_plan p e = to_code (Ok parts) coded ∙ then_at _ (λ r. answer (with_plan parts.selector r)) (Ok p) s s e
+          unfolding prepare answer
+          a_plan p e = goes_at of_install _ _ s class found ∙ goes_at of_syntax _ _ s tree (told _ _ reads) ∙ goes_at of_install _ _ s seen sees
+              ∙ goes_at of_code _ _ s parts (told _ _ coded) ∙ goes_at of_install _ _ s p e
 
 -- FROM THE TABLE: each exit of an installation
 

@@ -7,7 +7,6 @@ use Rattle.std.specs.Char.{is_ascii_alphanumeric}
 use Rattle.std.proofs.lemmas.Bool.{and_parts, and_from}
 use Rattle.std.proofs.lemmas.Bool.Decides.{nat_tests}
 use Rattle.std.proofs.lemmas.List.Folds.{list_all-append}
-use Rattle.st_model.specs.Values.{Value}
 use Rattle.st_model.specs.Machine.{State, Transition, Died, Went, Step, answer, after, ◌>>=◌, ◌>>◌}
 use Rattle.st_model.specs.Births.{Births, births}
 use Rattle.st_scan.specs.declared.fault.Fault as syntax_fault
@@ -20,16 +19,12 @@ use Rattle.st_grammar.proofs.FormedTrees.{means_formed}
 use Rattle.st_emit.specs.Names.{NamesView}
 use Rattle.st_code.specs.declared.fault.Fault as code_fault
 use Rattle.st_code.specs.Methods.{fault, parts_or}
-use Rattle.st_scope.specs.declared.fault.InstallFault.{InstallFault}
-use Rattle.st_scope.specs.Calls.{class_of_name, names}
-use Rattle.st_install.specs.Calls.{ready}
 use Rattle.st_install.specs.Installing.{install}
-use Rattle.st_install.specs.Plans.{Plan}
 use Rattle.st_chunk.specs.Definitions.{Definition}
 use Rattle.st_protocol.specs.declared.refusal.Refusal.{Refusal}
 use Rattle.st_protocol.specs.Installing.{Accepted}
 use Rattle.st_grammar.specs.Syntax.{IsSyntax, syntax}
-use Rattle.st_install.specs.Defining.{Prepared, with_plan, prepare_code, prepare_under, prepare_tree, prepare_in, prepare, carry_out, define, outcome_of, installed}
+use Rattle.st_install.specs.Defining.{of_syntax, of_code, of_install, Prepared, on_ok_by, on_ok, prepare, carry_out, define, outcome_of, installed}
 use Rattle.st_grammar.proofs.Syntaxes.{is}
 
 -- no line ends in it
@@ -109,47 +104,49 @@ module _ {H : Type 0} where
   unfolding ◌>>=◌
   gives_then P Q m f s h k = gives_after P Q (m.run s) f h k
 
+-- where something came, it is so
+abbrev Came : {A E : Type 0} → (A → Type 0) → Result A E → Type 0
+Came P (Err why) = Unit {0}
+Came P (Ok a) = P a
+
+module _ {H : Type 0} where
+  came_any : {A E : Type 0} (o : Transition (State H) (Result A E)) → Gives (Came Any) o
+  came_any (Died cause) = tt
+  came_any (Went (Err why) s) = tt
+  came_any (Went (Ok a) s) = tt
+
+  gives_on : {A B E : Type 0} (P : A → Type 0) (Q : B → Type 0) (says : E → Refusal) (m : Step H (Result A E)) (f : A → Step H (Result B Refusal)) (s : State H)
+      → Gives (Came P) (m.run s) → ((a : A) (t : State H) → P a → Gives (Came Q) ((f a).run t)) → Gives (Came Q) ((on_ok says m f).run s)
+  unfolding on_ok answer
+  gives_on {A = A} {E = E} P Q says m f s h k = gives_then (Came P) (Came Q) m (on_ok_by says f) s h over
+    where
+      over : (r : Result A E) (t : State H) → Came P r → Gives (Came Q) ((on_ok_by says f r).run t)
+      over (Err why) t c = tt
+      over (Ok a) t c = k a t c
+
 abbrev IsPrepared : Result Prepared Refusal → Type 0
-IsPrepared (Err why) = Unit {0}
-IsPrepared (Ok p) = IsInLine p.selector
+IsPrepared r = Came (λ p. IsInLine p.selector) r
 
 abbrev IsAnswered : Result (List ℕ) Refusal → Type 0
-IsAnswered (Err why) = Unit {0}
-IsAnswered (Ok selector) = IsInLine selector
+IsAnswered r = Came IsInLine r
 
-planned : (selector : List ℕ) (r : Result Plan InstallFault) → IsInLine selector → IsPrepared (with_plan selector r)
-planned selector (Err f) h = tt
-planned selector (Ok plan) h = h
+in_tree : (text : List ℕ) (r : Result MethodView syntax_fault.Fault) → IsSyntax text r → Came (λ tree. IsInLine tree.selector) r
+in_tree text (Err f) h = tt
+in_tree text (Ok tree) h = selector_in_line text tree h
+
+in_code : (tree : MethodView) (seen : NamesView) (o : Option code_fault.Fault) → IsInLine tree.selector → Came (λ parts. IsInLine parts.selector) (parts_or tree seen o)
+in_code tree seen (Some f) h = tt
+in_code tree seen None h = h
 
 module _ (s : State Births) (d : Definition) where
-  by_parts : (class : Value) (tree : MethodView) (seen : NamesView) (o : Option code_fault.Fault) (t : State Births) → IsInLine tree.selector
-      → Gives IsPrepared ((prepare_code births s.head d class (parts_or tree seen o)).run t)
-  unfolding prepare_code answer
-  by_parts class tree seen (Some f) t h = tt
-  by_parts class tree seen None t h =
-      gives_then Any IsPrepared (ready births s.head class d.class d.meta _) _ t (gives_any _) (λ r u any. planned tree.selector r h)
-
-  by_names : (class : Value) (tree : MethodView) (r : Result NamesView InstallFault) (t : State Births) → IsInLine tree.selector
-      → Gives IsPrepared ((prepare_under births s.head d class tree r).run t)
-  unfolding prepare_under answer
-  by_names class tree (Err f) t h = tt
-  by_names class tree (Ok seen) t h = by_parts class tree seen (fault tree seen) t h
-
-  by_tree : (class : Value) (r : Result MethodView syntax_fault.Fault) (t : State Births) → IsSyntax d.text r
-      → Gives IsPrepared ((prepare_tree births s.head d class r).run t)
-  unfolding prepare_tree answer
-  by_tree class (Err f) t h = tt
-  by_tree class (Ok tree) t h =
-      gives_then Any IsPrepared (names births s.head class d.meta tree) (prepare_under births s.head d class tree) t (gives_any _) (λ r u any. by_names class tree r u (selector_in_line d.text tree h))
-
-  by_class : (r : Result Value InstallFault) (t : State Births) → Gives IsPrepared ((prepare_in births s.head d r).run t)
-  unfolding prepare_in answer
-  by_class (Err f) t = tt
-  by_class (Ok class) t = by_tree class (syntax d.text) t (is d.text)
-
   prepared : Gives IsPrepared ((prepare births s.head d).run s)
-  unfolding prepare
-  prepared = gives_then Any IsPrepared (class_of_name births s.head d.class d.meta) (prepare_in births s.head d) s (gives_any _) (λ r u any. by_class r u)
+  unfolding prepare answer
+  prepared =
+      gives_on Any _ of_install _ _ s (came_any _) λ class t any.
+      gives_on (λ tree. IsInLine tree.selector) _ of_syntax _ _ t (in_tree d.text (syntax d.text) (is d.text)) λ tree u h.
+      gives_on Any _ of_install _ _ u (came_any _) λ seen v any.
+      gives_on (λ parts. IsInLine parts.selector) _ of_code _ _ v (in_code tree seen (fault tree seen) h) λ parts w g.
+      gives_on Any _ of_install _ _ w (came_any _) λ plan x any. g
 
   carried : (r : Result Prepared Refusal) (t : State Births) → IsPrepared r → Gives IsAnswered ((carry_out births r).run t)
   unfolding carry_out answer ◌>>◌

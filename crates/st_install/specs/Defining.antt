@@ -1,17 +1,14 @@
 -- What comes of a definition: it is tested in the order NoGlobals, NoClass, the text's syntax, the shape of class and symbol table,
 -- the method's code, the table of characters and the size of what is replaced, and room; and then it is installed.
 use Rattle.std.specs.Prelude.{ℕ, List, Result, Ok, Err}
-use Rattle.st_model.specs.Values.{Value}
 use Rattle.st_model.specs.Machine.{ObjectMemory, Head, State, Transition, Died, Went, Step, answer, ◌>>=◌, ◌>>◌}
 use Rattle.st_model.specs.Births.{Births, births}
 use Rattle.st_model.specs.Settled.{reclaim}
 use Rattle.st_scan.specs.declared.fault.Fault as syntax_fault
 use Rattle.st_scan.specs.TreeFaults as syntax_faults
-use Rattle.st_scan.specs.Views.{MethodView}
-use Rattle.st_emit.specs.Names.{NamesView}
 use Rattle.st_code.specs.declared.fault.Fault as code_fault
 use Rattle.st_code.specs.Reported as code_faults
-use Rattle.st_code.specs.Methods.{PartsView, code}
+use Rattle.st_code.specs.Methods.{code}
 use Rattle.st_scope.specs.declared.fault.InstallFault.{InstallFault}
 use Rattle.st_scope.specs.declared.fault.InstallFault.TheVariants as fault
 use Rattle.st_install.specs.Plans.{Plan}
@@ -46,37 +43,25 @@ pub record Prepared : Type 0 where
   pub selector : List ℕ
   pub plan : Plan
 
-abbrev pub with_plan : List ℕ → Result Plan InstallFault → Result Prepared Refusal
-with_plan selector (Err fault) = Err (of_install fault)
-with_plan selector (Ok plan) = Ok (record { selector = selector; plan = plan })
+module _ {H : Type 0} where
+  -- a fault ends it as a refusal, which `says` gives, or it goes on with what came
+  abbrev pub on_ok_by : {A B E : Type 0} → (E → Refusal) → (A → Step H (Result B Refusal)) → Result A E → Step H (Result B Refusal)
+  on_ok_by says f (Err fault) = answer (Err (says fault))
+  on_ok_by says f (Ok a) = f a
+
+  unfoldable pub on_ok : {A B E : Type 0} → (E → Refusal) → Step H (Result A E) → (A → Step H (Result B Refusal)) → Step H (Result B Refusal)
+  on_ok says m f = m >>= on_ok_by says f
 
 module _ {H : Type 0} (m : ObjectMemory H) where
-  module _ (head : Head) (d : Definition) where
-    -- the code of the method
-    unfoldable pub prepare_code : Value → Result PartsView code_fault.Fault → Step H (Result Prepared Refusal)
-    prepare_code class (Err fault) = answer (Err (of_code fault))
-    prepare_code class (Ok parts) = do
-      plan ← ready m head class d.class d.meta parts
-      answer (with_plan parts.selector plan)
-
-    -- a tree, and the names that it sees
-    unfoldable pub prepare_under : Value → MethodView → Result NamesView InstallFault → Step H (Result Prepared Refusal)
-    prepare_under class tree (Err fault) = answer (Err (of_install fault))
-    prepare_under class tree (Ok seen) = prepare_code class (code tree seen)
-
-    -- the tree of the text
-    unfoldable pub prepare_tree : Value → Result MethodView syntax_fault.Fault → Step H (Result Prepared Refusal)
-    prepare_tree class (Err fault) = answer (Err (of_syntax fault))
-    prepare_tree class (Ok tree) = names m head class d.meta tree >>= prepare_under class tree
-
-    -- the class
-    unfoldable pub prepare_in : Result Value InstallFault → Step H (Result Prepared Refusal)
-    prepare_in (Err fault) = answer (Err (of_install fault))
-    prepare_in (Ok class) = prepare_tree class (syntax d.text)
-
-    -- a refusal, or what is to be installed; nothing changes
-    unfoldable pub prepare : Step H (Result Prepared Refusal)
-    prepare = class_of_name m head d.class d.meta >>= prepare_in
+  -- a refusal, or what is to be installed; nothing changes
+  unfoldable pub prepare : Head → Definition → Step H (Result Prepared Refusal)
+  prepare head d =
+      on_ok of_install (class_of_name m head d.class d.meta) λ class.
+      on_ok of_syntax (answer (syntax d.text)) λ tree.
+      on_ok of_install (names m head class d.meta tree) λ seen.
+      on_ok of_code (answer (code tree seen)) λ parts.
+      on_ok of_install (ready m head class d.class d.meta parts) λ plan.
+      answer (Ok (record { selector = parts.selector; plan = plan }))
 
   -- what is prepared is installed; the method's selector
   unfoldable pub carry_out : Result Prepared Refusal → Step H (Result (List ℕ) Refusal)

@@ -9,8 +9,6 @@ use Rattle.st_model.specs.Steps.{of_page, class_of, same_value, fetch_field, sto
 use Rattle.st_model.specs.Lookup.{half_word}
 use Rattle.st_install.specs.Plans.{Part, There, Made, NewObject, pointers_object}
 
--- PLACES
-
 -- the search ends at a place that holds what is sought, or at nil, or it has gone through all places
 pub data Ending : Type 0 where
   Holds : ℕ → Ending
@@ -22,8 +20,7 @@ ends_at k true is_nil otherwise = answer (Holds k)
 ends_at k false true otherwise = answer (Vacant k)
 ends_at k false false otherwise = otherwise
 
--- GROWTH
-
+-- a count, with one more where this is so
 abbrev pub one_more_if : Bool → ℕ → ℕ
 one_more_if true n = suc n
 one_more_if false n = n
@@ -33,14 +30,14 @@ abbrev pub dictionary_objects : (class tally array_class nil : Value) → (place
 dictionary_objects class tally array_class nil places next =
     pointers_object class (There tally ∷ Made next ∷ replicate places (There nil)) ∷ pointers_object array_class (replicate places (There nil)) ∷ []
 
--- ADDITION
-
 -- one more, but 16383 stays; no tally is anything but a SmallInteger
 abbrev pub raised_tally : Value → Value
 raised_tally (Small n) = if n == 16383 then Small n else Small ((n + 1) % 32768)
 raised_tally (Ref n) = Ref n
 
 module _ {H : Type 0} (m : ObjectMemory H) where
+  -- PLACES
+
   unfoldable pub seek_at : Value → Value → ℕ → Step H Ending → Step H Ending
   seek_at dictionary sought k otherwise = do
     s ← fetch_field m dictionary (2 + k)
@@ -73,6 +70,8 @@ module _ {H : Type 0} (m : ObjectMemory H) where
   -- where the search for a selector ends
   unfoldable pub place_of_selector : Value → Value → Step H Ending
   place_of_selector dictionary selector = seek dictionary selector selector
+
+  -- GROWTH
 
   -- of so many places from k on, those that hold nil
   unfoldable pub count_vacant : Value → ℕ → ℕ → Step H ℕ
@@ -110,6 +109,8 @@ module _ {H : Type 0} (m : ObjectMemory H) where
     nil ← of_page m NilObject
     answer (dictionary_objects class tally array_class nil (2 * places) (next + 1))
 
+  -- ADDITION
+
   -- a selector and its method, at place k
   unfoldable pub put_method : Value → Value → ℕ → Value → Value → Step H Unit
   put_method dictionary methods k selector method = do
@@ -121,6 +122,8 @@ module _ {H : Type 0} (m : ObjectMemory H) where
     methods ← fetch_field m dictionary 1
     put_method dictionary methods k selector method
   put_at dictionary selector method _ = die dead.Places
+
+  -- REFILLING
 
   unfoldable pub refill_unless : Value → Value → ℕ → Value → Bool → Step H Unit
   refill_unless old new k selector true = answer tt

@@ -11,8 +11,6 @@ use Rattle.st_model.specs.Steps.{of_page, fetch_field, store_field, store_fields
 use Rattle.st_install.specs.Plans.{Part, There, Made, NewObject, Store, Plan}
 use Rattle.st_install.specs.Dictionaries.{Ending, Holds, Vacant, Nowhere, place_of_selector, put_method, refill, raised_tally}
 
--- OBJECTS
-
 -- how many fields, words or bytes it has; a Method's header and literals count as bytes
 abbrev pub size_by : Kind → NewObject → ℕ
 size_by kind.Pointers o = length o.fields
@@ -32,7 +30,7 @@ abbrev pub part_values : (nil : Value) → List Value → List Part → List Val
 part_values nil made [] = []
 part_values nil made (p ∷ ps) = part_value nil made p ∷ part_values nil made ps
 
--- what a plan comes to, once its objects are made
+-- where the stores go, once a plan's objects are made
 pub record Placing : Type 0 where
   pub dictionary : Value
   pub methods : Value
@@ -40,6 +38,8 @@ pub record Placing : Type 0 where
   pub end : Ending
 
 module _ {H : Type 0} (m : ObjectMemory H) where
+  -- OBJECTS
+
   unfoldable pub make_new : NewObject → Step H Value
   make_new o = make m o.class o.kind (size_by o.kind o) (literals_by o.kind o)
 

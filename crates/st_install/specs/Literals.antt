@@ -28,8 +28,7 @@ as_it_is p = record { part = p; objects = [] }
 abbrev pub made_as : ℕ → NewObject → Placed
 made_as next o = record { part = Made next; objects = o ∷ [] }
 
--- NUMBERS
-
+-- the SmallInteger of a number of this size with a minus sign
 abbrev pub negated : ℕ → Value
 negated zero = Small 0
 negated (suc k) = small_integer (negsuc k)
@@ -38,17 +37,19 @@ negated (suc k) = small_integer (negsuc k)
 abbrev pub large_bytes : ℕ → List ℕ
 large_bytes k = bytes_within 16 k
 
+-- a Symbol, as the plan for the symbols has it
 unfoldable pub place_symbol : {H : Type 0} → List NamedSymbol → List ℕ → Step H Placed
 place_symbol symbols text = do
   part ← or_die dead.Field (symbol_part symbols text)
   answer (as_it_is part)
 
--- LITERALS
-
+-- a literal that was placed, before others
 abbrev pub then_placed : Placed → PlacedAll → PlacedAll
 then_placed p ps = record { parts = p.part ∷ ps.parts; objects = p.objects ++ ps.objects }
 
 module _ {H : Type 0} (m : ObjectMemory H) where
+  -- NUMBERS
+
   unfoldable pub place_size : ℕ → ℕ → Bool → Step H Placed
   place_size next size true = answer (as_it_is (There (Small size)))
   place_size next size false = do
@@ -99,6 +100,8 @@ module _ {H : Type 0} (m : ObjectMemory H) where
     kind ← class_of m association
     nil ← of_page m NilObject
     answer (made_as next (pointers_object kind (There nil ∷ There class ∷ [])))
+
+-- LITERALS
 
 abbrev pub none_placed : PlacedAll
 none_placed = record { parts = []; objects = [] }

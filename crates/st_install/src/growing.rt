@@ -1,9 +1,9 @@
 //! How a method dictionary grows for a selector (chapter 27).
 
-ghost use Rattle.std.specs.Prelude.{◌≡◌, ◌<◌, ◌≤◌, ◌∷◌, length, replicate, IfOk};
-ghost use Rattle.st_model.specs.{Values.value, Steps.same_value, Table.table, Calls.{Reads, itself}};
+ghost use Rattle.std.specs.Prelude.{◌≡◌, ◌<◌, ◌∷◌, length, replicate, IfOk};
+ghost use Rattle.st_model.specs.{Values.value, Table.table, Calls.{Reads, itself}};
 ghost use Rattle.st_install.specs.Plans.{There};
-ghost use Rattle.st_install.specs.Dictionaries.{one_more_if, count_vacant, is_nearly_full, grows_for, grown_objects};
+ghost use Rattle.st_install.specs.Dictionaries.{count_vacant, is_nearly_full, grows_for, grown_objects};
 ghost use Rattle.st_install.specs.{Readies.{part_of, parts_of}, Naming.nil, Growing.{objects_in, Grows}};
 ghost use Rattle.st_scope.specs.Findings.{Finds};
 
@@ -15,15 +15,6 @@ use st_model::{Dead, Oop};
 use st_scope::{Unread, class_of, fetch_field};
 use std::alloc::{AllocError, Global};
 
-/// 1 where it is nil, and else 0.
-#[tactic(auto, using(crate::proofs::Vacancies::vacancies))]
-fn one_if_nil(o: Oop) -> u32
-    ensures one { result ≡ one_more_if (same_value (value o) nil) 0 }
-    ensures small { result ≤ 1 }
-{
-    if o.0 == 2 { 1 } else { 0 }
-}
-
 /// How many of so many places hold nil.
 fn count_vacant<M: Memory>(m: &M, dictionary: Oop, places: u32) -> Result<u32, Dead>
     requires { places < 262144 }
@@ -32,7 +23,7 @@ fn count_vacant<M: Memory>(m: &M, dictionary: Oop, places: u32) -> Result<u32, D
 {
     let mut vacant = 0;
     for k in 0..places {
-        vacant += one_if_nil(fetch_field(m, dictionary, 2 + k)?);
+        vacant += u32::from(fetch_field(m, dictionary, 2 + k)?.0 == 2);
     }
     Ok(vacant)
 }

@@ -1,6 +1,6 @@
 //! What the installation of a method makes and stores, in order: Symbols, the other literals, the method, and a dictionary.
 
-ghost use Rattle.std.specs.Prelude.{◌≡◌, ◌==◌, ◌≤◌, ◌<◌, Some, None, length, IfOk, if◌then◌else◌};
+ghost use Rattle.std.specs.Prelude.{◌≡◌, ◌<◌, IfOk};
 ghost use Rattle.st_model.specs.{Values.value, Table.table};
 ghost use Rattle.st_code.specs.MethodDrafts.{parts_view};
 ghost use Rattle.st_install.specs.{Readies.{part_of, object_of, plan_of, HasRoom}, Carried.HasSmallBodies};
@@ -36,13 +36,6 @@ pub(crate) struct Growth {
     pub objects: Vec<NewObject>,
 }
 
-/// The number of a grown dictionary, if one was made.
-fn grown_number(grown: &[NewObject], next: u32) -> Option<u32>
-    ensures { result ≡ (if length grown.now == 0 then None else Some next) }
-{
-    if grown.len() == 0 { None } else { Some(next) }
-}
-
 /// The dictionary of a class and how it grows for a selector, where its next object has a number.
 fn growth_of<M: Memory>(
     alloc: Global,
@@ -56,7 +49,7 @@ fn growth_of<M: Memory>(
 {
     let dictionary = fetch_field(m, class, 1)?;
     let objects = grown_for(alloc, m, dictionary, selector, next)?;
-    let number = grown_number(&objects, next);
+    let number = (!objects.is_empty()).then_some(next);
     Ok(Growth {
         dictionary,
         number,

@@ -3,7 +3,7 @@
 ghost use Rattle.std.specs.{Prelude.{◌≡◌, ◌<◌, ◌∷◌, None, length, OnOk}, List.position_or_len};
 ghost use Rattle.st_model.specs.{Values.value, Table.table};
 ghost use Rattle.st_emit.specs.Views.{literal_view, literals_view};
-ghost use Rattle.st_install.specs.Symbols.{is_vacant, grown_size, symbol_part, symbols_of, symbols_in, with_symbol, symbols_for};
+ghost use Rattle.st_install.specs.Symbols.{is_vacant, symbol_part, symbols_of, symbols_in, with_symbol, symbols_for};
 ghost use Rattle.st_install.specs.{Readies.{part_of, parts_of}, Told.named_of};
 ghost use Rattle.st_install.specs.Naming.{nil, Becomes, with_named, in_field, in_array, with_made, naming, TellsFields, TellsNaming, TellsNames};
 
@@ -53,14 +53,6 @@ fn vacant_field(fields: &[Part]) -> usize
     fields.len()
 }
 
-/// Twice as many, at least 16.
-fn grown_size(n: usize) -> usize
-    requires { n < 9223372036854775808 }
-    ensures { result ≡ grown_size n }
-{
-    if n < 8 { 16 } else { 2 * n }
-}
-
 /// Notes the Symbol of a text of which none is noted.
 fn note(alloc: Global, plan: &mut SymbolPlan, text: &[u8], symbol: Part) -> Result<(), AllocError>
     requires { symbol_part (named_of plan.old.named.entries) text.now ≡ None }
@@ -96,7 +88,7 @@ fn put_in_array(
 ) -> Result<(), AllocError>
     ensures { OnOk result (Becomes (in_array association (part_of symbol)) plan.old plan.new) }
 {
-    let size = grown_size(plan.fields.len());
+    let size = (2 * plan.fields.len()).max(16);
     plan.fields.push(symbol)?;
     plan.fields.resize(size, Part::There(Oop::NIL))?;
     let fields = plan.fields.to_vec(alloc)?;

@@ -1,17 +1,18 @@
 -- The first objects: nothing but the root page refers to the scheduler's association, and nothing but that to the scheduler.
-use Rattle.std.proofs.Common.{◌≡◌, ℕ, zero, suc, ◌+◌, ◌<◌, Bool, true, false, List, [], ◌∷◌, ◌++◌, length, Some, refl, sym, ap, ◌∙◌, arith}
-use Rattle.std.specs.Prelude.{slice_get, get_or, map, filter, replicate, not, ◌&&◌, ◌||◌, nat_eq, codes, if◌then◌else◌}
+use denote.Enum.Bare.{sameb, same_true}
+use Rattle.std.proofs.Common.{◌≡◌, ℕ, zero, suc, ◌+◌, ◌<◌, Bool, true, false, List, [], ◌∷◌, ◌++◌, length, Some, refl, sym, ap, subst, ◌∙◌, arith}
+use Rattle.std.specs.Prelude.{slice_get, get_or, map, filter, replicate, not, ◌&&◌, ◌||◌, codes, if◌then◌else◌}
 use Rattle.std.specs.List.{AllByRecursion, position, position_or_len, list_any}
 use Rattle.std.proofs.lemmas.Bool.{lt-ltb}
-use Rattle.std.proofs.lemmas.Bool.Decides.{nat_tests}
 use Rattle.std.proofs.lemmas.List.Quantifiers.{position-Some}
 use Rattle.std.proofs.lemmas.Option.{slice_get-get_or}
 use Rattle.st_kernel_text.specs.declared.shape.Shape.{Shape}
 use Rattle.st_kernel_text.specs.declared.shape.Shape.TheVariants as shape
 use Rattle.st_kernel_text.specs.Parts.{Part}
+use Rattle.st_first_objects.specs.contracts.thing.What.{the_type}
 use Rattle.st_first_objects.specs.declared.thing.What.{What}
 use Rattle.st_first_objects.specs.declared.thing.What.TheVariants as what
-use Rattle.st_first_objects.specs.Things.{Thing, only, named, within, rank, is, same, class as class_thing}
+use Rattle.st_first_objects.specs.Things.{Thing, only, named, within, is, same, class as class_thing}
 use Rattle.st_first_objects.specs.Classes.{declared, is_nil}
 use Rattle.st_first_objects.specs.Orders.{Order, put, is_made, with_symbol, want, want_all, empty, page, characters, want_parts, selectors, selector_symbols, lists, first_things, order, numbered_from}
 use Rattle.st_first_objects.specs.Plans.{Plan}
@@ -22,7 +23,7 @@ use Rattle.st_first_objects.proofs.Complete.{got_before, page_begins}
 -- ORDINARY THINGS: neither the association nor the scheduler
 
 abbrev pub is_ordinary : What → Bool
-is_ordinary w = not (nat_eq (rank w) 3) && not (nat_eq (rank w) 22)
+is_ordinary w = not (sameb the_type w what.SchedulerAssociation) && not (sameb the_type w what.Scheduler)
 
 abbrev pub IsOrdinary : Thing → Type 0
 IsOrdinary t = is_ordinary t.what ≡ true
@@ -41,14 +42,11 @@ both_true : (a b : Bool) → (a && b) ≡ true → a ≡ true
 both_true true b e = refl
 both_true false b e = cc
 
-same_rank : (m n : ℕ) → nat_eq m n ≡ true → m ≡ n
-same_rank m n e = grind (arith, nat_tests)
-
-ranked : (a b : What) → nat_eq (rank a) (rank b) ≡ true → is_ordinary b ≡ true → is_ordinary a ≡ true
-ranked a b e h = ap (λ n. not (nat_eq n 3) && not (nat_eq n 22)) (same_rank (rank a) (rank b) e) ∙ h
+alike : (a b : What) → sameb the_type a b ≡ true → is_ordinary b ≡ true → is_ordinary a ≡ true
+alike a b e h = subst (λ w. is_ordinary w ≡ true) (sym (same_true the_type tt a b e)) h
 
 pub same_ordinary : (a b : Thing) → same a b ≡ true → IsOrdinary a → IsOrdinary b
-same_ordinary a b e h = ap (λ n. not (nat_eq n 3) && not (nat_eq n 22)) (sym (same_rank (rank a.what) (rank b.what) (both_true _ _ e))) ∙ h
+same_ordinary a b e h = subst (λ w. is_ordinary w ≡ true) (same_true the_type tt a.what b.what (both_true _ _ e)) h
 
 -- LISTS
 
@@ -137,8 +135,8 @@ content_to p what.Selectors name number h = selectors_to selectors
 content_to p what.Characters name number h = characters_to
 content_to p what.Character name number h = (tt, tt)
 content_to p what.Symbols name number h = (tt, (refl, tt))
-content_to p what.SymbolTable name number h = padded_to number _ (members_to p (is what.Symbol) (λ t e. ranked t.what what.Symbol e refl))
-content_to p what.Globals name number h = members_to p (is what.Global) (λ t e. ranked t.what what.Global e refl)
+content_to p what.SymbolTable name number h = padded_to number _ (members_to p (is what.Symbol) (λ t e. alike t.what what.Symbol e refl))
+content_to p what.Globals name number h = members_to p (is what.Global) (λ t e. alike t.what what.Global e refl)
 content_to p what.Class name number h = (superclass_to (declared p.classes name).above, (refl, (tt, (tt, (refl, (tt, (refl, (refl, (tt, tt)))))))))
 content_to p what.Metaclass name number h = (meta_to (declared p.classes name).above, (refl, (tt, (tt, (tt, (tt, (refl, tt)))))))
 content_to p what.Dictionary name number h = (tt, (refl, eight_to))
@@ -148,7 +146,7 @@ content_to p what.MetaMethods name number h = eight_to
 content_to p what.Symbol name number h = tt
 content_to p what.Names name number h = all_to _ (variables_to (declared p.classes name).number (declared p.classes name).variables)
 content_to p what.Variable name number h = tt
-content_to p what.Pool name number h = members_to p (is_shared_of p name) (λ t e. ranked t.what what.Shared (both_true _ _ e) refl)
+content_to p what.Pool name number h = members_to p (is_shared_of p name) (λ t e. alike t.what what.Shared (both_true _ _ e) refl)
 content_to p what.Shared name number h = (refl, (tt, tt))
 content_to p what.Global name number h = (refl, (refl, tt))
 content_to p what.Scheduler name number h = cc
@@ -246,39 +244,9 @@ position_of t xs e = let l = lt-ltb (position_or_len (same t) xs) (length xs) (f
 pub at_position : (t : Thing) (xs : List Thing) (i : ℕ) → position (same t) xs ≡ Some i → (y : Thing) × (slice_get xs i ≡ Some y) × (same t y ≡ true)
 at_position t xs i e = let h = position-Some (same t) xs i t e in (get_or xs i t, slice_get-get_or xs i t h.0, h.1)
 
-pub not_ordinary : (y : Thing) → same (only what.Scheduler) y ≡ true → IsOrdinary y → ⊥
-not_ordinary y e h =
-    let q : 22 ≡ rank y.what = same_rank 22 (rank y.what) (both_true _ _ e) in
-    let r : not (nat_eq 22 3) && not (nat_eq 22 22) ≡ true = ap (λ n. not (nat_eq n 3) && not (nat_eq n 22)) q ∙ h in
-    cc
-
-by_rank : (w : What) → 22 ≡ rank w → w ≡ what.Scheduler
-by_rank what.Nil e = absurd (omega (arith, e))
-by_rank what.False e = absurd (omega (arith, e))
-by_rank what.True e = absurd (omega (arith, e))
-by_rank what.SchedulerAssociation e = absurd (omega (arith, e))
-by_rank what.Selectors e = absurd (omega (arith, e))
-by_rank what.Characters e = absurd (omega (arith, e))
-by_rank what.Character e = absurd (omega (arith, e))
-by_rank what.Symbols e = absurd (omega (arith, e))
-by_rank what.SymbolTable e = absurd (omega (arith, e))
-by_rank what.Globals e = absurd (omega (arith, e))
-by_rank what.Class e = absurd (omega (arith, e))
-by_rank what.Metaclass e = absurd (omega (arith, e))
-by_rank what.Dictionary e = absurd (omega (arith, e))
-by_rank what.Methods e = absurd (omega (arith, e))
-by_rank what.MetaDictionary e = absurd (omega (arith, e))
-by_rank what.MetaMethods e = absurd (omega (arith, e))
-by_rank what.Symbol e = absurd (omega (arith, e))
-by_rank what.Names e = absurd (omega (arith, e))
-by_rank what.Variable e = absurd (omega (arith, e))
-by_rank what.Pool e = absurd (omega (arith, e))
-by_rank what.Shared e = absurd (omega (arith, e))
-by_rank what.Global e = absurd (omega (arith, e))
-by_rank what.Scheduler e = refl
-by_rank what.Lists e = absurd (omega (arith, e))
-by_rank what.List e = absurd (omega (arith, e))
-
 -- what is the same as the scheduler is one
 pub is_scheduler : (y : Thing) → same (only what.Scheduler) y ≡ true → y.what ≡ what.Scheduler
-is_scheduler y e = by_rank y.what (same_rank 22 (rank y.what) (both_true _ _ e))
+is_scheduler y e = sym (same_true the_type tt what.Scheduler y.what (both_true _ _ e))
+
+pub not_ordinary : (y : Thing) → same (only what.Scheduler) y ≡ true → IsOrdinary y → ⊥
+not_ordinary y e h = let q : is_ordinary what.Scheduler ≡ true = subst (λ w. is_ordinary w ≡ true) (is_scheduler y e) h in cc

@@ -13,22 +13,20 @@ use Rattle.st_model.proofs.BirthLemmas.{borne_before, object_within}
 use Rattle.st_model.proofs.SettledLemmas.{settled-borne, object_born-settled}
 use Rattle.st_simulation.specs.Laws.{Runs}
 use Rattle.st_simulation.proofs.Same.{Anything, IsLiveOption}
-use Rattle.st_scan.specs.declared.fault.Fault as syntax_fault
 use Rattle.st_scan.specs.Views.{MethodView}
 use Rattle.st_emit.specs.Names.{NamesView}
-use Rattle.st_code.specs.declared.fault.Fault as code_fault
 use Rattle.st_code.specs.Methods.{PartsView, code}
-use Rattle.st_scope.specs.declared.fault.InstallFault.{InstallFault}
-use Rattle.st_scope.specs.Calls.{class_of_name}
 use Rattle.st_chunk.specs.Definitions.{Definition}
 use Rattle.st_protocol.specs.declared.refusal.Refusal.{Refusal}
 use Rattle.st_protocol.specs.Installing.{Accepted}
 use Rattle.st_install.specs.Plans.{Plan}
 use Rattle.st_grammar.specs.Syntax.{syntax}
 use Rattle.st_install.specs.Installing.{install}
+use Rattle.st_install.specs.Calls.{ready}
 use Rattle.st_install.specs.SamePlans.{IsLiveClass}
 use Rattle.st_install.specs.Same.{RunsOn, IsReady}
-use Rattle.st_install.specs.Defining.{prepare_code, prepare_under, prepare_tree, prepare_in, prepare, with_plan, Prepared, carry_out, define, outcome_of, installed}
+use Rattle.st_install.specs.Defining.{of_syntax, of_code, of_install, Prepared, on_ok, prepare, carry_out, define, outcome_of, installed}
+use Rattle.st_install.proofs.Joining.{refuses_at, goes_at}
 use Rattle.st_install.proofs.SameCalls.{class_shows, names_show, ready_shows}
 use Rattle.st_install.proofs.SameHeaders.{code_header}
 use Rattle.st_install.proofs.SameInstalls.{install_shows, install_settles}
@@ -46,10 +44,6 @@ pub record Holds (z : Fixed) (s : State Births) : Type 1 where
   pub symbols : IsLiveOption among z.head.symbols
   pub table : State Table
   pub runs : Runs table s
-
-then_at : {A B : Type 0} (m : Step Births A) (f : A → Step Births B) (a : A) (s t : State Births) → m.run s ≡ Went a t → (m >>= f).run s ≡ (f a).run t
-unfolding ◌>>=◌ after
-then_at m f a s t e = rw e refl
 
 length-settled : (h : Births) (keep : ℕ → Bool) → length (settled_births h keep) ≡ length h
 length-settled [] keep = refl
@@ -99,54 +93,46 @@ module _ (z : Fixed) (s : State Births) (holds : Holds z s) (d : Definition) (se
     ran_so p text (Died cause) f e = cc
     ran_so p text (Went a t) f e = let q : t ≡ u = cc in f ∙ ap (λ w. Went tt w) q
 
-    by_plan : (text : List ℕ) (r : Result Plan InstallFault) → ((p : Plan) → r ≡ Ok p → IsReady p s × IsPlanIn K p) → Goal (Went (with_plan text r) s)
+    by_plan : (text : List ℕ) (p : Plan) → IsReady p s → IsPlanIn K p → Goal (Went (Ok (record { selector = text; plan = p })) s)
     unfolding carry_out ◌>>◌ ◌>>=◌ after
-    by_plan text (Err fault) h e = refused _ e
-    by_plan text (Ok p) h e =
-        let k = h p refl in
-        record { plan = p; is_ready = k.0; plan_in = k.1; ran = ran_so p text ((install births p).run s) refl e }
+    by_plan text p is_ready plan_in e = record { plan = p; is_ready = is_ready; plan_in = plan_in; ran = ran_so p text ((install births p).run s) refl e }
 
-    module _ (class : Value) (class_in : IsLive K class) (class_kept : IsLive (IsKept s.memory) class) where
-      by_code : (tree : MethodView) (seen : NamesView) (r : Result PartsView code_fault.Fault) → code tree seen ≡ r → Goal ((prepare_code births s.head d class r).run s)
-      unfolding prepare_code answer
-      by_code tree seen (Err fault) f e = refused _ e
-      by_code tree seen (Ok parts) f e =
-          let header = code_header tree seen parts f in
-          let l = ready_shows class d.class d.meta parts holds.table s holds.runs.shows class_kept header in
-          let k = told s K holds.guarded.leads _ _ l.answer
-          (ready_keeps K (Here s) (here_leads s K holds.guarded.leads) s.head (subst (λ (a : Head). IsLiveOption K a.globals) (sym holds.guarded.head) holds.globals)
-          (subst (λ (a : Head). IsLiveOption K a.symbols) (sym holds.guarded.head) holds.symbols) class class_in d.class d.meta parts) l.born in
-          by_plan parts.selector l.answer
-          (λ p q. (
-            record { class = class; name = d.class; meta = d.meta; parts = parts; kept = class_kept; header = header; ready = l.born ∙ ap (λ a. Went a s) q },
-            subst (IsReadyIn K) q k,
-          ))
-          (ap carried (sym (then_at _ (λ r. answer (with_plan parts.selector r)) l.answer s s l.born)) ∙ e)
+    -- a fault is refused, or it goes on with what came
+    on : {A E : Type 0} (says : E → Refusal) (m : Step Births (Result A E)) (f : A → Step Births (Result Prepared Refusal)) (r : Result A E) → m.run s ≡ Went r s
+        → ((a : A) → r ≡ Ok a → Goal ((f a).run s)) → Goal ((on_ok says m f).run s)
+    on says m f (Err fault) is go e = refused (says fault) (ap carried (sym (refuses_at says m f s fault is)) ∙ e)
+    on says m f (Ok a) is go e = go a refl (ap carried (sym (goes_at says m f s a is)) ∙ e)
 
-      by_names : (tree : MethodView) (r : Result NamesView InstallFault) → Goal ((prepare_under births s.head d class tree r).run s)
-      unfolding prepare_under answer
-      by_names tree (Err fault) e = refused _ e
-      by_names tree (Ok seen) e = by_code tree seen (code tree seen) refl e
+    globals_in : IsLiveOption K s.head.globals
+    globals_in = subst (λ (a : Head). IsLiveOption K a.globals) (sym holds.guarded.head) holds.globals
 
-      by_tree : (r : Result MethodView syntax_fault.Fault) → Goal ((prepare_tree births s.head d class r).run s)
-      unfolding prepare_tree answer
-      by_tree (Err fault) e = refused _ e
-      by_tree (Ok tree) e =
-          let l = names_show class d.meta tree holds.table s holds.runs.shows class_kept in
-          by_names tree l.answer (ap carried (sym (then_at _ (prepare_under births s.head d class tree) l.answer s s l.born)) ∙ e)
+    symbols_in : IsLiveOption K s.head.symbols
+    symbols_in = subst (λ (a : Head). IsLiveOption K a.symbols) (sym holds.guarded.head) holds.symbols
 
-    by_class : (r : Result Value InstallFault) → IsLiveClass K r → IsLiveClass (IsKept s.memory) r → Goal ((prepare_in births s.head d r).run s)
-    unfolding prepare_in answer
-    by_class (Err fault) h k e = refused _ e
-    by_class (Ok class) h k e = by_tree class h k (syntax d.text) e
+    by_parts : (class : Value) → IsLive K class → IsLive (IsKept s.memory) class → (tree : MethodView) (seen : NamesView) (parts : PartsView) → code tree seen ≡ Ok parts
+        → Goal ((on_ok of_install (ready births s.head class d.class d.meta parts) (λ plan. answer (Ok (record { selector = parts.selector; plan = plan })))).run s)
+    unfolding answer
+    by_parts class class_in kept tree seen parts coded =
+        let header = code_header tree seen parts coded in
+        let l = ready_shows class d.class d.meta parts holds.table s holds.runs.shows kept header in
+        let k = told s K holds.guarded.leads _ _ l.answer
+        (ready_keeps K (Here s) (here_leads s K holds.guarded.leads) s.head globals_in symbols_in class class_in d.class d.meta parts) l.born in
+        on of_install _ _ l.answer l.born (λ plan q. by_plan parts.selector plan
+        (record { class = class; name = d.class; meta = d.meta; parts = parts; kept = kept; header = header; ready = l.born ∙ ap (λ a. Went a s) q })
+        (subst (IsReadyIn K) q k))
 
     defined : (define births s.head d).run s ≡ Went (Ok selector) u → Installs u
-    unfolding define prepare ◌>>=◌
-    defined e =
+    unfolding define prepare ◌>>=◌ answer
+    defined =
         let l = class_shows d.class d.meta holds.table s holds.runs.shows in
-        let k = told s K holds.guarded.leads _ _ l.answer
-        (class_of_name_keeps K (Here s) (here_leads s K holds.guarded.leads) s.head d.class d.meta (subst (λ (a : Head). IsLiveOption K a.globals) (sym holds.guarded.head) holds.globals)) l.born in
-        by_class l.answer k l.kept (ap carried (sym (then_at (class_of_name births s.head d.class d.meta) (prepare_in births s.head d) l.answer s s l.born)) ∙ e)
+        let k = told s K holds.guarded.leads _ _ l.answer (class_of_name_keeps K (Here s) (here_leads s K holds.guarded.leads) s.head d.class d.meta globals_in) l.born in
+        on of_install _ _ l.answer l.born λ class found.
+        let kept : IsLive (IsKept s.memory) class = subst (IsLiveClass (IsKept s.memory)) found l.kept in
+        on of_syntax _ _ (syntax d.text) refl λ tree reads.
+        let n = names_show class d.meta tree holds.table s holds.runs.shows kept in
+        on of_install _ _ n.answer n.born λ seen sees.
+        on of_code _ _ (code tree seen) refl λ parts coded.
+        by_parts class (subst (IsLiveClass K) found k) kept tree seen parts coded
 
   -- what is left, before and after all that nothing supports is dropped
 

@@ -15,15 +15,12 @@ use Rattle.st_scope.specs.Tables.{member_named}
 use Rattle.st_install.specs.Symbols.{symbol_named}
 use Rattle.st_kernel_text.specs.Parts.{Start}
 
--- WHAT IS MADE
-
 -- The words on the stack of a new context are the temporary variables. With flag 6 a header has the number of a variable in place
 -- of their count; there are none.
 abbrev pub first_words : Value → ℕ
 first_words header = if flag_of header == 6 then 0 else temporary_count header
 
--- THE BEGINNING
-
+-- where process and context were made, the registers are fetched
 unfoldable pub fetch_if : Bool → Step Table Bool
 fetch_if false = answer false
 fetch_if true = fetch_scheduled_registers table >> answer true
@@ -62,6 +59,8 @@ module _ {H : Type 0} (m : ObjectMemory H) where
     class ← class_of m receiver
     selector ← symbol_of head text
     unary_method class selector
+
+  -- WHAT IS MADE
 
   -- the instruction pointer of the first bytecode as it is stored, the stack pointer, the method and the receiver; all else is nil
   unfoldable pub fill_first_context : (context method header receiver : Value) → Step H Unit
@@ -102,6 +101,8 @@ module _ {H : Type 0} (m : ObjectMemory H) where
     process ← new_object m class 4
     nil ← of_page m NilObject
     if same_value process nil then answer false else in_new_context process method receiver
+
+-- THE BEGINNING
 
 -- The receiver is a global's value, the process an instance of the global Process. It answers whether there was room for process and
 -- context. Where there was, a machine can begin: its registers are fetched from the scheduler's process.

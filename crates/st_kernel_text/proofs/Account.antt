@@ -1,6 +1,7 @@
 -- The account of a text: it has no more parts than bytes, and its methods have the form of definitions.
 use Rattle.std.proofs.Common.{◌≡◌, ◌≤◌, ◌+◌, ℕ, List, [], ◌∷◌, ◌++◌, length, refl, sym, ap, subst, arith, length-append}
 use Rattle.std.specs.Prelude.{Bool, true, false, ◌&&◌, ◌==◌, nat_le, Option, Some, None, option_map, Result, Ok, Err, if◌then◌else◌, codes}
+use Rattle.std.specs.Option.{option_zip}
 use Rattle.std.proofs.lemmas.Bool.Decides.{leb_tells}
 use Rattle.st_chunk.specs.Texts.{mark, most, cut_behind, behind_mark, cut, is_empty}
 use Rattle.st_chunk.specs.Feeding.{start as fed_none}
@@ -17,7 +18,7 @@ use Rattle.st_kernel_text.specs.declared.keyword.Keyword.TheVariants.{Class, Poo
 use Rattle.st_kernel_text.specs.declared.cause.Cause.{Cause}
 use Rattle.st_kernel_text.specs.Words.{words, is_word, names_in}
 use Rattle.st_kernel_text.specs.Parts.{Side, Part, class, pool, global, opening, header, method, closing, start}
-use Rattle.st_kernel_text.specs.Forms.{keyword_named, shape_named, class_with, class_in, pool_with, pool_in, global_in, start_in, start_by, declaration_by, by_words, side_of, part_at, formed_at, behind_part}
+use Rattle.st_kernel_text.specs.Forms.{keyword_named, shape_named, class_in, pool_in, global_in, start_in, start_by, declaration_by, by_words, side_of, part_at, formed_at, behind_part}
 use Rattle.st_kernel_text.specs.Known.{Known, nothing, known_behind}
 use Rattle.st_kernel_text.specs.Texts.{Account, read_part, behind, account_from, account}
 use Rattle.st_kernel_text.specs.Definitions.{definition_by, AreDefinitions}
@@ -114,11 +115,15 @@ other_if : (b : Bool) (x : Option Part) → IsOther x → IsOther (if b then x e
 other_if true x other = other
 other_if false x other = tt
 
-class_with_other : (name above : List ℕ) (shape : Option Shape) (variables : Option (List (List ℕ))) → IsOther (class_with name above shape variables)
-class_with_other name above (Some shape) (Some variables) = tt
-class_with_other name above (Some shape) None = tt
-class_with_other name above None (Some variables) = tt
-class_with_other name above None None = tt
+map_other : {A : Type 0} (f : A → Part) → ((a : A) → IsOther (Some (f a))) → (x : Option A) → IsOther (option_map f x)
+map_other f other None = tt
+map_other f other (Some a) = other a
+
+abbrev class_of : (name above : List ℕ) → Shape × List (List ℕ) → Part
+class_of name above of = class (record { name = name; above = above; shape = of.0; variables = of.1 })
+
+abbrev pool_of : (name : List ℕ) → List (List ℕ) → Part
+pool_of name variables = pool (record { class = name; variables = variables })
 
 class_in_other : (ws : List (List ℕ)) → IsOther (class_in ws)
 class_in_other [] = tt
@@ -126,16 +131,13 @@ class_in_other (a ∷ []) = tt
 class_in_other (a ∷ b ∷ []) = tt
 class_in_other (a ∷ b ∷ c ∷ []) = tt
 class_in_other (name ∷ link ∷ above ∷ kind ∷ names) =
-    other_if ((is_name name && is_word (codes "super") link) && is_name above) (class_with name above (shape_named kind) (names_in names))
-    (class_with_other name above (shape_named kind) (names_in names))
-
-pool_with_other : (name : List ℕ) (variables : Option (List (List ℕ))) → IsOther (pool_with name variables)
-pool_with_other name (Some variables) = tt
-pool_with_other name None = tt
+    other_if ((is_name name && is_word (codes "super") link) && is_name above)
+    (option_map (class_of name above) (option_zip (shape_named kind) (names_in names)))
+    (map_other (class_of name above) (λ of. tt) (option_zip (shape_named kind) (names_in names)))
 
 pool_in_other : (ws : List (List ℕ)) → IsOther (pool_in ws)
 pool_in_other [] = tt
-pool_in_other (name ∷ names) = other_if (is_name name) (pool_with name (names_in names)) (pool_with_other name (names_in names))
+pool_in_other (name ∷ names) = other_if (is_name name) (option_map (pool_of name) (names_in names)) (map_other (pool_of name) (λ variables. tt) (names_in names))
 
 global_in_other : (ws : List (List ℕ)) → IsOther (global_in ws)
 global_in_other [] = tt

@@ -1,5 +1,7 @@
 -- The form of a kernel text: declarations, then groups, then the start.
 use Rattle.std.specs.Prelude.{ℕ, ◌&&◌, nat_le, List, [], ◌∷◌, length, codes, Option, Some, None, option_map, if◌then◌else◌}
+use Rattle.std.specs.Option.{option_zip}
+use Rattle.std.specs.Map.{lookup}
 use Rattle.st_chunk.specs.Texts.{most, is_empty}
 use Rattle.st_chunk.specs.Groups.{is_name, trimmed, header_of, Header}
 use Rattle.st_kernel_text.specs.declared.shape.Shape.{Shape}
@@ -15,39 +17,27 @@ use Rattle.st_kernel_text.specs.Parts.{Side, Part, class, pool, global, opening,
 
 abbrev pub shape_named : List ℕ → Option Shape
 shape_named word =
-    if is_word (codes "fixed") word then Some Fixed
-    else (if is_word (codes "indexed") word then Some Indexed
-    else (if is_word (codes "words") word then Some Words
-    else (if is_word (codes "bytes") word then Some Bytes else None)))
+    lookup (is_word word) ((codes "fixed", Fixed) ∷ (codes "indexed", Indexed) ∷ (codes "words", Words) ∷ (codes "bytes", Bytes) ∷ [])
 
 -- with which word a declaration, or the start, begins
 abbrev pub keyword_named : List ℕ → Option Keyword
 keyword_named word =
-    if is_word (codes "class") word then Some Class
-    else (if is_word (codes "pool") word then Some Pool
-    else (if is_word (codes "global") word then Some Global
-    else (if is_word (codes "start") word then Some Start else None)))
+    lookup (is_word word) ((codes "class", Class) ∷ (codes "pool", Pool) ∷ (codes "global", Global) ∷ (codes "start", Start) ∷ [])
 
 -- NAME super NAME KIND names
-abbrev pub class_with : (name above : List ℕ) → Option Shape → Option (List (List ℕ)) → Option Part
-class_with name above (Some shape) (Some variables) = Some (class (record { name = name; above = above; shape = shape; variables = variables }))
-class_with name above _ _ = None
-
 abbrev pub class_by : (name link above kind : List ℕ) → List (List ℕ) → Option Part
 class_by name link above kind names =
-    if (is_name name && is_word (codes "super") link) && is_name above then class_with name above (shape_named kind) (names_in names) else None
+    if (is_name name && is_word (codes "super") link) && is_name above
+    then option_map (λ of. class (record { name = name; above = above; shape = of.0; variables = of.1 })) (option_zip (shape_named kind) (names_in names))
+    else None
 
 abbrev pub class_in : List (List ℕ) → Option Part
 class_in (name ∷ link ∷ above ∷ kind ∷ names) = class_by name link above kind names
 class_in _ = None
 
 -- NAME names
-abbrev pub pool_with : (name : List ℕ) → Option (List (List ℕ)) → Option Part
-pool_with name (Some variables) = Some (pool (record { class = name; variables = variables }))
-pool_with name None = None
-
 abbrev pub pool_in : List (List ℕ) → Option Part
-pool_in (name ∷ names) = if is_name name then pool_with name (names_in names) else None
+pool_in (name ∷ names) = if is_name name then option_map (λ variables. pool (record { class = name; variables = variables })) (names_in names) else None
 pool_in _ = None
 
 -- NAME

@@ -1,7 +1,10 @@
 -- What is declared so far, and what may be declared, or named, behind it.
-use Rattle.std.specs.Prelude.{ℕ, ◌+◌, nat_le, nat_eq, bytes_eq, ◌&&◌, Bool, true, false, List, [], ◌∷◌, ◌++◌, length, codes, Option, Some, None, is_some, Result, Ok, Err, if◌then◌else◌}
+use denote.Enum.Bare.{sameb}
+use Rattle.std.specs.Prelude.{ℕ, ◌+◌, nat_le, nat_eq, bytes_eq, ◌&&◌, Bool, true, false, List, [], ◌∷◌, ◌++◌, length, codes, Option, Some, None, is_some, option_map, option_and_then, ok_or, Result, Ok, Err, if◌then◌else◌}
 use Rattle.std.specs.List.{list_all, list_any}
+use Rattle.std.specs.Option.{option_map_or}
 use Rattle.std.specs.Map.{lookup}
+use Rattle.st_kernel_text.specs.contracts.shape.Shape.{the_type}
 use Rattle.st_kernel_text.specs.declared.shape.Shape.{Shape}
 use Rattle.st_kernel_text.specs.declared.shape.Shape.TheVariants.{Fixed, Indexed, Words, Bytes}
 use Rattle.st_kernel_text.specs.declared.place.Place.{Place}
@@ -60,101 +63,70 @@ most_fields Bytes = 0
 
 -- DECLARATIONS
 
-abbrev pub fields_of : Option Named → Option ℕ
-fields_of (Some (AClass layout)) = Some layout.fields
-fields_of _ = None
+abbrev pub layout_in : Named → Option Layout
+layout_in (AClass layout) = Some layout
+layout_in Global = None
+
+-- the layout of the class of this name, if it is declared
+abbrev pub layout_of : Known → List ℕ → Option Layout
+layout_of k name = option_and_then layout_in (named k name)
 
 -- how many fields a class inherits, if its superclass is nil or a class
 abbrev pub inherited : Known → List ℕ → Option ℕ
-inherited k above = if is_word (codes "nil") above then Some 0 else fields_of (named k above)
+inherited k above = if is_word (codes "nil") above then Some 0 else option_map (λ layout. layout.fields) (layout_of k above)
 
 abbrev pub with_name : Known → List ℕ → Named → Known
-with_name k name n = record { names = k.names ++ (name, n) ∷ []; fields = k.fields; shared = k.shared }
-
-abbrev pub class_layout : Known → Class → (fields : ℕ) → Layout
-class_layout k c fields = record { number = length k.names; shape = c.shape; fields = fields }
+with_name k name n = record k { names = k.names ++ (name, n) ∷ [] }
 
 -- a class with so many fields in all
 abbrev pub with_layout : Known → Class → (fields : ℕ) → List (ℕ × List ℕ) → Result Known Cause
 with_layout k c fields all =
     if nat_le fields (most_fields c.shape)
-    then Ok (with_name (record { names = k.names; fields = all; shared = k.shared }) c.name (AClass (class_layout k c fields)))
+    then Ok (with_name (record k { fields = all }) c.name (AClass (record { number = length k.names; shape = c.shape; fields = fields })))
     else Err Variables
 
-abbrev pub with_inherited : Known → Class → Option ℕ → Result Known Cause
-with_inherited k c None = Err Name
-with_inherited k c (Some fields) = and_then (with_layout k c (fields + length c.variables)) (with_variables (length k.names) c.variables k.fields)
+-- a class whose superclass has so many fields
+abbrev pub with_inherited : Known → Class → (fields : ℕ) → Result Known Cause
+with_inherited k c fields = and_then (with_layout k c (fields + length c.variables)) (with_variables (length k.names) c.variables k.fields)
 
 abbrev pub with_class : Known → Class → Result Known Cause
-with_class k c = if is_known k c.name then Err Name else with_inherited k c (inherited k c.above)
+with_class k c = if is_known k c.name then Err Name else and_then (with_inherited k c) (ok_or (inherited k c.above) Name)
 
-abbrev pub with_shared : Known → List (ℕ × List ℕ) → Known
-with_shared k all = record { names = k.names; fields = k.fields; shared = all }
-
-abbrev pub with_pool_of : Known → Pool → Option Named → Result Known Cause
-with_pool_of k p (Some (AClass layout)) = and_then (λ all. Ok (with_shared k all)) (with_variables layout.number p.variables k.shared)
-with_pool_of k p _ = Err Name
+-- class variables of the class with this layout
+abbrev pub with_shared : Known → (variables : List (List ℕ)) → Layout → Result Known Cause
+with_shared k variables layout = and_then (λ all. Ok (record k { shared = all })) (with_variables layout.number variables k.shared)
 
 abbrev pub with_pool : Known → Pool → Result Known Cause
-with_pool k p = with_pool_of k p (named k p.class)
+with_pool k p = and_then (with_shared k p.variables) (ok_or (layout_of k p.class) Name)
 
 abbrev pub with_global : Known → List ℕ → Result Known Cause
 with_global k name = if is_known k name then Err Name else Ok (with_name k name Global)
 
 -- NEEDED CLASSES
 
--- of this shape, where it is asked for, with so many fields
-pub record Need : Type 0 where
-  pub name : List ℕ
-  pub layout : Option (Shape × ℕ)
-
-abbrev pub same_shape : Shape → Shape → Bool
-same_shape Fixed Fixed = true
-same_shape Indexed Indexed = true
-same_shape Words Words = true
-same_shape Bytes Bytes = true
-same_shape _ _ = false
-
+-- the shape and the number of fields are those that are wanted, where any are
 abbrev pub fits : Option (Shape × ℕ) → Layout → Bool
 fits None layout = true
-fits (Some want) layout = same_shape want.0 layout.shape && nat_eq want.1 layout.fields
+fits (Some want) layout = sameb the_type want.0 layout.shape && nat_eq want.1 layout.fields
 
-abbrev pub is_met : Option (Shape × ℕ) → Option Named → Bool
-is_met want (Some (AClass layout)) = fits want layout
-is_met want _ = false
+abbrev pub has_class : Known → Option (Shape × ℕ) → (name : List ℕ) → Bool
+has_class k want name = option_map_or (fits want) (layout_of k name) false
 
-abbrev pub any_shape : List ℕ → Need
-any_shape name = record { name = name; layout = None }
+abbrev pub has_all : Known → List (Option (Shape × ℕ) × List (List ℕ)) → Bool
+has_all k wanted = list_all (λ need. list_all (has_class k need.0) need.1) wanted
 
-abbrev pub shaped : List ℕ → Shape → ℕ → Need
-shaped name shape fields = record { name = name; layout = Some (shape, fields) }
-
-abbrev pub needs : List Need
+-- the shape and the number of fields, where any are asked for, and of which classes
+abbrev pub needs : List (Option (Shape × ℕ) × List (List ℕ))
 needs =
-    any_shape (codes "UndefinedObject")
-    ∷ any_shape (codes "False")
-    ∷ any_shape (codes "True")
-    ∷ any_shape (codes "SmallInteger")
-    ∷ any_shape (codes "Metaclass")
-    ∷ shaped (codes "Association") Fixed 2
-    ∷ shaped (codes "Point") Fixed 2
-    ∷ shaped (codes "Message") Fixed 2
-    ∷ shaped (codes "ProcessorScheduler") Fixed 2
-    ∷ shaped (codes "LinkedList") Fixed 2
-    ∷ shaped (codes "Process") Fixed 4
-    ∷ shaped (codes "Character") Fixed 1
-    ∷ shaped (codes "Array") Indexed 0
-    ∷ shaped (codes "MethodContext") Indexed 6
-    ∷ shaped (codes "BlockContext") Indexed 6
-    ∷ shaped (codes "MethodDictionary") Indexed 2
-    ∷ shaped (codes "String") Bytes 0
-    ∷ shaped (codes "Symbol") Bytes 0
-    ∷ shaped (codes "LargePositiveInteger") Bytes 0
-    ∷ shaped (codes "CompiledMethod") Bytes 0
+    (None, codes "UndefinedObject" ∷ codes "False" ∷ codes "True" ∷ codes "SmallInteger" ∷ codes "Metaclass" ∷ [])
+    ∷ (Some (Fixed, 2), codes "Association" ∷ codes "Point" ∷ codes "Message" ∷ codes "ProcessorScheduler" ∷ codes "LinkedList" ∷ [])
+    ∷ (Some (Fixed, 4), codes "Process" ∷ [])
+    ∷ (Some (Fixed, 1), codes "Character" ∷ [])
+    ∷ (Some (Indexed, 0), codes "Array" ∷ [])
+    ∷ (Some (Indexed, 6), codes "MethodContext" ∷ codes "BlockContext" ∷ [])
+    ∷ (Some (Indexed, 2), codes "MethodDictionary" ∷ [])
+    ∷ (Some (Bytes, 0), codes "String" ∷ codes "Symbol" ∷ codes "LargePositiveInteger" ∷ codes "CompiledMethod" ∷ [])
     ∷ []
-
-abbrev pub has_all : Known → List Need → Bool
-has_all k wanted = list_all (λ need. is_met need.layout (named k need.name)) wanted
 
 -- PARTS
 

@@ -4,7 +4,6 @@ use Rattle.std.specs.Global.{Vec}
 use Rattle.std.specs.Borrow.{Bor}
 use Rattle.st_kernel_text.specs.declared.named.Named.{Named}
 use Rattle.st_kernel_text.specs.declared.shape.Shape.{Shape}
-use Rattle.st_kernel_text.specs.Known.{Need}
 
 abbrev pub texts_of : List (Vec ℕ) → List (List ℕ)
 texts_of [] = []
@@ -16,8 +15,8 @@ names_of entries = map (λ e. (e.0.items, e.1)) entries
 abbrev pub variables_of : List (ℕ × Vec ℕ) → List (ℕ × List ℕ)
 variables_of keys = map (λ k. (k.0, k.1.items)) keys
 
-abbrev pub need_of : Bor (List ℕ) × Option (Shape × ℕ) → Need
-need_of n = record { name = n.0.now; layout = n.1 }
+abbrev pub names_now : List (Bor (List ℕ)) → List (List ℕ)
+names_now names = map (λ name. name.now) names
 
-abbrev pub needs_of : List (Bor (List ℕ) × Option (Shape × ℕ)) → List Need
-needs_of ns = map need_of ns
+abbrev pub needs_of : List (Option (Shape × ℕ) × Bor (List (Bor (List ℕ)))) → List (Option (Shape × ℕ) × List (List ℕ))
+needs_of ns = map (λ n. (n.0, names_now n.1.now)) ns

@@ -7,7 +7,7 @@ use Rattle.st_kernel_text.specs.declared.cause.Cause.{Cause}
 use Rattle.st_kernel_text.specs.declared.cause.Cause.TheVariants.{Form}
 use Rattle.st_kernel_text.specs.Parts.{Part}
 use Rattle.st_kernel_text.specs.Forms.{formed_at, behind_part}
-use Rattle.st_kernel_text.specs.Known.{Known, nothing, known_behind}
+use Rattle.st_kernel_text.specs.Known.{Known, nothing, and_then, known_behind}
 
 -- The parts of a text, one a chunk, up to the first chunk at which a cause stands, and the least cause there. The chunk behind
 -- the last one counts too: there the text is to be over.
@@ -28,11 +28,7 @@ is_end _ = false
 -- what a chunk that stands here says, and what is known behind it; or the least cause
 abbrev pub read_part : Place → Known → Option Part → Result (Part × Known) Cause
 read_part place k None = Err Form
-read_part place k (Some p) = with_known p (known_behind place k p)
-  where
-    with_known : Part → Result Known Cause → Result (Part × Known) Cause
-    with_known p (Ok after) = Ok (p, after)
-    with_known p (Err cause) = Err cause
+read_part place k (Some p) = and_then (λ after. Ok (p, after)) (known_behind place k p)
 
 abbrev pub behind : (Place → Known → Account) → Result (Part × Known) Cause → Account
 behind goes_on (Ok read) = with_part read.0 (goes_on (behind_part read.0) read.1)

@@ -1,8 +1,8 @@
 // What is declared so far.
-ghost use Rattle.std.specs.Prelude.{◌≡◌, ◌+◌, false, length, Ok, Some};
-ghost use Rattle.st_kernel_text.specs.Known.{nothing, named, is_known, inherited, most_fields, with_name, with_layout, with_inherited};
-ghost use Rattle.st_kernel_text.specs.Known.{with_class, with_pool, with_global, is_met, has_all, complete, if_known, known_behind};
-ghost use Rattle.st_kernel_text.specs.{Views.{class_of, pool_of, part_of}, Lists.{needs_of, texts_of}};
+ghost use Rattle.std.specs.{Prelude.{◌≡◌, ◌+◌, false, length, Ok}, List.list_all};
+ghost use Rattle.st_kernel_text.specs.Known.{nothing, named, is_known, layout_of, inherited, most_fields, with_name, with_layout, with_inherited};
+ghost use Rattle.st_kernel_text.specs.Known.{with_class, with_pool, with_global, fits, has_class, has_all, complete, if_known, known_behind};
+ghost use Rattle.st_kernel_text.specs.{Views.{class_of, pool_of, part_of}, Lists.{names_now, needs_of, texts_of}};
 ghost use Rattle.st_kernel_text.specs.Reading.{Leaves};
 
 use crate::cause::{Cause, Stop};
@@ -34,13 +34,10 @@ fn fields_below(inherited: u8, variables: &[Text]) -> usize
     usize::from(inherited) + variables.len()
 }
 
-/// Whether what a name is that of is a class as it is wanted.
-fn is_met(wanted: Option<(Shape, u8)>, named: Option<Named>) -> bool
-    ensures { result ≡ is_met wanted named }
+/// Whether a class is as it is wanted.
+fn fits(wanted: Option<(Shape, u8)>, layout: Layout) -> bool
+    ensures { result ≡ fits wanted layout }
 {
-    let Some(Named::Class(layout)) = named else {
-        return false;
-    };
     match wanted {
         None => true,
         Some((shape, fields)) => shape == layout.shape && fields == layout.fields,
@@ -83,6 +80,16 @@ impl Known {
         self.names.get(name).copied()
     }
 
+    /// The layout of the class of this name, if it is declared.
+    fn layout(&self, name: &[u8]) -> Option<Layout>
+        ensures { result ≡ layout_of self.now name.now }
+    {
+        match self.named(name) {
+            Some(Named::Class(layout)) => Some(layout),
+            _ => None,
+        }
+    }
+
     /// How many fields a class inherits from this superclass, or from none, where it is `nil`.
     fn inherited(&self, above: &[u8]) -> Option<u8>
         ensures { result ≡ inherited self.now above.now }
@@ -90,10 +97,7 @@ impl Known {
         if above == b"nil".as_slice() {
             return Some(0);
         }
-        match self.named(above) {
-            Some(Named::Class(layout)) => Some(layout.fields),
-            _ => None,
-        }
+        Some(self.layout(above)?.fields)
     }
 
     /// A name more.
@@ -132,7 +136,7 @@ impl Known {
     /// A class is declared whose superclass has so many fields.
     fn add_below(&mut self, alloc: Global, class: &Class, inherited: u8) -> Result<(), Stop>
         requires { is_known self.old class.now.name.items ≡ false }
-        ensures { Leaves (with_inherited self.old (class_of class.now) (Some inherited)) self.new result }
+        ensures { Leaves (with_inherited self.old (class_of class.now) inherited) self.new result }
     {
         let number = self.count();
         self.fields.declare(alloc, number, &class.variables)?;
@@ -156,11 +160,9 @@ impl Known {
     fn add_pool(&mut self, alloc: Global, pool: &Pool) -> Result<(), Stop>
         ensures { Leaves (with_pool self.old (pool_of pool.now)) self.new result }
     {
-        match self.named(&pool.class) {
-            Some(Named::Class(layout)) => {
-                self.shared.declare(alloc, layout.number, &pool.variables)
-            }
-            _ => Err(Stop::At(Cause::Name)),
+        match self.layout(&pool.class) {
+            Some(layout) => self.shared.declare(alloc, layout.number, &pool.variables),
+            None => Err(Stop::At(Cause::Name)),
         }
     }
 
@@ -174,12 +176,34 @@ impl Known {
         self.add_name(alloc, name, Named::Global)
     }
 
-    /// Whether all of these classes are declared as they are needed.
+    /// Whether the class of this name is declared as it is wanted.
+    fn has_class(&self, wanted: Option<(Shape, u8)>, name: &[u8]) -> bool
+        ensures { result ≡ has_class self.now wanted name.now }
+    {
+        match self.layout(name) {
+            Some(layout) => fits(wanted, layout),
+            None => false,
+        }
+    }
+
+    /// Whether the classes of these names are declared as they are wanted.
+    fn has_classes(&self, wanted: Option<(Shape, u8)>, names: &[&[u8]]) -> bool
+        ensures { result ≡ list_all (has_class self.now wanted) (names_now names.now) }
+    {
+        for name in names {
+            if !self.has_class(wanted, name) {
+                return false;
+            }
+        }
+        true
+    }
+
+    /// Whether all that is needed is declared.
     fn has_all(&self, needs: &[Need]) -> bool
         ensures { result ≡ has_all self.now (needs_of needs.now) }
     {
-        for (name, wanted) in needs {
-            if !is_met(*wanted, self.named(name)) {
+        for (wanted, names) in needs {
+            if !self.has_classes(*wanted, names) {
                 return false;
             }
         }

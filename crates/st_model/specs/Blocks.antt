@@ -13,7 +13,7 @@ pub record Passing : Type 0 where
   pub count : ℕ
   pub first : ℤ
 
--- a number of these
+-- the numbers of the primitives below
 abbrev pub is_block : ℕ → Bool
 is_block k = nat_le 80 k && nat_le k 82
 

@@ -77,7 +77,7 @@ root_fails h bytes p = not (p == 0) && not (names h bytes p)
 abbrev pub At : ℕ → (ℕ → Bool) → Type 0
 At p fails = (p % 2 ≡ 0) × (fails (p / 2) ≡ true)
 
--- the rows: what a fault says is so
+-- the rows: what a fault says is so; 10 is that the registers cannot be fetched
 unfoldable pub Fails : ImageHead → List ℕ → ImageFault → Type 0
 Fails h bytes Short = short_fails h bytes ≡ true
 Fails h bytes Lengths = lengths_fail h ≡ true

@@ -51,7 +51,7 @@ pub record Low : Type 0 where
   pub entries : ℕ
   pub words : ℕ
 
--- a number of these
+-- the numbers of the primitives below
 abbrev pub is_input : ℕ → Bool
 is_input k = (nat_le 90 k && nat_le k 95) || (nat_le 98 k && nat_le k 102) || (k == 116)
 

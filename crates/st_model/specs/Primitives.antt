@@ -7,7 +7,7 @@ use Rattle.st_model.specs.Objects.{PageObject, FalseObject, TrueObject, LargeCla
 use Rattle.st_model.specs.Machine.{ObjectMemory, Step, answer, die, tried, ◌>>=◌, ◌>>◌}
 use Rattle.st_model.specs.Steps.{of_page, class_of, same_value, check, fetch_kind, fetch_size, fetch_field, fetch_bytes, store_bytes, make, push, pop, top, under}
 
--- it is tried with this number of arguments alone, and fails with any other
+-- a primitive that is tried with this number of arguments alone, and fails with any other
 unfoldable pub taking : {H : Type 0} → ℕ → ℕ → Step H Bool → Step H Bool
 taking n arguments m = if arguments == n then m else answer false
 
@@ -139,11 +139,14 @@ module _ {H : Type 0} (m : ObjectMemory H) where
   number_of (pos k) = number k
   number_of (negsuc k) = answer (small_integer (negsuc k))
 
+-- What the instance specification of a class says, field 2, in the bits of its word: bit 0 that the instances have pointers,
+-- bit 1 words, bit 2 that they are indexable, and bits 4 to 14 the number of fixed fields.
+
 abbrev pub fixed_count : ℕ → ℕ
 fixed_count specification = specification % 2048
 
 module _ {H : Type 0} (m : ObjectMemory H) where
-  -- it is readable where the class is of kind Pointers and field 2 holds a SmallInteger
+  -- the specification is readable where the class is of kind Pointers and field 2 holds a SmallInteger
   unfoldable pub specification : Value → Step H ℕ
   specification class = fetch_field m class 2 >>= bits_or_die
 
@@ -162,9 +165,6 @@ module _ {H : Type 0} (m : ObjectMemory H) where
   fixed_fields v = do
     k ← fetch_kind m v
     fixed_by v (is_pointers k)
-
--- What the instance specification of a class says, field 2, in the bits of its word: bit 0 that the instances have pointers,
--- bit 1 words, bit 2 that they are indexable, and bits 4 to 14 the number of fixed fields.
 
 abbrev pub has_pointers : ℕ → Bool
 has_pointers specification = specification / 16384 % 2 == 1

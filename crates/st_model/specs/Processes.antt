@@ -20,7 +20,7 @@ unfoldable pub list_number : {H : Type 0} → ℤ → Step H ℕ
 list_number (pos (suc n)) = answer n
 list_number priority = die dead.Field
 
--- a number of these
+-- the numbers of the primitives below
 abbrev pub is_process : ℕ → Bool
 is_process k = nat_le 85 k && nat_le k 88
 

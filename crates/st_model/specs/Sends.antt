@@ -22,8 +22,7 @@ call_of c = record { method = word c.method; arguments = c.arguments }
 abbrev pub call_if_any : Option CodeCall → Option Call
 call_if_any x = option_map call_of x
 
--- special sends: of the number k, fields 2k and 2k + 1 of the special selectors are selector and number of arguments
-
+-- the number of arguments that the special selectors have
 unfoldable pub argument_count : {H : Type 0} → ℤ → Step H ℕ
 argument_count (pos n) = answer n
 argument_count (negsuc n) = die dead.Field
@@ -104,6 +103,7 @@ module _ {H : Type 0} (m : ObjectMemory H) where
     class ← class_above
     send_from class selector n
 
+  -- of the number k, fields 2k and 2k + 1 of the special selectors are selector and number of arguments
   unfoldable pub special_send : ℕ → Step H Call
   special_send k = do
     selectors ← of_page m Selectors

@@ -95,8 +95,7 @@ unfoldable pub world_changed : {H : Type 0} → Change → State H → Bool → 
 world_changed c s false = Died dead.Kind
 world_changed c s true = Went tt (record s { world = changed_world c s.world })
 
--- pointers; they are halved
-
+-- what was found by its name, if anything was
 unfoldable pub named_or_not : Option ℕ → Option Value
 named_or_not None = None
 named_or_not (Some n) = Some (Ref n)
@@ -107,7 +106,7 @@ same_value (Small a) (Small b) = a == b
 same_value (Ref a) (Ref b) = a == b
 same_value v w = false
 
--- fields
+-- conditions, and of what a step dies where they do not hold
 
 unfoldable pub or_die : {H A : Type 0} → Dead → Option A → Step H A
 or_die cause None = die cause
@@ -231,6 +230,8 @@ module _ {H : Type 0} (m : ObjectMemory H) where
   unfoldable pub get_free : Step H Demand
   get_free = record { run = λ s. Went (free_space m s) s }
 
+  -- pointers; they are halved
+
   -- the kept object that bears a pointer
   unfoldable pub object_at : ℕ → Step H (Option Value)
   object_at k = record { run = λ s. Went (named_or_not (m.borne_by s.memory k)) s }
@@ -259,6 +260,8 @@ module _ {H : Type 0} (m : ObjectMemory H) where
   fetch_size v = do
     o ← object v
     answer (size_of o)
+
+  -- fields
 
   -- field i of an object of kind Pointers
   unfoldable pub fetch_field : Value → ℕ → Step H Value

@@ -18,9 +18,7 @@ pub record Storing : Type 0 where
   pub place : ℕ
   pub unit : ℕ
 
--- Streams. Field 0 is the collection, an Array or a String, field 1 the position, the number of elements that were passed, and
--- field 2 the limit of reading, field 3 that of writing.
-
+-- the elements of a stream's collection: objects of an Array, or Characters of a String
 unfoldable pub characters_or_not : {H : Type 0} → Bool → Bool → Step H Bool
 characters_or_not true string = answer false
 characters_or_not false true = answer true
@@ -73,7 +71,7 @@ pub record Replacing : Type 0 where
   pub last : ℕ
   pub from : ℕ
 
--- a number of these
+-- the numbers of the primitives below
 abbrev pub is_storage : ℕ → Bool
 is_storage k = (nat_le 60 k && nat_le k 79) || (k == 96) || (k == 105) || (k == 112) || (k == 115)
 
@@ -227,6 +225,9 @@ module _ {H : Type 0} (m : ObjectMemory H) where
   -- 64: the Character b becomes character a of r
   unfoldable pub primitive_string_at_put : Step H Bool
   primitive_string_at_put = of_two m storing_character (λ r a b s. store_and_answer r b s)
+
+  -- Streams. Field 0 is the collection, an Array or a String, field 1 the position, the number of elements that were passed, and
+  -- field 2 the limit of reading, field 3 that of writing.
 
   -- whether the elements of a collection are Characters, those of a String; else it is an Array
   unfoldable pub has_characters : Value → Step H Bool

@@ -13,3 +13,4 @@ pub mod Restoring
 pub mod Rests
 pub mod Condensing
 pub mod Gates
+pub mod Selectors

@@ -1,7 +1,6 @@
 -- A replay as far as it is done: what is left gives, behind what is answered so far, what the whole gives.
-use Rattle.std.proofs.Common.{◌≡◌, ◌≤◌, ◌+◌, ◌∙◌, ℕ, suc, List, [], ◌∷◌, ◌++◌, length, take, drop, refl, sym, ap, subst, append_assoc, arith}
-use Rattle.std.proofs.lemmas.List.{append-nil, map-append}
-use Rattle.std.specs.Prelude.{Result, Ok, Err, IfOk}
+use Rattle.std.proofs.Common.{◌≡◌, ◌≤◌, ◌+◌, ◌∙◌, ℕ, suc, List, [], ◌∷◌, ◌++◌, length, take, drop, refl, sym, ap, subst, append_assoc, arith, length-append}
+use Rattle.std.proofs.lemmas.List.{append-nil, map-append, take_at, drop_at}
 use Rattle.st_model.specs.Machine.{State, World}
 use Rattle.st_model.specs.Births.{Births}
 use Rattle.st_model.specs.Table.{Table}
@@ -110,14 +109,14 @@ module _ (install : Install) (whole : Replayed) (so_far after : Replay) (n : ℕ
       by_installed (Accepted name t) installation.OutOfMemory it_is unchanged notes e = absurd notes
 
 -- what is replayed are the definitions from a place on
-pub again : {E : Type 0} (install : Install) (listed : List Definition) (n : ℕ) (old new : View) (ds : List Definition) (place : ℕ) → ds ≡ drop n listed → n ≤ length listed
-    → place ≡ length (entries (take n listed)) → (r : Result Replay E)
-    → IfOk r (λ answered. (f : Frame) (w : World) (s : State Births) → IsReady old f w → Shows (shown old f w) s → ReplaysAs (replay install s n ds) answered (shown new f w))
-    → IfOk r (ReplaysFrom install listed place old new)
-again install listed n old new ds place same within is (Ok answered) replays = record {
+pub again : (install : Install) (listed front later : List Definition) (n : ℕ) (old new : View) (place : ℕ) (answered : Replay) → front ++ later ≡ listed → length front ≡ n
+    → place ≡ length (entries front)
+    → ((f : Frame) (w : World) (s : State Births) → IsReady old f w → Shows (shown old f w) s → ReplaysAs (replay install s n later) answered (shown new f w))
+    → ReplaysFrom install listed place old new answered
+again install listed front later n old new place answered all many is replays = record {
   before = n;
-  within = within;
-  is = is;
-  replays = λ f w s ready shows. subst (λ (x : List Definition). ReplaysAs (replay install s n x) answered (shown new f w)) same (replays f w s ready shows);
+  within = omega (arith, ap length all, length-append front later, many);
+  is = is ∙ ap (λ (ds : List Definition). length (entries ds)) (sym (ap (take n) (sym all) ∙ take_at front later n many));
+  replays = λ f w s ready shows.
+      subst (λ (ds : List Definition). ReplaysAs (replay install s n ds) answered (shown new f w)) (sym (ap (drop n) (sym all) ∙ drop_at front later n many)) (replays f w s ready shows);
 }
-again install listed n old new ds place same within is (Err fault) replays = tt

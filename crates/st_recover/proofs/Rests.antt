@@ -1,8 +1,8 @@
 -- The first of some definitions, and the others.
-use Rattle.std.proofs.Common.{◌≡◌, ◌≤◌, ◌<◌, ◌+◌, ◌-◌, ◌∙◌, ℕ, suc, List, [], ◌∷◌, length, take, drop, get_or, refl, sym, ap, subst, arith, length-append, length-drop}
+use Rattle.std.proofs.Common.{◌≡◌, ◌≤◌, ◌<◌, ◌+◌, ◌-◌, ◌∙◌, ℕ, suc, List, [], ◌∷◌, ◌++◌, length, take, drop, get_or, refl, sym, ap, subst, arith, length-append}
 use Rattle.std.specs.Prelude.{All}
 use Rattle.std.proofs.Math.ListN.{length-map}
-use Rattle.std.proofs.lemmas.List.{drop_more, take_rest, drop-map, get_or-drop}
+use Rattle.std.proofs.lemmas.List.{drop_more, take_rest, get_or-append-add}
 use Rattle.st_chunk.specs.Definitions.{Definition, IsDefinition}
 use Rattle.st_changes.specs.declared.definition.Definition as declared
 use Rattle.st_changes.specs.Views.{definition_of, definitions_of}
@@ -48,13 +48,11 @@ listed n installation.OutOfMemory old new notes = absurd notes
 
 -- FROM A PLACE ON
 
-pub all_from : (n : ℕ) (ds : List Definition) → All IsDefinition ds → All IsDefinition (drop n ds)
-all_from n ds all k d less = subst IsDefinition (sym (get_or-drop n ds k d)) (all (n + k) d (omega (arith, length-drop n ds, less)))
+pub later_all : (front later ds : List Definition) → front ++ later ≡ ds → All IsDefinition ds → All IsDefinition later
+later_all front later ds is all k d less = subst IsDefinition (get_or-append-add front later k d)
+    (subst (All IsDefinition) (sym is) all (length front + k) d (omega (arith, length-append front later, less)))
 
-pub from_is : (xs : List declared.Definition) (ds : List Definition) (n : ℕ) → definitions_of xs ≡ ds → definitions_of (take (length xs - n) (drop n xs)) ≡ drop n ds
-from_is xs ds n same = ap definitions_of (take_rest xs n) ∙ sym (drop-map definition_of n xs) ∙ ap (drop n) same
-
-pub from_length : (xs : List declared.Definition) (ds : List Definition) (n : ℕ) → definitions_of xs ≡ ds → length (take (length xs - n) (drop n xs)) ≡ length ds - n
-from_length xs ds n same =
-    let e = ap length (from_is xs ds n same) in
-    omega (arith, e, length-map (take (length xs - n) (drop n xs)) definition_of, length-drop n ds)
+pub parted : (front later : List declared.Definition) (ds : List Definition) → definitions_of front ++ definitions_of later ≡ ds → length front + length later ≡ length ds
+parted front later ds is =
+    let all = ap length is in
+    omega (arith, all, length-append (definitions_of front) (definitions_of later), length-map front definition_of, length-map later definition_of)

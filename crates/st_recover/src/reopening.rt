@@ -20,7 +20,7 @@ ghost use Rattle.st_recover.specs.{Openings.OpeningHasCause, Fetched.IsFetchedAs
 use crate::fault::OpenFault;
 use crate::opened::Opened;
 use crate::replay::{Replay, replay_all};
-use st_changes::{Changes, load};
+use st_changes::{Changes, Listing, read_listing};
 use st_frames::Loaded;
 use st_host::{Host, read_from};
 use st_image::{HeadValues, ReadImage, read};
@@ -34,7 +34,7 @@ use std::alloc::{AllocError, Global};
 struct Fetched<M> {
     loaded: Loaded<M>,
     store: Store,
-    changes: Changes,
+    changes: Listing,
 }
 
 /// The bytes of a store's image, where they are at most 2^27.
@@ -124,7 +124,7 @@ fn fetch<L: Loader, H: Host>(
 {
     let store = open_store(alloc, host, name)?;
     let loaded = read_image::<L, H>(alloc, host, &store)?;
-    let changes = load(alloc, host, &store)?;
+    let changes = read_listing(alloc, host, &store)?;
     Ok(Fetched {
         loaded,
         store,
@@ -132,23 +132,26 @@ fn fetch<L: Loader, H: Host>(
     })
 }
 
-/// Installs the definitions again that stand from a place of their changes file on.
+/// Installs the definitions again that stand from a place of their changes file on, and indexes all.
 fn install_again<M: Memory>(
     alloc: Global,
     m: &mut M,
-    changes: &Changes,
+    changes: Listing,
     base: u64,
-) -> Result<Replay, AllocError>
-    requires good { All IsDefinition changes.now.listed }
-    requires stands { StandsAt changes.now.listed base }
-    requires limit { length (entries changes.now.listed) ≤ 2 ^ 30 }
+) -> Result<(Replay, Changes), AllocError>
+    requires good { All IsDefinition changes.listed }
+    requires stands { StandsAt changes.listed base }
+    requires limit { length (entries changes.listed) ≤ 2 ^ 30 }
     ensures replays { IfOk result
-        (ReplaysFrom installed changes.now.listed base (M.view m.old) (M.view m.new)) }
-    ensures few { IfOk result (λ r. length r.lost.items < 2 ^ 32) }
+        (λ r. ReplaysFrom installed changes.listed base (M.view m.old) (M.view m.new) r.0) }
+    ensures few { IfOk result (λ r. length r.0.lost.items < 2 ^ 32) }
+    ensures indexed { IfOk result (λ r. r.1 ≡ changes) }
     ensures ready { (f : Frame) (w : World) → IsReady (M.view m.old) f w → IsReady (M.view m.new) f w }
 {
-    let before = changes.count_before(base);
-    replay_all(alloc, m, &changes.definitions()[before..], before as u32)
+    let (front, later) = changes.split(base);
+    let before = front.len() as u32;
+    let (replay, selectors) = replay_all(alloc, m, later, before)?;
+    Ok((replay, changes.index(alloc, &selectors)?))
 }
 
 /// Opens the store of this name: the objects and registers of its image, with the definitions from its base on installed again,
@@ -204,12 +207,12 @@ pub fn reopen<L: Loader, H: Host>(
         changes,
     } = fetch::<L, H>(alloc, host, name)?;
     let base = store.root().base;
-    let Replay { count, lost } = install_again(alloc, &mut loaded.memory, &changes, base)?;
+    let (replay, changes) = install_again(alloc, &mut loaded.memory, changes, base)?;
     Ok(Opened {
         loaded,
         store,
         changes,
-        replayed: count,
-        lost,
+        replayed: replay.count,
+        lost: replay.lost,
     })
 }

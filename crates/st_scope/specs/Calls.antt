@@ -16,8 +16,6 @@ abbrev pub or_fault : {A : Type 0} → InstallFault → Option A → Result A In
 or_fault fault None = Err fault
 or_fault fault (Some a) = Ok a
 
--- NAMES
-
 -- the table of globals, where there is one
 abbrev pub as_table : Option Value → List Value
 as_table None = []
@@ -35,6 +33,8 @@ module _ {H : Type 0} (m : ObjectMemory H) where
   -- the class of this name, on this side
   unfoldable pub class_of_name : Head → List ℕ → (meta : Bool) → Step H (Result Value InstallFault)
   class_of_name head name meta = class_among head.globals name meta
+
+  -- NAMES
 
   -- the names that the tree's statements see, where class and symbol table have the form that an installation asks
   unfoldable pub names_seen : Head → Value → (meta : Bool) → MethodView → Step H NamesView

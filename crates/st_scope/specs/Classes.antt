@@ -16,8 +16,7 @@ class_fields = 9
 abbrev pub metaclass_fields : ℕ
 metaclass_fields = 7
 
--- CHAINS
-
+-- no classes where this is so
 unfoldable pub none_if : {H : Type 0} → Bool → Step H (List Value) → Step H (List Value)
 none_if true otherwise = answer []
 none_if false otherwise = otherwise
@@ -48,6 +47,8 @@ module _ {H : Type 0} (m : ObjectMemory H) where
     association ← class_association globals name
     class ← fetch_field m association 1
     class_on_side class meta
+
+  -- CHAINS
 
   -- a chain ends in nil
   unfoldable pub until_nil : Value → Step H (List Value) → Step H (List Value)

@@ -1,6 +1,6 @@
 -- A definition that is kept, and then installed and acknowledged; or that isn't.
 use Rattle.std.proofs.Common.{◌≡◌, ◌∙◌, ℕ, List, refl, sym, ap, subst}
-use Rattle.std.specs.Prelude.{Option, None, Some, Result, Ok, Err}
+use Rattle.std.specs.Prelude.{None, Result, Ok, Err}
 use Rattle.st_model.specs.Machine.{State}
 use Rattle.st_model.specs.Births.{Births}
 use Rattle.st_model.specs.Show.{Shows}
@@ -8,14 +8,7 @@ use Rattle.st_model.specs.View.{View}
 use Rattle.st_host.specs.Runs.{IsAtRest}
 use Rattle.st_host.specs.declared.host.Host.{Ghosts}
 use Rattle.st_machine.specs.declared.machine.Machine.{Machine}
-use Rattle.st_scan.specs.Views.{MethodView}
-use Rattle.st_emit.specs.Names.{NamesView}
-use Rattle.st_code.specs.declared.fault.Fault.{Fault}
-use Rattle.st_code.specs.Methods.{PartsView, fault, parts_or}
 use Rattle.st_chunk.specs.Definitions.{Definition}
-use Rattle.st_install.specs.declared.preparing.Prepared.{Prepared}
-use Rattle.st_install.specs.Prepareds.{IsPrepared}
-use Rattle.st_changes.specs.Last.{HasSelector}
 use Rattle.st_store.specs.Names.{IsNoFileOf}
 use Rattle.st_protocol.specs.declared.refusal.Refusal.{Refusal}
 use Rattle.st_protocol.specs.declared.status.Status.{Status}
@@ -37,22 +30,6 @@ use Rattle.st_session.proofs.Holding.{holds_said, holds_rest}
 use Rattle.st_session.proofs.Points.{GoesAs}
 use Rattle.st_session.proofs.Responding.{line_said}
 use Rattle.st_session.proofs.Saying.{obeys_tells, when_ok}
-
--- THE SELECTOR
-
-of_code : (tree : MethodView) (seen : NamesView) (f : Option Fault) (parts : PartsView) → parts_or tree seen f ≡ Ok parts → tree.selector ≡ parts.selector
-of_code tree seen None parts e = cc
-of_code tree seen (Some f) parts e = cc
-
--- the selector of what is prepared is that of the text's tree
-pub prepared_selector : (v : View) (d : Definition) (p : Prepared) → IsPrepared v d p → HasSelector d.text p.selector.items
-prepared_selector v d p h = record {
-  tree = h.tree;
-  means = h.reads;
-  is = of_code h.tree h.seen (fault h.tree h.seen) h.parts h.coded ∙ sym h.selector;
-}
-
--- WHAT IS KEPT
 
 module _ {M D : Type 0} (view : M → View) (host : Ghosts D) (name : List ℕ) (n : Machine M) (b : ArchiveState) (s : State Births) (k : Commit) (d : Definition) where
   abbrev Keeps_it : D → D → Result Unit Status → Type 0

@@ -1,14 +1,14 @@
 -- How condensing ends, from its parts: the store is opened, its changes are condensed, and a line is said.
-use Rattle.std.proofs.Common.{◌≡◌, ◌≢◌, ◌⊎◌, inl, inr, ⊎_elim, ℕ, ◌≤◌, List, [], ◌++◌, ◌∙◌, length, IsTrue, refl, sym, ap, subst, arith, true≢false}
+use Rattle.std.proofs.Common.{◌≡◌, ◌⊎◌, inl, inr, ⊎_elim, ℕ, ◌≤◌, List, ◌++◌, ◌∙◌, length, IsTrue, refl, sym, ap, subst, true≢false}
 use Rattle.std.specs.Prelude.{Result, Ok, Err, IfErr, IsErr, OnOk, All}
 use Rattle.st_host.specs.Files.{Files}
-use Rattle.st_host.specs.Runs.{LeavesOnly, ReadsAlike, ReadsAndSays, Spares, IsAtRest, Makes, ChangesBoth}
+use Rattle.st_host.specs.Runs.{LeavesOnly, ReadsAndSays, IsAtRest, Makes}
 use Rattle.st_host.specs.Stops.{SaidPart, WhileSaying}
 use Rattle.st_host.specs.declared.host.Host.{Ghosts}
 use Rattle.st_host.proofs.Joining.{weaker, moments_join}
 use Rattle.st_chunk.specs.Definitions.{Definition, IsDefinition, entries}
 use Rattle.st_store.specs.Faults.{RestsUnlessGate}
-use Rattle.st_store.specs.Stored.{StoreState, Opens, IsKept, IsOpening}
+use Rattle.st_store.specs.Stored.{StoreState, Opens, IsOpening}
 use Rattle.st_store.specs.declared.root.Root.{Root}
 use Rattle.st_protocol.specs.declared.status.Status.{Status}
 use Rattle.st_protocol.specs.declared.status.Status.TheVariants as status
@@ -23,7 +23,7 @@ use Rattle.st_call.specs.Replies.{condensed_text}
 use Rattle.st_call.specs.Telling.{Tells}
 use Rattle.st_session.specs.Ends.{status_in}
 use Rattle.st_session.specs.Exports.{IsOfExporting}
-use Rattle.st_session.specs.Condensings.{IsKeptAs, HasCondensed, ResultHas, DoesCondense, CondenseHas}
+use Rattle.st_session.specs.Condensings.{IsKeptAs, ResultHas, DoesCondense, CondenseHas}
 use Rattle.st_session.proofs.Commanded.{opens_still}
 use Rattle.st_session.proofs.Exported.{none_more, line_behind}
 
@@ -111,12 +111,19 @@ module _ {D : Type 0} (host : Ghosts D) (old : D) (store : StoreState) (listed :
         })
 
   -- a fault came while it was condensed, or there was no memory
-  pub unmade : {R E : Type 0} (mid : D) (result : Result R E)
+  unmade : {R E : Type 0} (mid : D) (result : Result R E)
       → (IsErr result × Makes host (Opens store.name) (stored_of store.root.slot c) (stored_of store.root.slot c) old mid result) ⊎ Condenses listed store.root.base
       → ((z : Condenses listed store.root.base) → Makes host (Opens store.name) (stored_of store.root.slot c) (condensed (stored_of store.root.slot c) z) old mid result)
       → LeavesOnly host old mid At × (host.said mid ≡ host.said old)
   unmade mid result (inl p) makes = (as_same mid result p.1, p.1.quiet)
   unmade mid result (inr z) makes = let m = makes z in (as_condensed mid result z m, m.quiet)
+
+  -- which ends in this status
+  pub does_unmade : {R E : Type 0} (mid : D) (result : Result R E) (e : Status)
+      → (IsErr result × Makes host (Opens store.name) (stored_of store.root.slot c) (stored_of store.root.slot c) old mid result) ⊎ Condenses listed store.root.base
+      → ((z : Condenses listed store.root.base) → Makes host (Opens store.name) (stored_of store.root.slot c) (condensed (stored_of store.root.slot c) z) old mid result)
+      → (host.said mid ≡ host.said old → ResultHas host store.name c old mid (Err e)) → DoesCondense host store.name c old mid (Err e)
+  does_unmade mid result e either makes has = let un = unmade mid result either makes in record { moments = un.0; has = has un.1 }
 
 -- WITH THE LAST LINE BEHIND IT
 

@@ -1,6 +1,6 @@
 -- What a run of the code says, and where it stops, is what the book's machine does.
 use Rattle.std.proofs.Common.{◌≡◌, ℕ, zero, suc, ◌+◌, ◌-◌, List, [], ◌∷◌, ◌++◌, Option, Some, None, refl, sym, ap, subst, ◌∙◌, append-nil, append_assoc, arith}
-use Rattle.std.specs.Prelude.{Result, Ok, Err, IfOk, if◌then◌else◌}
+use Rattle.std.specs.Prelude.{Result, Ok, Err, IfOk}
 use Rattle.st_model.specs.declared.dead.Dead.{Dead}
 use Rattle.st_model.specs.declared.demand.Demand.{Demand}
 use Rattle.st_model.specs.declared.oop.Oop.{Oop}
@@ -190,7 +190,10 @@ none_so_far host n first s c old before only w = record {
   pushed = push_none host old only;
 }
 
-module _ {D : Type 0} {host : Ghosts D} {n first : ℕ} {s : State Births} {done : ℕ} {c : State Table} {old mid : D} {p q : List ℕ} (far : SaidSoFar host n first s done c old mid p q) (e : RunEnd) (d : State Table) (ends : EndsAs (n - done) far.state e d) where
+module _ {D : Type 0} {host : Ghosts D} {n first : ℕ} {s : State Births} {done : ℕ} {c : State Table} {old mid : D} {p q : List ℕ} (far : SaidSoFar host n first s done c old mid p q) (e : RunEnd) (d : State Table) (ended : (t : State Births) → Shows c t → EndsAs (n - done) t e d) where
+  ends : EndsAs (n - done) far.state e d
+  ends = ended far.state far.shows
+
   abbrev now : ℕ
   now = done + cycles_of (n - done) e
 

@@ -1,10 +1,9 @@
 -- The machine of a drill begins, and what is said of it.
 use Rattle.std.proofs.Common.{◌≡◌, inl, inr, ◌∙◌, ℕ, ◌≤◌, ◌^◌, List, length, refl, sym, ap, subst, arith}
 use Rattle.std.specs.Prelude.{Result, Ok, Err}
-use Rattle.st_host.specs.Counts.{Rose}
-use Rattle.st_host.specs.Runs.{ReadsAlike, SaysAll}
-use Rattle.st_host.specs.Telling.{Says}
+use Rattle.st_host.specs.Runs.{ReadsAlike, ReadsAndSays}
 use Rattle.st_host.specs.declared.host.Host.{Ghosts}
+use Rattle.st_host.specs.declared.host.SayFault.{SayFault}
 use Rattle.st_model.specs.declared.dead.Dead.{Dead}
 use Rattle.st_model.specs.Objects.{nil}
 use Rattle.st_model.specs.Machine.{State, World, Transition, Died, Went, empty_world}
@@ -30,6 +29,7 @@ use Rattle.st_call.specs.LastLines.{SaysLastLine}
 use Rattle.st_session.specs.Builds.{Builds, IsWrongAt, kernel_status}
 use Rattle.st_session.specs.Drills.{BeginsDrill, IsDrill, IsNoDrill, DrillEnds, idle_over, drill_said}
 use Rattle.st_session.specs.Makings.{Contents, contents_in}
+use Rattle.st_session.specs.Reports.{Reports}
 
 -- THE MACHINE
 
@@ -77,30 +77,46 @@ first_as : (v : View) (t : State Table) (x : Transition (State Births) Unit) →
 first_as v t (Died cause) e shown = absurd shown
 first_as v t (Went u s) e shown = (s, e, shown.0)
 
-pub first_births : (n : ℕ) (v : View) (t : State Table) → IsWhole v → BeginsDrill n (contents_in v) t → First (contents_in v) t
+first_births : (n : ℕ) (v : View) (t : State Table) → IsWhole v → BeginsDrill n (contents_in v) t → First (contents_in v) t
 first_births n v t whole begins =
     first_as v t (born v) refl (subst (λ x. ShownAgain x (born v)) begins.fetched (fetched_shown (idle_state v) (closed_idle v whole.complete)))
 
 module _ {D : Type 0} (host : Ghosts D) (n : ℕ) (old new : D) where
-  module _ (c : Contents) (t : State Table) (begins : BeginsDrill n c t) (first : First c t) where
-    is_drill : IsDrill n (drill_said c first.0)
-    is_drill = record { image = c; builds = begins.builds; first = first.0; begins = first.1; is = refl }
+  module _ (v : View) (t : State Table) (whole : IsWhole v) (begins : BeginsDrill n (contents_in v) t) where
+    abbrev first : First (contents_in v) t
+    first = first_births n v t whole begins
 
-    pub drill_done : SaysAll host (drill_said c first.0) old new → Says host (drill_said c first.0) old new → DrillEnds host n old new status.Done
-    drill_done all says = record {
-      has = (drill_said c first.0, is_drill, all);
-      alike = says.alike;
-      disk = says.disk_count;
-      complete = λ x builds calm. inl refl;
-    }
+    abbrev said : List ℕ
+    said = drill_said (contents_in v) first.0
 
-    pub drill_unsaid : Says host (drill_said c first.0) old new → Rose (host.say_faults old) (host.say_faults new) → DrillEnds host n old new status.SayFault
-    drill_unsaid says rose = record {
-      has = (drill_said c first.0, is_drill, says.part.part);
-      alike = says.alike;
-      disk = says.disk_count;
-      complete = λ x builds calm. absurd (calm rose);
-    }
+    is_drill : IsDrill n said
+    is_drill = record { image = contents_in v; builds = begins.builds; first = first.0; begins = first.1; is = refl }
+
+    abbrev SaysDrill : Result Unit SayFault → Type 0
+    SaysDrill result = Reports host (drill_said (contents_in v)) t old new result
+
+    pub drill_done : SaysDrill (Ok tt) → DrillEnds host n old new status.Done
+    drill_done reports =
+        let says = reports.says first.0 first.2 in
+        record {
+          has = (said, is_drill, reports.all first.0 first.2);
+          alike = says.alike;
+          disk = says.disk_count;
+          complete = λ x builds calm. inl refl;
+        }
+
+    pub drill_unsaid : (e : SayFault) → SaysDrill (Err e) → DrillEnds host n old new status.SayFault
+    drill_unsaid e reports =
+        let says = reports.says first.0 first.2 in
+        record {
+          has = (said, is_drill, says.part.part);
+          alike = says.alike;
+          disk = says.disk_count;
+          complete = λ x builds calm. absurd (calm (reports.cause.rose refl));
+        }
+
+    pub drill_reads : (result : Result Unit SayFault) → SaysDrill result → (text : List ℕ) × ReadsAndSays host text old new
+    drill_reads result reports = (said, (reports.says first.0 first.2).part)
 
   -- a text that is right isn't wrong
   right_is_right : (c : Contents) (fault : Fault) → Builds (drill_text n) c → IsWrongAt (drill_text n) fault → ⊥

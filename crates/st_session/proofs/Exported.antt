@@ -34,7 +34,7 @@ use Rattle.st_call.specs.LastLines.{last_line, SaysLastLine}
 use Rattle.st_session.specs.Commands.{opening_status}
 use Rattle.st_session.specs.Ends.{IsCalm, status_in}
 use Rattle.st_call.specs.Telling.{Tells}
-use Rattle.st_session.specs.Exports.{Export, ExportsImage, ExportsSaved, IsOfExporting, IsOfExport, LeavesOthers, HasExported, HasImage, ExportHas, Stays}
+use Rattle.st_session.specs.Exports.{Export, ExportsImage, ExportsSaved, IsOfExporting, IsOfExport, LeavesOthers, HasExported, HasImage, ExportHas, Stays, DoesExport}
 use Rattle.st_session.specs.declared.extent.Extent.{Extent}
 use Rattle.st_session.proofs.Commanded.{cause_between, opens_still}
 
@@ -125,6 +125,26 @@ module _ {D : Type 0} (host : Ghosts D) (name : List ℕ) where
         file = tells.says.alike.same told name ∙ file;
         said = subst (λ (t : List ℕ). SaidPart t x.text (host.said new)) quiet (tells.says.part.part told);
       })
+
+  -- so it is exported
+  pub export_told : (exports : Export → Type 0) (x : Export) (old mid new : D) (result : Result Unit Status) → exports x → (IsTrue host.is_told → host.files mid name ≡ option_or x.image (host.files old name)) → WritesAbove host 0 name old mid
+      → host.disk_faults old ≤ host.disk_faults mid → Tells host x.text mid new result → DoesExport host name exports old new result
+  export_told exports x old mid new result is file writes disk tells = record {
+    has = λ told. has_told exports x old mid new result is told (file told) (writes.run.quiet told) tells;
+    others = others_said x.text old mid new (others_above old mid writes) tells.says;
+    counts = counts_behind old mid new result disk writes.run.say tells.counts;
+    kind = told_kind x.text mid new result tells;
+  }
+
+  -- or it isn't written whole
+  pub export_failed : (exports : Export → Type 0) (old new : D) (e : Status) → IsOfExporting e → (IsTrue host.is_told → HasExported host name exports old new (Err e)) → WritesAbove host 0 name old new
+      → host.disk_faults old ≤ host.disk_faults new → StatusHasCause host ⊥ old new e → DoesExport host name exports old new (Err e)
+  export_failed exports old new e kind has writes disk cause = record {
+    has = has;
+    others = others_above old new writes;
+    counts = record { disk = disk; say = omega (arith, writes.run.say); cause = cause };
+    kind = kind;
+  }
 
   -- an export of some is one of others
   pub exported_as : (some others : Export → Type 0) (old new : D) (result : Result Unit Status) → ((x : Export) → some x → others x) → HasExported host name some old new result → HasExported host name others old new result

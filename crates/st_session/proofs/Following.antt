@@ -1,5 +1,5 @@
 -- A script that is followed in pieces.
-use Rattle.std.proofs.Common.{◌≡◌, ℕ, ◌+◌, ◌-◌, ◌≤◌, ◌<◌, List, [], ◌∷◌, ◌++◌, length, take, true, false, Bool, IsTrue, refl, sym, ap, ◌∙◌, append-nil, append_assoc, arith, length-append}
+use Rattle.std.proofs.Common.{◌≡◌, ℕ, ◌+◌, ◌-◌, ◌≤◌, ◌<◌, List, [], ◌∷◌, ◌++◌, length, take, true, false, Bool, IsTrue, refl, sym, ap, ◌∙◌, append_assoc, arith, length-append}
 use Rattle.std.specs.Prelude.{nat_le, Result, Ok, Err}
 use Rattle.std.proofs.lemmas.Bool.Decides.{nat_tests}
 use Rattle.std.proofs.Math.Seq.{take-append-add}
@@ -8,7 +8,7 @@ use Rattle.st_host.specs.Files.{Files}
 use Rattle.st_host.specs.Runs.{IsAtRest}
 use Rattle.st_host.specs.declared.host.Host.{Ghosts}
 use Rattle.st_host.proofs.Telling.{OnlyNow}
-use Rattle.st_chunk.specs.Reading.{Reading, read, end_read}
+use Rattle.st_chunk.specs.Reading.{Reading, read}
 use Rattle.st_chunk.specs.Scripts.{Asked, asked_by, asked_from, asked_at_end, told_from, read_through}
 use Rattle.st_protocol.specs.declared.status.Status.{Status}
 use Rattle.st_protocol.specs.declared.status.Status.TheVariants as status
@@ -69,9 +69,6 @@ module _ {C : Type 0} (keeping : Keeping C) (install : Install) where
   told_then : (r : Reading) (p : Point C) (a b : List ℕ) → follows p (told_from r (a ++ b)) ≡ and_then (follows p (told_from r a)) (λ q. follows q (told_from (read_through r a) b))
   told_then r p a b = ap (follows p) (told_both r a b) ∙ follow_both p (told_from r a) (told_from (read_through r a) b)
 
-  byte_is : (r : Reading) (p : Point C) (b : ℕ) → follows p (asked_by (read r b)) ≡ follows p (told_from r (b ∷ []))
-  byte_is r p b = ap (follows p) (sym (append-nil (asked_by (read r b))))
-
   abbrev pub rest_of : Reading → ℕ → Point C → List ℕ → Follow
   rest_of r left p rest = follow_rest keeping install r left p rest (nat_le (length rest) left)
 
@@ -125,20 +122,6 @@ module _ {C : Type 0} (keeping : Keeping C) (install : Install) where
         obeys_as host opens spared on kept p.kept (and_then (follows p (told_from r a)) (λ q. follows q (told_from (read_through r a) b))) (follows p (told_from r (a ++ b))) result old new (sym (told_then r p a b))
         (obeys_then host opens spared at kept on kept p.kept (follows p (told_from r a)) (λ q. follows q (told_from (read_through r a) b)) result old mid new first next)
 
-    -- one byte more
-    pub byte_more : (r : Reading) (p : Point C) (a : List ℕ) (b : ℕ) (result : Result Unit Status) (old mid new : D) → Doing at p.kept (follows p (told_from r a)) (Ok tt) old mid
-        → ((q : Point C) → at q → Doing on q.kept (follows q (asked_by (read (read_through r a) b))) result mid new)
-        → Doing on p.kept (follows p (told_from r (a ++ b ∷ []))) result old new
-    byte_more r p a b result old mid new first next =
-        told_more r p a (b ∷ []) result old mid new first
-        (λ q stands. obeys_as host opens spared on kept q.kept (follows q (asked_by (read (read_through r a) b))) (follows q (told_from (read_through r a) (b ∷ []))) result mid new (byte_is (read_through r a) q b) (next q stands))
-
-    -- where some bytes end the session, those behind them tell nothing
-    pub told_err : (r : Reading) (p : Point C) (a b : List ℕ) (e : Status) (old new : D) → Doing at p.kept (follows p (told_from r a)) (Err e) old new → Doing on p.kept (follows p (told_from r (a ++ b))) (Err e) old new
-    told_err r p a b e old new h =
-        obeys_as host opens spared on kept p.kept (and_then (follows p (told_from r a)) (λ q. follows q (told_from (read_through r a) b))) (follows p (told_from r (a ++ b))) (Err e) old new (sym (told_then r p a b))
-        (obeys_err host opens spared at kept on kept p.kept (follows p (told_from r a)) (λ q. follows q (told_from (read_through r a) b)) e old new h)
-
     -- so many bytes more may come behind some
     pub rest_then : (r : Reading) (left more : ℕ) (p : Point C) (bytes rest : List ℕ) (result : Result Unit Status) (old mid new : D) → length bytes + more ≡ left → Doing at p.kept (follows p (told_from r bytes)) (Ok tt) old mid
         → ((q : Point C) → at q → Doing on q.kept (rest_of (read_through r bytes) more q rest) result mid new)
@@ -162,22 +145,3 @@ module _ {C : Type 0} (keeping : Keeping C) (install : Install) where
 
     pub ends_err : (k : C) (c : Follow) (end e : Status) (old new : D) → Doing at k c (Err e) old new → Doing on k (and_then c (λ q. Ends [] end)) (Err e) old new
     ends_err k c end e old new h = obeys_err host opens spared at kept on kept k c (λ q. Ends [] end) e old new h
-
-    -- the end of the script comes once, and once more
-    pub end_then : (r : Reading) (p : Point C) (result : Result Unit Status) (old mid new : D) → Doing at p.kept (follows p (asked_by (end_read r))) (Ok tt) old mid
-        → ((q : Point C) → at q → Doing on q.kept (and_then (follows q (asked_by (end_read (end_read r).0))) (λ o. Ends [] status.Done)) result mid new)
-        → Doing on p.kept (and_then (follows p (asked_at_end r)) (λ q. Ends [] status.Done)) result old new
-    end_then r p result old mid new first next =
-        let a = asked_by (end_read r) in
-        let b = asked_by (end_read (end_read r).0) in
-        obeys_as host opens spared on kept p.kept (and_then (follows p a) (λ q. and_then (follows q b) (λ o. Ends [] status.Done))) (and_then (follows p (a ++ b)) (λ q. Ends [] status.Done)) result old new
-        (sym ((λ i. and_then (follow_both p a b i) (λ q. Ends [] status.Done)) ∙ then_then (follows p a) (λ q. follows q b) (λ q. Ends [] status.Done)))
-        (obeys_then host opens spared at kept on kept p.kept (follows p a) (λ q. and_then (follows q b) (λ o. Ends [] status.Done)) result old mid new first next)
-
-    pub end_err : (r : Reading) (p : Point C) (e : Status) (old new : D) → Doing at p.kept (follows p (asked_by (end_read r))) (Err e) old new → Doing on p.kept (and_then (follows p (asked_at_end r)) (λ q. Ends [] status.Done)) (Err e) old new
-    end_err r p e old new h =
-        let a = asked_by (end_read r) in
-        let b = asked_by (end_read (end_read r).0) in
-        obeys_as host opens spared on kept p.kept (and_then (follows p a) (λ q. and_then (follows q b) (λ o. Ends [] status.Done))) (and_then (follows p (a ++ b)) (λ q. Ends [] status.Done)) (Err e) old new
-        (sym ((λ i. and_then (follow_both p a b i) (λ q. Ends [] status.Done)) ∙ then_then (follows p a) (λ q. follows q b) (λ q. Ends [] status.Done)))
-        (obeys_err host opens spared at kept on kept p.kept (follows p a) (λ q. and_then (follows q b) (λ o. Ends [] status.Done)) e old new h)

@@ -1,6 +1,6 @@
 -- Last lines acknowledge nothing, and none says that a store is made.
-use Rattle.std.proofs.Common.{◌≡◌, ℕ, List, [], ◌∷◌, ◌++◌, refl, sym, ap, ◌∙◌, subst, append-nil, arith}
-use Rattle.std.specs.Prelude.{codes, decimal, slice_index}
+use Rattle.std.proofs.Common.{◌≡◌, ℕ, false, true≢false, List, [], ◌∷◌, ◌++◌, refl, sym, ap, ◌∙◌, subst, append-nil, arith}
+use Rattle.std.specs.Prelude.{codes, decimal, slice_index, ◌==◌}
 use Rattle.std.proofs.lemmas.List.{append_cancel_left}
 use Rattle.st_host.specs.Stops.{SaidPart}
 use Rattle.st_model.specs.declared.fault.ImageFault.{ImageFault}
@@ -72,51 +72,35 @@ quiet_line status.OutOfMemory = refl
 
 -- MADE
 
-first : {a b : List ℕ} → a ≡ b → slice_index a 0 ≡ slice_index b 0
-first e = ap (λ (l : List ℕ). slice_index l 0) e
+-- a line doesn't begin as `built`, and its third letter isn't that of `imported`
+record IsOther (line : List ℕ) : Type 0 where
+  first : (slice_index line 0 == 98) ≡ false
+  third : (slice_index line 2 == 112) ≡ false
 
-third : {a b : List ℕ} → a ≡ b → slice_index a 2 ≡ slice_index b 2
-third e = ap (λ (l : List ℕ). slice_index l 2) e
+store_other : (f : StoreFault) → IsOther (store_line f)
+store_other store.Missing = record { first = refl; third = refl }
+store_other store.Exists = record { first = refl; third = refl }
+store_other (store.NotAStore (Roots at)) = record { first = refl; third = refl }
+store_other (store.NotAStore (Changes at)) = record { first = refl; third = refl }
+store_other store.Disk = record { first = refl; third = refl }
+store_other store.OutOfMemory = record { first = refl; third = refl }
 
-store_not_imported : (c : Contents) (f : StoreFault) (rest : List ℕ) → made_text Image c ++ rest ≡ store_line f → ⊥
-store_not_imported c store.Missing rest e = let x : 112 ≡ 111 = third e in omega (arith, x)
-store_not_imported c store.Exists rest e = let x : 112 ≡ 111 = third e in omega (arith, x)
-store_not_imported c (store.NotAStore (Roots at)) rest e = let x : 112 ≡ 111 = third e in omega (arith, x)
-store_not_imported c (store.NotAStore (Changes at)) rest e = let x : 112 ≡ 111 = third e in omega (arith, x)
-store_not_imported c store.Disk rest e = let x : 112 ≡ 115 = third e in omega (arith, x)
-store_not_imported c store.OutOfMemory rest e = let x : 112 ≡ 116 = third e in omega (arith, x)
-
-store_not_built : (c : Contents) (f : StoreFault) (rest : List ℕ) → made_text Kernel c ++ rest ≡ store_line f → ⊥
-store_not_built c store.Missing rest e = let x : 98 ≡ 115 = first e in omega (arith, x)
-store_not_built c store.Exists rest e = let x : 98 ≡ 115 = first e in omega (arith, x)
-store_not_built c (store.NotAStore (Roots at)) rest e = let x : 98 ≡ 115 = first e in omega (arith, x)
-store_not_built c (store.NotAStore (Changes at)) rest e = let x : 98 ≡ 115 = first e in omega (arith, x)
-store_not_built c store.Disk rest e = let x : 98 ≡ 100 = first e in omega (arith, x)
-store_not_built c store.OutOfMemory rest e = let x : 98 ≡ 111 = first e in omega (arith, x)
+other : (e : Status) → IsOther (last_line e)
+other status.Done = record { first = refl; third = refl }
+other status.Usage = record { first = refl; third = refl }
+other (status.Image f) = record { first = refl; third = refl }
+other (status.Script line) = record { first = refl; third = refl }
+other status.ReadFault = record { first = refl; third = refl }
+other status.SayFault = record { first = refl; third = refl }
+other status.DiskFault = record { first = refl; third = refl }
+other (status.Store f) = store_other f
+other (status.Kernel chunk cause) = record { first = refl; third = refl }
+other status.TooLarge = record { first = refl; third = refl }
+other status.OutOfMemory = record { first = refl; third = refl }
 
 not_made : (o : Origin) (c : Contents) (e : Status) (rest : List ℕ) → made_text o c ++ rest ≡ last_line e → ⊥
-not_made Image c status.Done rest e = let x : 112 ≡ 0 = third e in omega (arith, x)
-not_made Image c status.Usage rest e = let x : 112 ≡ 97 = third e in omega (arith, x)
-not_made Image c (status.Image f) rest e = let x : 112 ≡ 97 = third e in omega (arith, x)
-not_made Image c (status.Script line) rest e = let x : 112 ≡ 114 = third e in omega (arith, x)
-not_made Image c status.ReadFault rest e = let x : 112 ≡ 97 = third e in omega (arith, x)
-not_made Image c status.SayFault rest e = let x : 112 ≡ 0 = third e in omega (arith, x)
-not_made Image c status.DiskFault rest e = let x : 112 ≡ 115 = third e in omega (arith, x)
-not_made Image c (status.Store f) rest e = store_not_imported c f rest e
-not_made Image c (status.Kernel chunk cause) rest e = let x : 112 ≡ 114 = third e in omega (arith, x)
-not_made Image c status.TooLarge rest e = let x : 112 ≡ 111 = third e in omega (arith, x)
-not_made Image c status.OutOfMemory rest e = let x : 112 ≡ 116 = third e in omega (arith, x)
-not_made Kernel c status.Done rest e = let x : 98 ≡ 0 = first e in omega (arith, x)
-not_made Kernel c status.Usage rest e = let x : 98 ≡ 117 = first e in omega (arith, x)
-not_made Kernel c (status.Image f) rest e = let x : 98 ≡ 105 = first e in omega (arith, x)
-not_made Kernel c (status.Script line) rest e = let x : 98 ≡ 115 = first e in omega (arith, x)
-not_made Kernel c status.ReadFault rest e = let x : 98 ≡ 114 = first e in omega (arith, x)
-not_made Kernel c status.SayFault rest e = let x : 98 ≡ 0 = first e in omega (arith, x)
-not_made Kernel c status.DiskFault rest e = let x : 98 ≡ 100 = first e in omega (arith, x)
-not_made Kernel c (status.Store f) rest e = store_not_built c f rest e
-not_made Kernel c (status.Kernel chunk cause) rest e = let x : 98 ≡ 107 = first e in omega (arith, x)
-not_made Kernel c status.TooLarge rest e = let x : 98 ≡ 116 = first e in omega (arith, x)
-not_made Kernel c status.OutOfMemory rest e = let x : 98 ≡ 111 = first e in omega (arith, x)
+not_made Image c e rest is = true≢false (ap (λ (l : List ℕ). slice_index l 2 == 112) is ∙ (other e).third)
+not_made Kernel c e rest is = true≢false (ap (λ (l : List ℕ). slice_index l 0 == 98) is ∙ (other e).first)
 
 -- no part of a last line
 pub part_not_made : (o : Origin) (c : Contents) (e : Status) (said s : List ℕ) → SaidPart said (last_line e) s → s ≡ said ++ made_text o c → ⊥

@@ -18,6 +18,7 @@ pub mod Looking
 pub mod Made
 pub mod Points
 pub mod Reported
+pub mod Requests
 pub mod Responding
 pub mod Rows
 pub mod Saying

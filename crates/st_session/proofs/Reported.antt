@@ -8,20 +8,23 @@ use Rattle.st_model.specs.Machine.{State, Transition, Died, Went}
 use Rattle.st_model.specs.Births.{Births, births}
 use Rattle.st_model.specs.Cycles.{cycle, run, run_of, finished, finished_of, and_on, counted}
 use Rattle.st_model.specs.Table.{Table}
-use Rattle.st_model.specs.Show.{show}
+use Rattle.st_model.specs.Show.{Shows, show}
 use Rattle.st_model.specs.Text.{dead_text, quit_text, debugger_text, space_text, ran_text, said_value}
 use Rattle.st_model.proofs.Showing.{show_is}
 use Rattle.st_protocol.specs.Courses.{Reply, Goes, Ends, deeds_of, said_of, preceded}
 use Rattle.st_protocol.proofs.Courses.{said_of_both, deeds_preceded}
 use Rattle.st_host.specs.declared.host.Host.{Ghosts}
 use Rattle.st_host.specs.declared.host.SayFault.{SayFault}
+use Rattle.st_host.specs.Counts.{HasCause}
 use Rattle.st_host.specs.Runs.{SaysAll}
+use Rattle.st_host.specs.Telling.{Says}
+use Rattle.st_host.proofs.Rising.{cause_after}
 use Rattle.st_call.specs.Saying.{Pushes}
-use Rattle.st_call.proofs.Pushing.{push_then, push_begun, push_as, pushed_all}
+use Rattle.st_call.proofs.Pushing.{push_then, push_begun, push_as, pushed_all, pushed_part, pushed_says}
 use Rattle.st_session.specs.Points.{Being, Alive, Gone, Point}
 use Rattle.st_session.specs.Keeping.{keeps_nothing}
 use Rattle.st_session.specs.Answers.{cycle_course, run_course}
-use Rattle.st_session.specs.Reports.{Line, cycles, text_of, being_text, shown_text, line_text, run_text, text_at}
+use Rattle.st_session.specs.Reports.{Line, cycles, text_of, being_text, shown_text, line_text, run_text, text_at, Reports}
 use Rattle.st_session.specs.Pushing.{LeadsTo, PushesCourse}
 use Rattle.st_session.specs.Standing.{IsBeing}
 use Rattle.st_session.proofs.Stretches.{Deeds}
@@ -100,10 +103,28 @@ module _ (shows : State Table → List ℕ) where
     unreported err run = push_begun (shown_text shows (cycles 0 n s)) err run.pushes
 
 -- what was added to nothing, and then said whole, or not
-pub none_said : (A : Type 0) (r : Result Unit SayFault) → IsErr r → OnOk r A
+none_said : (A : Type 0) (r : Result Unit SayFault) → IsErr r → OnOk r A
 none_said A (Ok x) err = cc
 none_said A (Err x) err = tt
 
-pub all_said : {D : Type 0} {host : Ghosts D} {t p q : List ℕ} {old mid : D} (new : D) (r : Result Unit SayFault) → p ≡ [] → Pushes {E = SayFault} host t old mid p q (Ok tt) → OnOk r (SaysAll host q mid new) → OnOk r (SaysAll host t old new)
+all_said : {D : Type 0} {host : Ghosts D} {t p q : List ℕ} {old mid : D} (new : D) (r : Result Unit SayFault) → p ≡ [] → Pushes {E = SayFault} host t old mid p q (Ok tt) → OnOk r (SaysAll host q mid new) → OnOk r (SaysAll host t old new)
 all_said new (Ok x) empty run all = pushed_all empty run all
 all_said new (Err x) empty run all = tt
+
+module _ {D : Type 0} {host : Ghosts D} {text : State Births → List ℕ} {first : State Table} {old : D} {p q : List ℕ} (some : (s : State Births) × Shows first s) (empty : p ≡ []) where
+  -- the text was added to nothing, and said whole
+  pub reports_all : {mid new : D} {result : Result Unit SayFault} → ((s : State Births) → Shows first s → Pushes {E = SayFault} host (text s) old mid p q (Ok tt)) → OnOk result (SaysAll host q mid new) → Says host q mid new
+      → HasCause (host.say_faults mid) (host.say_faults new) result → Reports host text first old new result
+  reports_all {mid = mid} {new = new} {result = result} push all says cause = record {
+    all = λ s h. all_said new result empty (push s h) all;
+    says = λ s h. pushed_says empty (push s h) says;
+    cause = cause_after (host.say_faults old) (host.say_faults mid) (host.say_faults new) result (push some.0 some.1).cause.later cause;
+  }
+
+  -- a fault came while it was added
+  pub reports_part : {new : D} {fault : SayFault} (result : Result Unit SayFault) → IsErr result → ((s : State Births) → Shows first s → Pushes {E = SayFault} host (text s) old new p q (Err fault)) → Reports host text first old new result
+  reports_part {new = new} result err push = record {
+    all = λ s h. none_said (SaysAll host (text s) old new) result err;
+    says = λ s h. pushed_part empty (push s h);
+    cause = let run = push some.0 some.1 in record { later = run.cause.later; rose = λ err. run.cause.rose refl };
+  }

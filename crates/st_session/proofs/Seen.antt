@@ -81,9 +81,16 @@ module _ (n : ℕ) (d : State Table) (e : RunEnd) (o : Transition (State Births)
     stands : IsBeing (death_of e) d being
     is : (f : State Births → Stretch) → cycle_stretch n o f ≡ over (end_text (n + cycles_of 1 e) e) being
 
-alive_end : (n : ℕ) (d : State Table) (e : RunEnd) (a x : Ending) (s : State Births) → death_of e ≡ None → Shows d s → x ≡ a
-    → ((f : State Births → Stretch) → cycle_stretch n (Went a s) f ≡ over (end_text (n + cycles_of 1 e) e) (Alive s)) → IsEnd n d e (Went x s)
-alive_end n d e a x s lives shows same is = record { being = Alive s; stands = (lives, shows); is = λ f. ap (λ y. cycle_stretch n (Went y s) f) same ∙ is f }
+-- it ends alive, with a text that has how many cycles are finished
+alive_end : (n k m : ℕ) (d : State Table) (e : RunEnd) (a x : Ending) (s : State Births) (text : ℕ → List ℕ) → death_of e ≡ None → Shows d s → x ≡ a → once (Went x s) ≡ k → (once (Went a s) ≡ k → m ≡ n + k)
+    → ((f : State Births → Stretch) → cycle_stretch n (Went a s) f ≡ over (text m) (Alive s)) → text (n + k) ≡ end_text (n + cycles_of 1 e) e → IsEnd n d e (Went x s)
+alive_end n k m d e a x s text lives shows same c count is last =
+    let finished : m ≡ n + k = count (ap (λ z. once (Went z s)) (sym same) ∙ c) in
+    record {
+      being = Alive s;
+      stands = (lives, shows);
+      is = λ f. ap (λ y. cycle_stretch n (Went y s) f) same ∙ (is f ∙ (ap (λ y. over (text y) (Alive s)) finished ∙ ap (λ y. over y (Alive s)) last));
+    }
 
 is_end : (n : ℕ) (d : State Table) (e : RunEnd) → (e ≡ end.Ran → ⊥) → ((k : ℕ) → e ≡ end.Snapshot k → ⊥) → ((k : ℕ) (p : Oop) → e ≡ end.Say k p → ⊥)
     → (o : Transition (State Births) Ending) → EndsShown (transition_at e d) o → once o ≡ cycles_of 1 e → IsEnd n d e o
@@ -93,22 +100,13 @@ is_end n d (end.Say k p) r w y o h c = absurd (y k p refl)
 is_end n d (end.Space k demand entries words) r w y (Died cause) h c = absurd h
 is_end n d (end.Space k demand entries words) r w y (Went x s) h c =
     let left : Demand = record { entries = entries; words = words } in
-    let same = back (pointer_of s.memory) (Space demand left) x h.0 in
-    let none : 0 ≡ k = ap (λ z. once (Went z s)) (sym same) ∙ c in
-    let m : n ≡ n + k = omega (arith, none) in
-    alive_end n d (end.Space k demand entries words) (Space demand left) x s refl h.1 same (λ f i. over (space_text (m i) demand left) (Alive s))
+    alive_end n k n d (end.Space k demand entries words) (Space demand left) x s (λ m. space_text m demand left) refl h.1 (back (pointer_of s.memory) (Space demand left) x h.0) c (λ (none : 0 ≡ k). omega (arith, none)) (λ f. refl) refl
 is_end n d (end.Quit k) r w y (Died cause) h c = absurd h
 is_end n d (end.Quit k) r w y (Went x s) h c =
-    let same = back (pointer_of s.memory) (With outcome.Quit) x h.0 in
-    let one : 1 ≡ k = ap (λ z. once (Went z s)) (sym same) ∙ c in
-    let m : suc n ≡ n + k = omega (arith, one) in
-    alive_end n d (end.Quit k) (With outcome.Quit) x s refl h.1 same (λ f i. over (quit_text (m i)) (Alive s))
+    alive_end n k (suc n) d (end.Quit k) (With outcome.Quit) x s quit_text refl h.1 (back (pointer_of s.memory) (With outcome.Quit) x h.0) c (λ (one : 1 ≡ k). omega (arith, one)) (λ f. refl) refl
 is_end n d (end.Debugger k) r w y (Died cause) h c = absurd h
 is_end n d (end.Debugger k) r w y (Went x s) h c =
-    let same = back (pointer_of s.memory) (With outcome.Debugger) x h.0 in
-    let one : 1 ≡ k = ap (λ z. once (Went z s)) (sym same) ∙ c in
-    let m : suc n ≡ n + k = omega (arith, one) in
-    alive_end n d (end.Debugger k) (With outcome.Debugger) x s refl h.1 same (λ f i. over (debugger_text (m i)) (Alive s))
+    alive_end n k (suc n) d (end.Debugger k) (With outcome.Debugger) x s debugger_text refl h.1 (back (pointer_of s.memory) (With outcome.Debugger) x h.0) c (λ (one : 1 ≡ k). omega (arith, one)) (λ f. refl) refl
 is_end n d (end.Dead k cause) r w y (Died b) h c =
     let none : 0 ≡ k = c in
     let m : n ≡ n + k = omega (arith, none) in
@@ -127,6 +125,11 @@ module _ (d : State Table) (e : RunEnd) (s : State Births) (ends : EndsAs 1 s e 
 
   last : (n : ℕ) → (e ≡ end.Ran → ⊥) → ((k : ℕ) → e ≡ end.Snapshot k → ⊥) → ((k : ℕ) (p : Oop) → e ≡ end.Say k p → ⊥) → IsEnd n d e (cycle births s)
   last n r w y = is_end n d e r w y (cycle births s) shown_end finished_end
+
+-- it is known to what the cycle leads
+pub cycled_so : {D : Type 0} {host : Ghosts D} {death : Option Dead} {d : State Table} {n : ℕ} {r : (State Births → Stretch) → Stretch} {old new : D} {p q : List ℕ} {x y : Cycled} → x ≡ y
+    → PushesCycle {E = SayFault} host death d n r old new p q (Ok x) → PushesCycle {E = SayFault} host death d n r old new p q (Ok y)
+cycled_so {host = host} {death = death} {d = d} {n = n} {r = r} {old = old} {new = new} {p = p} {q = q} is push = subst (λ z. PushesCycle {E = SayFault} host death d n r old new p q (Ok z)) is push
 
 module _ {D : Type 0} {host : Ghosts D} (n : ℕ) (d : State Table) (e : RunEnd) (s : State Births) (ends : EndsAs 1 s e d) (death : Option Dead) where
   -- the line goes on
@@ -187,29 +190,25 @@ module _ {D : Type 0} {host : Ghosts D} (n : ℕ) (d : State Table) (e : RunEnd)
 
   -- the line is over
   module _ (r : e ≡ end.Ran → ⊥) (w : (k : ℕ) → e ≡ end.Snapshot k → ⊥) (y : (k : ℕ) (p : Oop) → e ≡ end.Say k p → ⊥) where
-    pub is_over : death ≡ death_of e → {old new : D} {p q : List ℕ} → Pushes {E = SayFault} host (end_text (n + cycles_of 1 e) e) old new p q (Ok tt)
-        → PushesCycle {E = SayFault} host death d n (cycle_stretch n (cycle births s)) old new p q (Ok cycled.Over)
-    is_over died run =
+    over_as : {result : Result Cycled SayFault} → ((being : Being) → IsBeing (death_of e) d being → IfOk result (λ x. StandsNext death d n x (Halts (Over being)))) → {old new : D} {p q : List ℕ}
+        → Pushes {E = SayFault} host (end_text (n + cycles_of 1 e) e) old new p q (went result) → PushesCycle {E = SayFault} host death d n (cycle_stretch n (cycle births s)) old new p q result
+    over_as stands run =
         let z = last d e s ends n r w y in
         record {
           texts = end_text (n + cycles_of 1 e) e ∷ [];
           next = Halts (Over z.being);
           is = z.is;
           pushes = push_as run (sym (append-nil (end_text (n + cycles_of 1 e) e)));
-          stands = subst (λ x. IsBeing x d z.being) (sym died) z.stands;
+          stands = stands z.being z.stands;
         }
+
+    pub is_over : death ≡ death_of e → {old new : D} {p q : List ℕ} → Pushes {E = SayFault} host (end_text (n + cycles_of 1 e) e) old new p q (Ok tt)
+        → PushesCycle {E = SayFault} host death d n (cycle_stretch n (cycle births s)) old new p q (Ok cycled.Over)
+    is_over died run = over_as {result = Ok cycled.Over} (λ being at. subst (λ x. IsBeing x d being) (sym died) at) run
 
     pub over_unsaid : {old new : D} {p q : List ℕ} {fault : SayFault} → Pushes {E = SayFault} host (end_text (n + cycles_of 1 e) e) old new p q (Err fault)
         → PushesCycle {E = SayFault} host death d n (cycle_stretch n (cycle births s)) old new p q (Err fault)
-    over_unsaid run =
-        let z = last d e s ends n r w y in
-        record {
-          texts = end_text (n + cycles_of 1 e) e ∷ [];
-          next = Halts (Over z.being);
-          is = z.is;
-          pushes = push_as run (sym (append-nil (end_text (n + cycles_of 1 e) e)));
-          stands = tt;
-        }
+    over_unsaid {fault = fault} run = over_as {result = Err fault} (λ being at. tt) run
 
 -- WHAT IS SEEN BEFORE IT
 

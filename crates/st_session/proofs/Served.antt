@@ -3,6 +3,9 @@ use Rattle.std.proofs.Common.{◌≡◌, refl, subst, arith}
 use Rattle.std.specs.Prelude.{Result, Ok, Err, IsErrOf, OnOk, ℕ, List}
 use Rattle.st_model.specs.View.{View}
 use Rattle.st_host.specs.declared.host.Host.{Ghosts}
+use Rattle.st_chunk.specs.Reading.{Told}
+use Rattle.st_chunk.specs.Scripts.{asked_by}
+use Rattle.st_install.specs.Defining.{installed}
 use Rattle.st_protocol.specs.declared.status.Status.{Status}
 use Rattle.st_protocol.specs.declared.status.Status.TheVariants as status
 use Rattle.st_protocol.specs.Courses.{Course}
@@ -11,7 +14,9 @@ use Rattle.st_recover.specs.Archives.{IsOfKeeping}
 use Rattle.st_recover.specs.Commits.{Commit}
 use Rattle.st_call.specs.Telling.{IsOfServing, Tells}
 use Rattle.st_session.specs.declared.kept.Kept.{Kept}
+use Rattle.st_session.specs.Keeping.{in_a_store}
 use Rattle.st_session.specs.Points.{Point}
+use Rattle.st_session.specs.Sessions.{follow}
 use Rattle.st_session.specs.Standing.{MayGoOn, Follows, Serves}
 use Rattle.st_session.proofs.Saying.{when_ok}
 use Rattle.st_session.proofs.Starving.{never_starved}
@@ -87,3 +92,9 @@ module _ {M D : Type 0} {view : M → View} {host : Ghosts D} {A : Type 0} {cour
     served = tt;
     starved = ample (Ok tt) tt;
   }
+
+-- what is told to be asked for is the same
+pub served_asked : {M D : Type 0} {view : M → View} {host : Ghosts D} {A : Type 0} {s t : Kept M} {old new : D} {result : Result Unit Status} {one other : Told} → one ≡ other
+    → Serves view host (λ p. follow in_a_store installed p (asked_by one)) A s old result t new → Serves view host (λ p. follow in_a_store installed p (asked_by other)) A s old result t new
+served_asked {view = view} {host = host} {A = A} {s = s} {t = t} {old = old} {new = new} {result = result} same h =
+    subst (λ x. Serves view host (λ p. follow in_a_store installed p (asked_by x)) A s old result t new) same h

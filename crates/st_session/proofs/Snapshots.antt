@@ -205,8 +205,15 @@ module _ {M D : Type 0} (view : M → View) (host : Ghosts D) (look : ℕ → St
       (said_began host (OpensAs name) (IsNoFileOf name) far.commit texts now mid (unkept Commit next.texts) rest_now cut.says))))
 
   -- up to a snapshot
-  module _ (j : ℕ) (h : Says_next (Ok (Some j))) (m2 : Machine M) (b : ArchiveState) (new : D) where
-    pub asked : IsAskedAt in_a_store (watched_course in_a_store look) m1.death (shown_by view m1) n far.commit j next
+  module _ {x : Option ℕ} {j : ℕ} (is : x ≡ Some j) (says : (t : State Births) → Shows (shown_by view m) t → SaysStretch host m1.death (shown_by view m1) (watched_stretch look done (n - done) t) now mid (Ok x)) (m2 : Machine M) (b : ArchiveState) (new : D) where
+    h : Says_next (Ok (Some j))
+    h = subst (λ (y : Option ℕ). Says_next (Ok y)) is (says far.state far.shows)
+
+    -- what the snapshot did, from wherever it was begun
+    abbrev Snapped : Result Unit Status → Type 0
+    Snapped result = (p : Point Commit) → IsAt view host m1 a mid p → GoesAs view host a.name m2 b mid new p.kept (going_on in_a_store (in_a_store.snapshot j) p.being p.kept) result
+
+    asked : IsAskedAt in_a_store (watched_course in_a_store look) m1.death (shown_by view m1) n far.commit j next
     asked = is_asked_at in_a_store (watched_course in_a_store look) m1.death (shown_by view m1) n far.commit j next h.stops
 
     abbrev snap : Course Commit (Point Commit)
@@ -216,22 +223,22 @@ module _ {M D : Type 0} (view : M → View) (host : Ghosts D) (look : ℕ → St
     cont p = going_on in_a_store (watched_course in_a_store look j (n - j)) p.being p.kept
 
     -- where the snapshot is begun
-    pub at_snapshot : IsAt view host m1 a mid (alive asked.state far.commit)
+    at_snapshot : IsAt view host m1 a mid (alive asked.state far.commit)
     at_snapshot = record { stands = (asked.lives, asked.shows); holds = held h.tells }
 
     to_snapshot : DidFirst host name c (watched_course in_a_store look 0 n s c) far.commit (and_then snap cont) old mid
     to_snapshot = subst (λ x. DidFirst host name c (watched_course in_a_store look 0 n s c) far.commit x old mid) asked.follows (said_first h.tells)
 
-    here : (result : Result Unit Status) → GoesAs view host a.name m2 b mid new far.commit snap result → GoesAs view host name m2 b mid new far.commit snap result
-    here result run = subst (λ (x : List ℕ). GoesAs view host x m2 b mid new far.commit snap result) (sym named) run
+    here : (result : Result Unit Status) → Snapped result → GoesAs view host name m2 b mid new far.commit snap result
+    here result run = subst (λ (y : List ℕ). GoesAs view host y m2 b mid new far.commit snap result) (sym named) (run (alive asked.state far.commit) at_snapshot)
 
-    pub snapshot_failed : (e : Status) → GoesAs view host a.name m2 b mid new far.commit snap (Err e) → GoesAs view host name m2 b old new c (watched_course in_a_store look 0 n s c) (Err e)
+    pub snapshot_failed : (e : Status) → Snapped (Err e) → GoesAs view host name m2 b old new c (watched_course in_a_store look 0 n s c) (Err e)
     snapshot_failed e run =
         first_ends host name c (watched_course in_a_store look 0 n s c) to_snapshot (IsAt view host m2 b new) (Err e) new
         (obeys_err host (OpensAs name) (IsNoFileOf name) (IsAt view host m2 b new) (λ (q : Point Commit). q.kept) (IsAt view host m2 b new) (λ (q : Point Commit). q.kept) far.commit snap cont e mid new (here (Err e) run))
 
     -- the machine died of saving
-    pub snapshot_died : (cause : Dead) → m2.death ≡ Some cause → name ≡ b.name → OnlyNow host new → GoesAs view host a.name m2 b mid new far.commit snap (Ok tt) → GoesAs view host name m2 b old new c (watched_course in_a_store look 0 n s c) (Ok tt)
+    pub snapshot_died : (cause : Dead) → m2.death ≡ Some cause → name ≡ b.name → OnlyNow host new → Snapped (Ok tt) → GoesAs view host name m2 b old new c (watched_course in_a_store look 0 n s c) (Ok tt)
     snapshot_died cause dies same only run =
         first_ends host name c (watched_course in_a_store look 0 n s c) to_snapshot (IsAt view host m2 b new) (Ok tt) new
         (obeys_then host (OpensAs name) (IsNoFileOf name) (IsAt view host m2 b new) (λ (q : Point Commit). q.kept) (IsAt view host m2 b new) (λ (q : Point Commit). q.kept) far.commit snap cont (Ok tt) mid new new (here (Ok tt) run) ended)
@@ -247,7 +254,7 @@ module _ {M D : Type 0} (view : M → View) (host : Ghosts D) (look : ℕ → St
                 (record { stands = w; holds = at.holds }) refl
 
     -- or the run goes on
-    pub snapshot_kept : m2.death ≡ None → GoesAs view host a.name m2 b mid new far.commit snap (Ok tt) → RanSoFar view host look name n s c j m2 b old new
+    pub snapshot_kept : m2.death ≡ None → Snapped (Ok tt) → RanSoFar view host look name n s c j m2 b old new
     snapshot_kept lives run = over snap refl (here (Ok tt) run)
       where
         over : (course : Course Commit (Point Commit)) → snap ≡ course → GoesAs view host name m2 b mid new far.commit course (Ok tt) → RanSoFar view host look name n s c j m2 b old new

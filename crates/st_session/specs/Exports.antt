@@ -1,5 +1,5 @@
 -- How an image of what a store holds is exported: of all objects, or of those that can be reached.
-use Rattle.std.specs.Prelude.{◌≡◌, ◌≢◌, ◌⊎◌, ℕ, List, ◌++◌, length, Option, Some, None, IsTrue, Result, Ok, Err, ⊤}
+use Rattle.std.specs.Prelude.{◌≡◌, ◌≢◌, ◌⊎◌, ℕ, List, ◌++◌, length, Option, Some, None, IsTrue, Result, Ok, Err, IfErr, ⊤}
 use Rattle.std.specs.Option.{option_or}
 use Rattle.st_host.specs.Files.{Files}
 use Rattle.st_host.specs.Runs.{LeavesOnly, Spares, IsAtRest}
@@ -14,6 +14,7 @@ use Rattle.st_model.specs.Table.{Table}
 use Rattle.st_model.specs.Text.{dead_text}
 use Rattle.st_store.specs.Names.{IsNoFileOf}
 use Rattle.st_protocol.specs.declared.status.Status.{Status}
+use Rattle.st_protocol.specs.Statuses.{Counts}
 use Rattle.st_protocol.specs.declared.status.Status.TheVariants.{Done, Script, ReadFault, SayFault, DiskFault, OutOfMemory}
 use Rattle.st_install.specs.Defining.{installed}
 use Rattle.st_clean.specs.Cleaning.{IsCleaned}
@@ -99,6 +100,13 @@ module _ {D : Type 0} (host : Ghosts D) where
   HasExported name exports old new (Err SayFault) = IsWritten exports (PartSaid old new) name old new
   HasExported name exports old new (Err OutOfMemory) = IsUnwritten name old new
   HasExported name exports old new (Err status) = host.said new ≡ host.said old
+
+  -- What a call does that exports these to the file of this name: no other file is changed, and a fault has its cause.
+  pub record DoesExport (name : List ℕ) (exports : Export → Type 0) (old new : D) (result : Result Unit Status) : Type 0 where
+    pub has : IsTrue host.is_told → HasExported name exports old new result
+    pub others : LeavesOthers name old new
+    pub counts : Counts host ⊥ old new result
+    pub kind : IfErr result IsOfExporting
 
   -- at each moment and behind it the store opens as this
   pub record Stays (store : List ℕ) (c : Commit) (old new : D) : Type 0 where

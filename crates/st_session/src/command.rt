@@ -1,10 +1,10 @@
-ghost use Rattle.std.specs.Prelude.{◌≡◌, ℕ, List, IsTrue, OnOk, None};
-ghost use Rattle.st_host.specs.{Counts.{HasCause, Rose}, Files.bytes_of, Runs.{ReadsAndSays, SaysAll}};
-ghost use Rattle.st_host.specs.Telling.{Says};
-ghost use Rattle.st_model.specs.{Machine.State, Births.Births, Show.Shows, Text.state_text};
-ghost use Rattle.st_frames.specs.Shown.{IsReady, shown};
+ghost use Rattle.std.specs.Prelude.{◌≡◌, ℕ, List, IsTrue, None};
+ghost use Rattle.st_host.specs.{Counts.Rose, Files.bytes_of, Runs.ReadsAndSays};
+ghost use Rattle.st_model.specs.Text.{state_text};
+ghost use Rattle.st_frames.specs.Shown.{IsReady};
 ghost use Rattle.st_protocol.specs.Statuses.{StatusHasCause};
-ghost use Rattle.st_session.specs.{Commands.OnceEnds, Reports.run_text, StoreSessions.SessionCommandEnds};
+ghost use Rattle.st_session.specs.{Commands.OnceEnds, Reports.{Reports, run_text}, Standing.shown_by};
+ghost use Rattle.st_session.specs.StoreSessions.{SessionCommandEnds};
 
 use crate::opening_refusal::refuse_opening;
 use crate::reading::serve;
@@ -26,13 +26,8 @@ fn run_and_report<H: Host, M: Memory>(
 ) -> Result<(), SayFault>
     requires ready { IsReady (M.view machine.old.memory) machine.old.frame machine.old.world }
     requires alive { machine.old.death ≡ None }
-    ensures all { let first = shown (M.view machine.old.memory) machine.old.frame machine.old.world in
-        (s : State Births) → Shows first s →
-        OnOk result (SaysAll H.Host.own (run_text state_text cycles s) host.old host.new) }
-    ensures says { let first = shown (M.view machine.old.memory) machine.old.frame machine.old.world in
-        (s : State Births) → Shows first s
-        → Says H.Host.own (run_text state_text cycles s) host.old host.new }
-    ensures cause { HasCause (H.say_faults host.old) (H.say_faults host.new) result }
+    ensures { Reports H.Host.own (run_text state_text cycles) (shown_by M.view machine.old)
+        host.old host.new result }
 {
     let mut out = Output::new();
     push_report(&mut out, host, machine, cycles)?;

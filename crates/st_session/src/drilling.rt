@@ -1,13 +1,13 @@
 //! The command `drill`.
 
-ghost use Rattle.std.specs.Prelude.{◌≡◌, ℕ, List, IfOk, IfErr, OnOk, None};
-ghost use Rattle.st_host.specs.{Counts.HasCause, Runs.{ReadsAndSays, SaysAll}, Telling.Says};
+ghost use Rattle.std.specs.Prelude.{◌≡◌, ℕ, List, IfOk, IfErr, None};
+ghost use Rattle.st_host.specs.Runs.{ReadsAndSays};
 ghost use Rattle.st_model.specs.{Machine.State, Births.Births, Show.Shows};
 ghost use Rattle.st_frames.specs.Shown.{IsReady};
 ghost use Rattle.st_call.specs.Saying.{Pushes};
 ghost use Rattle.st_protocol.specs.Statuses.{StatusHasCause};
 ghost use Rattle.st_session.specs.Drills.{BeginsDrill, IsNoDrill, DrillEnds, drill_said, use_text};
-ghost use Rattle.st_session.specs.{Makings.contents_in, Reports.text_of, Standing.shown_by};
+ghost use Rattle.st_session.specs.{Makings.contents_in, Reports.{Reports, text_of}, Standing.shown_by};
 
 use crate::building::kernel_status;
 use crate::making::{Origin, push_made};
@@ -74,13 +74,8 @@ fn push_drill<H: Host, M: Memory>(
 fn say_drill<H: Host, M: Memory>(host: &mut H, machine: &mut Machine<M>) -> Result<(), SayFault>
     requires ready { IsReady (M.view machine.old.memory) machine.old.frame machine.old.world }
     requires alive { machine.old.death ≡ None }
-    ensures all { let image = contents_in (M.view machine.old.memory) in
-        (s : State Births) → Shows (shown_by M.view machine.old) s →
-        OnOk result (SaysAll H.Host.own (drill_said image s) host.old host.new) }
-    ensures says { let image = contents_in (M.view machine.old.memory) in
-        (s : State Births) → Shows (shown_by M.view machine.old) s →
-        Says H.Host.own (drill_said image s) host.old host.new }
-    ensures cause { HasCause (H.say_faults host.old) (H.say_faults host.new) result }
+    ensures { Reports H.Host.own (drill_said (contents_in (M.view machine.old.memory)))
+        (shown_by M.view machine.old) host.old host.new result }
 {
     let mut out = Output::new();
     push_drill(&mut out, host, machine)?;

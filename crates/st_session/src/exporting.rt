@@ -6,7 +6,7 @@ ghost use Rattle.st_model.specs.View.{no_devices};
 ghost use Rattle.st_frames.specs.Shown.{IsFrame, IsReady, shown};
 ghost use Rattle.st_protocol.specs.Statuses.{Counts, StatusHasCause};
 ghost use Rattle.st_session.specs.Ends.{status_in};
-ghost use Rattle.st_session.specs.Exports.{ExportsImage, ExportsState, HasExported, LeavesOthers};
+ghost use Rattle.st_session.specs.Exports.{DoesExport, ExportsImage, ExportsState, HasExported, LeavesOthers};
 ghost use Rattle.st_session.specs.Exports.{IsOfExporting, ExportEnds};
 ghost use Rattle.st_session.specs.{declared.extent.Extent.TheVariants.{Kept, Reachable}, Standing.shown_by};
 
@@ -26,11 +26,8 @@ use std::alloc::{AllocError, Global};
 
 /// Writes the image of a memory to a file, and says its length.
 fn export_kept<H: Host, M: Memory>(host: &mut H, m: &M, image: &str) -> Result<(), Status>
-    ensures has { let v = M.view m.now in IsTrue H.is_told →
-        HasExported H.Host.own image.now (ExportsImage Kept v.objects v.head) host.old host.new result }
-    ensures others { LeavesOthers H.Host.own image.now host.old host.new }
-    ensures counts { Counts H.Host.own ⊥ host.old host.new result }
-    ensures kind { IfErr result IsOfExporting }
+    ensures { let v = M.view m.now in
+        DoesExport H.Host.own image.now (ExportsImage Kept v.objects v.head) host.old host.new result }
 {
     match write(m, host, image) {
         Ok(length) => say_reply(host, Reply::Exported(length)),
@@ -45,11 +42,8 @@ fn export_reachable<H: Host, M: Memory, L: Loader>(
     m: &M,
     image: &str,
 ) -> Result<(), Status>
-    ensures has { let v = M.view m.now in IsTrue H.is_told →
-        HasExported H.Host.own image.now (ExportsImage Reachable v.objects v.head) host.old host.new result }
-    ensures others { LeavesOthers H.Host.own image.now host.old host.new }
-    ensures counts { Counts H.Host.own ⊥ host.old host.new result }
-    ensures kind { IfErr result IsOfExporting }
+    ensures { let v = M.view m.now in
+        DoesExport H.Host.own image.now (ExportsImage Reachable v.objects v.head) host.old host.new result }
 {
     match clean::<M, L, H>(alloc, m, host, image) {
         Ok(demand) => say_reply(host, Reply::Cleaned(demand)),
@@ -66,11 +60,8 @@ fn export_image<H: Host, M: Memory, L: Loader>(
     m: &M,
     image: &str,
 ) -> Result<(), Status>
-    ensures has { let v = M.view m.now in IsTrue H.is_told →
-        HasExported H.Host.own image.now (ExportsImage extent v.objects v.head) host.old host.new result }
-    ensures others { LeavesOthers H.Host.own image.now host.old host.new }
-    ensures counts { Counts H.Host.own ⊥ host.old host.new result }
-    ensures kind { IfErr result IsOfExporting }
+    ensures { let v = M.view m.now in
+        DoesExport H.Host.own image.now (ExportsImage extent v.objects v.head) host.old host.new result }
 {
     match extent {
         Extent::Kept => export_kept(host, m, image),

@@ -32,20 +32,17 @@ letters_or_none file zero le = inl (λ i low. absurd (omega arith))
 letters_or_none file (suc n) le = ⊎_elim
     (λ below. ⊎_elim
     (λ is. inl (λ i low. ⊎_elim (λ less. below i less) (λ last. let e : i ≡ n = omega arith in ap (λ (j : ℕ). slice_index (bytes_of file) j) e ∙ is ∙ ap (λ (j : ℕ). slice_index (codes "ST80ROOT") j) (sym e)) (cases_lt i n)))
-    (λ other. inr (record { at = n; below = omega arith; wrong = other }))
+    (λ other. inr (λ letters. other (letters n (omega arith))))
     (cases_eq (slice_index (bytes_of file) n) (slice_index (codes "ST80ROOT") n)))
     (λ none. inr none)
     (letters_or_none file n (omega arith))
 
 -- a cut to no bytes of what is no store's leaves that it is none
-cut_none : (file d c : Option (List ℕ)) → (HasLetters (bytes_of d) → ⊥) → d ≡ file → TornByCut file 0 d c → IsNoStore c
-cut_none file d c wrong is torn = ⊎_elim
-    (λ letters. absurd (wrong (λ i low. ⊎_elim
+cut_none : (file d c : Option (List ℕ)) → IsNoStore d → d ≡ file → TornByCut file 0 d c → IsNoStore c
+cut_none file d c wrong is torn letters = wrong (λ i low. ⊎_elim
     (λ inside. sym (torn.same i inside (omega (arith, torn.longest)) (omega (arith, torn.longest, ap (λ (x : Option (List ℕ)). length (bytes_of x)) is)) (inr (omega arith))) ∙ letters i low)
     (λ past. absurd (letter_is i low (sym (get_or_past (bytes_of c) i 0 past) ∙ letters i low)))
-    (cases_lt i (length (bytes_of c))))))
-    (λ none. none)
-    (letters_or_none c 8 (omega arith))
+    (cases_lt i (length (bytes_of c))))
 
 nothing : (xs : List ℕ) → length xs ≡ 0 → xs ≡ []
 nothing [] e = refl
@@ -62,7 +59,7 @@ module _ {D : Type 0} (host : Ghosts D) (name : List ℕ) where
   pub while_looked : (a b : D) → IsTrue host.is_told → Narrows host a b → LeavesOnly host a b (λ f s. (s ≡ host.said a) × IsCleared host name a f)
   while_looked a b told narrows = weaker host a b (λ f s. (s ≡ host.said a) × IsCleared host name a f) (Here (host.may_leave a) (host.said a)) (narrows.moments told) (λ f s here. (here.1, inl here.0))
 
-  pub while_cut : (a b c : D) → IsTrue host.is_told → Narrows host a b → ReadsAlike host a b → IsSynced host (roots_file name) b → (HasLetters (bytes_of (host.files a (roots_file name))) → ⊥)
+  pub while_cut : (a b c : D) → IsTrue host.is_told → Narrows host a b → ReadsAlike host a b → IsSynced host (roots_file name) b → IsNoStore (host.files a (roots_file name))
       → Cuts host (roots_file name) 0 b c → LeavesOnly host a c (λ f s. (s ≡ host.said a) × IsCleared host name a f)
   while_cut a b c told narrows alike synced none cuts =
       let roots = roots_file name in
@@ -74,7 +71,7 @@ module _ {D : Type 0} (host : Ghosts D) (name : List ℕ) where
           none,
           came (host.may_leave b roots) (TornByCut (host.files b roots) 0) IsNoStore (f roots)
               (λ d could torn. cut_none (host.files b roots) d (f roots)
-              (λ letters. none (subst (λ (x : Option (List ℕ)). HasLetters (bytes_of x)) (synced.is told d could ∙ alike.same told roots) letters))
+              (subst IsNoStore (sym (synced.is told d could ∙ alike.same told roots)) none)
               (synced.is told d could) torn) so.own,
         ),
       ))
@@ -94,7 +91,7 @@ module _ {D : Type 0} (host : Ghosts D) (name : List ℕ) where
   clears a b d n r s there is looked_at cut_at narrows alike synced looked found none cuts =
       let roots : r ≡ roots_file name = looked_at ∙ ap roots_file is in
       let here = subst (λ (x : List ℕ). Cuts host x 0 b d) (cut_at ∙ ap roots_file is) cuts in
-      let not_there : IsTrue host.is_told → HasLetters (bytes_of (host.files a (roots_file name))) → ⊥ =
+      let not_there : IsTrue host.is_told → IsNoStore (host.files a (roots_file name)) =
       λ told letters. true≢false (sym ((found told).1 (subst (λ (x : List ℕ). HasLetters (bytes_of (host.files a x))) (sym roots) letters)) ∙ none) in
       record {
         moments = λ told. while_cut a b d told narrows alike (subst (λ (x : List ℕ). IsSynced host x b) roots synced) (not_there told) here;

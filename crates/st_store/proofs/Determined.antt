@@ -22,36 +22,36 @@ one_letter file at other x y = ⊎_elim
 module _ (file : List ℕ) (k : ℕ) (root : Root) (chosen : Chooses k root (Some file)) (slot : root.slot ≤ 3) where
   front_right : (at : ℕ) → IsWrongFront file at → ⊥
   front_right at (inl x) = letter_wrong file at x chosen.whole.letters
-  front_right at (inr (inl x)) = absurd (omega (arith, x.short, chosen.whole.long))
+  front_right at (inr (inl x)) = absurd (omega (arith, x.1, chosen.whole.long))
   front_right at (inr (inr x)) =
-      let is = ap (λ n. (root_at n file).slot) (x.place ∙ ap place chosen.gate) ∙ ap (λ (r : Root). r.slot) chosen.names in
-      absurd (omega (arith, x.above, is, slot))
+      let is = ap (λ n. (root_at n file).slot) (x.1 ∙ ap place chosen.gate) ∙ ap (λ (r : Root). r.slot) chosen.names in
+      absurd (omega (arith, x.2, is, slot))
 
 one_front : (file : List ℕ) (at other : ℕ) → IsWrongFront file at → IsWrongFront file other → at ≡ other
 one_front file at other (inl x) (inl y) = one_letter file at other x y
-one_front file at other (inl x) (inr (inl y)) = absurd (letter_wrong file at x y.letters)
-one_front file at other (inl x) (inr (inr y)) = absurd (letter_wrong file at x y.whole.letters)
-one_front file at other (inr (inl x)) (inl y) = absurd (letter_wrong file other y x.letters)
-one_front file at other (inr (inl x)) (inr (inl y)) = x.end ∙ sym y.end
-one_front file at other (inr (inl x)) (inr (inr y)) = absurd (omega (arith, x.short, y.whole.long))
-one_front file at other (inr (inr x)) (inl y) = absurd (letter_wrong file other y x.whole.letters)
-one_front file at other (inr (inr x)) (inr (inl y)) = absurd (omega (arith, y.short, x.whole.long))
-one_front file at other (inr (inr x)) (inr (inr y)) = x.place ∙ sym y.place
+one_front file at other (inl x) (inr (inl y)) = absurd (letter_wrong file at x y.0)
+one_front file at other (inl x) (inr (inr y)) = absurd (letter_wrong file at x y.0.letters)
+one_front file at other (inr (inl x)) (inl y) = absurd (letter_wrong file other y x.0)
+one_front file at other (inr (inl x)) (inr (inl y)) = x.2 ∙ sym y.2
+one_front file at other (inr (inl x)) (inr (inr y)) = absurd (omega (arith, x.1, y.0.long))
+one_front file at other (inr (inr x)) (inl y) = absurd (letter_wrong file other y x.0.letters)
+one_front file at other (inr (inr x)) (inr (inl y)) = absurd (omega (arith, y.1, x.0.long))
+one_front file at other (inr (inr x)) (inr (inr y)) = x.1 ∙ sym y.1
 
 above_length : (root : Root) (changes : ℕ) → root.length ≤ changes → root.length ≤ 2 ^ 30 → (changes < root.length) ⊎ (2 ^ 30 < root.length) → ⊥
 above_length root changes fits limit (inl above) = absurd (omega arith)
 above_length root changes fits limit (inr above) = absurd (omega arith)
 
 one_number : (k : ℕ) (root : Root) (image changes at other : ℕ) → IsWrongNumber k root image changes at → IsWrongNumber k root image changes other → at ≡ other
-one_number k root image changes at other (inl x) (inl y) = x.place ∙ sym y.place
-one_number k root image changes at other (inl x) (inr (inl y)) = absurd (omega (arith, x.above, y.fits))
-one_number k root image changes at other (inl x) (inr (inr y)) = absurd (omega (arith, x.above, y.fits))
-one_number k root image changes at other (inr (inl x)) (inl y) = absurd (omega (arith, y.above, x.fits))
-one_number k root image changes at other (inr (inl x)) (inr (inl y)) = x.place ∙ sym y.place
-one_number k root image changes at other (inr (inl x)) (inr (inr y)) = absurd (omega (arith, x.above, y.base))
-one_number k root image changes at other (inr (inr x)) (inl y) = absurd (omega (arith, y.above, x.fits))
-one_number k root image changes at other (inr (inr x)) (inr (inl y)) = absurd (omega (arith, y.above, x.base))
-one_number k root image changes at other (inr (inr x)) (inr (inr y)) = x.place ∙ sym y.place
+one_number k root image changes at other (inl x) (inl y) = x.0 ∙ sym y.0
+one_number k root image changes at other (inl x) (inr (inl y)) = absurd (omega (arith, x.1, y.1))
+one_number k root image changes at other (inl x) (inr (inr y)) = absurd (omega (arith, x.1, y.1))
+one_number k root image changes at other (inr (inl x)) (inl y) = absurd (omega (arith, y.1, x.1))
+one_number k root image changes at other (inr (inl x)) (inr (inl y)) = x.0 ∙ sym y.0
+one_number k root image changes at other (inr (inl x)) (inr (inr y)) = absurd (omega (arith, x.2, y.2))
+one_number k root image changes at other (inr (inr x)) (inl y) = absurd (omega (arith, y.1, x.1))
+one_number k root image changes at other (inr (inr x)) (inr (inl y)) = absurd (omega (arith, y.2, x.2))
+one_number k root image changes at other (inr (inr x)) (inr (inr y)) = x.0 ∙ sym y.0
 
 module _ (name : List ℕ) (f : Files) where
   -- the wrong number of a root is that of the one chosen root
@@ -83,9 +83,9 @@ module _ (name : List ℕ) (f : Files) where
   none_opens at c opens (inr x) = by (same_wrong opens.number x.number c.root x.root at opens.chosen x.chosen x.wrong)
     where
       by : IsWrongNumber opens.number c.root (length (bytes_of (f (image_file name c.root.slot)))) (length (bytes_of (f (changes_file name c.root.slot)))) at → ⊥
-      by (inl y) = absurd (omega (arith, y.above, opens.image.long))
-      by (inr (inl y)) = absurd (omega (arith, y.above, opens.sound.base))
-      by (inr (inr y)) = above_length c.root (length (bytes_of (f (changes_file name c.root.slot)))) opens.changes.long opens.sound.limit y.above
+      by (inl y) = absurd (omega (arith, y.1, opens.image.long))
+      by (inr (inl y)) = absurd (omega (arith, y.2, opens.sound.base))
+      by (inr (inr y)) = above_length c.root (length (bytes_of (f (changes_file name c.root.slot)))) opens.changes.long opens.sound.limit y.3
 
   pub opens_there : (c : Stored) → Opens name c f → f (roots_file name) ≡ None → ⊥
   opens_there c opens none = absurd (omega (arith, opens.chosen.whole.long, ap (λ (o : Option (List ℕ)). length (bytes_of o)) none))

@@ -30,31 +30,24 @@ empty_long : (xs : List ℕ) → xs ≡ [] → length xs ≡ 0
 empty_long xs is = ap length is
 
 pub empty_none : (c : Option (List ℕ)) → bytes_of c ≡ [] → IsNoStore c
-empty_none c is = record { at = 0; below = lit< tt; wrong = λ e. letter_is 0 (lit< tt) (sym (get_or_past (bytes_of c) 0 0 (omega (arith, empty_long (bytes_of c) is))) ∙ e) }
+empty_none c is letters = letter_is 0 (lit< tt) (sym (get_or_past (bytes_of c) 0 0 (omega (arith, empty_long (bytes_of c) is))) ∙ letters 0 (lit< tt))
 
 pub blank_none : (c : Option (List ℕ)) → IsBlank c → IsNoStore c
-blank_none c is = record { at = 0; below = lit< tt; wrong = λ e. letter_is 0 (lit< tt) (sym is.zero ∙ e) }
+blank_none c is letters = letter_is 0 (lit< tt) (sym is.zero ∙ letters 0 (lit< tt))
 
 pub inscribed_none : (root : Root) (c : Option (List ℕ)) → Inscribed root c → IsNoStore c
-inscribed_none root c is = record { at = 0; below = lit< tt; wrong = λ e. letter_is 0 (lit< tt) (sym is.zero ∙ e) }
+inscribed_none root c is letters = letter_is 0 (lit< tt) (sym is.zero ∙ letters 0 (lit< tt))
 
 pub blank_torn : (file d c : Option (List ℕ)) → bytes_of file ≡ [] → bytes_of d ≡ [] → TornByWrite file 0 1 d c → IsNoStore c
-blank_torn file d c read was torn = record {
-  at = 7;
-  below = lit< tt;
-  wrong = λ e. letter_is 7 (lit< tt) (sym (get_or_past (bytes_of c) 7 0 (omega (arith, torn.longest, empty_long (bytes_of file) read, empty_long (bytes_of d) was))) ∙ e);
-}
+blank_torn file d c read was torn letters = letter_is 7 (lit< tt)
+    (sym (get_or_past (bytes_of c) 7 0 (omega (arith, torn.longest, empty_long (bytes_of file) read, empty_long (bytes_of d) was))) ∙ letters 7 (lit< tt))
 
 pub blank_written : (was now : Option (List ℕ)) → bytes_of was ≡ [] → IsWritten 0 (0 ∷ []) was now → IsBlank now
 blank_written was now is written = record { long = omega (arith, written.long, empty_long (bytes_of was) is); zero = written.inside 0 (lit< tt) }
 
 module _ (root : Root) where
   pub rest_torn : (file d c : Option (List ℕ)) → IsBlank file → IsBlank d → TornByWrite file 8 72 d c → IsNoStore c
-  rest_torn file d c read was torn = record {
-    at = 0;
-    below = lit< tt;
-    wrong = λ e. letter_is 0 (lit< tt) (sym first ∙ e);
-  }
+  rest_torn file d c read was torn letters = letter_is 0 (lit< tt) (sym first ∙ letters 0 (lit< tt))
     where
       first : slice_index (bytes_of c) 0 ≡ 0
       first = ⊎_elim

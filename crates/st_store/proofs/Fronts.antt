@@ -61,17 +61,17 @@ module _ (file : List ℕ) (k : ℕ) (into : List ℕ) (long : length into ≡ 8
     right = λ i low. sym (same i (omega (arith, letter.below))) ∙ letter.right i low;
     wrong = λ is. letter.wrong (same at (omega (arith, letter.below)) ∙ is);
   })
-  wrong_front at (inr (inl early)) = inr (inl (record {
-    letters = λ i low. sym (same i (omega arith)) ∙ early.letters i low;
-    short = omega (arith, early.short, front_long);
-    end = omega (arith, early.end, early.short, front_long);
-  }))
+  wrong_front at (inr (inl early)) = inr (inl (
+    λ i low. sym (same i (omega arith)) ∙ early.0 i low,
+    omega (arith, early.1, front_long),
+    omega (arith, early.2, early.1, front_long),
+  ))
   wrong_front at (inr (inr slot)) =
       let gate : chosen_number (take k into) ≡ chosen_number file = ap (λ (x : ℕ). x % 2) (same 8 (lit< tt)) in
       let small : slice_index (take k into) 8 % 2 < 2 = mod-lt (slice_index (take k into) 8) (lit< tt) in
-      let root : root_at at (take k into) ≡ root_at at file = root_same at (take k into) file (λ i l u. same i (omega (arith, slot.place, small))) in
-      inr (inr (record {
-        whole = record { long = omega (arith, slot.whole.long, front_long); letters = λ i low. sym (same i (omega arith)) ∙ slot.whole.letters i low };
-        place = slot.place ∙ ap place gate;
-        above = subst (λ (r : Root). 3 < r.slot) root slot.above;
-      }))
+      let root : root_at at (take k into) ≡ root_at at file = root_same at (take k into) file (λ i l u. same i (omega (arith, slot.1, small))) in
+      inr (inr (
+        record { long = omega (arith, slot.0.long, front_long); letters = λ i low. sym (same i (omega arith)) ∙ slot.0.letters i low },
+        slot.1 ∙ ap place gate,
+        subst (λ (r : Root). 3 < r.slot) root slot.2,
+      ))

@@ -1,5 +1,5 @@
 -- What stands while a store is made.
-use Rattle.std.specs.Prelude.{◌≡◌, ◌≢◌, ◌⊎◌, ℕ, ◌<◌, List, [], ◌++◌, length, replicate, slice_index, codes, Option, Some, None}
+use Rattle.std.specs.Prelude.{◌≡◌, ◌⊎◌, ℕ, List, [], ◌++◌, length, replicate, slice_index, codes, Option, Some, None}
 use Rattle.st_host.specs.Files.{Files, bytes_of}
 use Rattle.st_host.specs.declared.host.Host.{Ghosts}
 use Rattle.st_store.specs.Names.{roots_file}
@@ -7,11 +7,9 @@ use Rattle.st_store.specs.Roots.{HasLetters, root_bytes}
 use Rattle.st_store.specs.Stored.{Stored, Opens}
 use Rattle.st_store.specs.declared.root.Root.{Root}
 
--- The roots file is absent or doesn't begin with the letters, so that opening refuses it. (An index past the end gives 0.)
-pub record IsNoStore (file : Option (List ℕ)) : Type 0 where
-  pub at : ℕ
-  pub below : at < 8
-  pub wrong : slice_index (bytes_of file) at ≢ slice_index (codes "ST80ROOT") at
+-- The roots file is absent or doesn't begin with the letters, so that opening refuses it.
+abbrev pub IsNoStore : Option (List ℕ) → Type 0
+IsNoStore file = HasLetters (bytes_of file) → ⊥
 
 -- The files of this name are no store's, or they open as this.
 abbrev pub OpensMaybe : List ℕ → Option Stored → Files → Type 0
@@ -21,7 +19,7 @@ OpensMaybe name (Some c) f = Opens name c f
 -- nothing was changed so far, or there was no store, and the files of this name are none's
 abbrev pub IsCleared : {D : Type 0} → Ghosts D → List ℕ → D → Files → Type 0
 IsCleared host name old f = ((n : List ℕ) → host.may_leave old n (f n))
-    ⊎ ((HasLetters (bytes_of (host.files old (roots_file name))) → ⊥) × IsNoStore (f (roots_file name)))
+    ⊎ (IsNoStore (host.files old (roots_file name)) × IsNoStore (f (roots_file name)))
 
 -- the root of a new store: its image in slot 0, and no changes
 abbrev pub first_root : ℕ → Root

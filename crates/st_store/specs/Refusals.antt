@@ -15,47 +15,24 @@ pub record IsWrongLetter (file : List ℕ) (at : ℕ) : Type 0 where
   pub right : (i : ℕ) → i < at → slice_index file i ≡ slice_index (codes "ST80ROOT") i
   pub wrong : slice_index file at ≢ slice_index (codes "ST80ROOT") at
 
--- the file has the letters and ends here, before its 80 bytes
-pub record EndsEarly (file : List ℕ) (at : ℕ) : Type 0 where
-  pub letters : HasLetters file
-  pub short : length file < 80
-  pub end : at ≡ length file
-
--- the chosen root's slot is above 3
-pub record IsWrongSlot (file : List ℕ) (at : ℕ) : Type 0 where
-  pub whole : IsWhole (Some file)
-  pub place : at ≡ place (chosen_number file)
-  pub above : 3 < (root_at at file).slot
-
--- the first wrong place that the roots file shows by itself
+-- The first wrong place that the roots file shows by itself: a wrong letter; its end, where it has the letters and less than its
+-- 80 bytes; or the chosen root's slot, which is above 3.
 abbrev pub IsWrongFront : List ℕ → ℕ → Type 0
-IsWrongFront file at = IsWrongLetter file at ⊎ (EndsEarly file at ⊎ IsWrongSlot file at)
+IsWrongFront file at = IsWrongLetter file at
+    ⊎ ((HasLetters file × (length file < 80) × (at ≡ length file))
+    ⊎ (IsWhole (Some file) × (at ≡ place (chosen_number file)) × (3 < (root_at at file).slot)))
 
 -- the roots file is there, and this is the first wrong place that it shows by itself
 abbrev pub IsWrongRoots : Option (List ℕ) → ℕ → Type 0
 IsWrongRoots file at = IsSome file × IsWrongFront (bytes_of file) at
 
--- the image is longer than its file
-pub record IsWrongImage (k : ℕ) (root : Root) (image at : ℕ) : Type 0 where
-  pub place : at ≡ place k + 8
-  pub above : image < root.image_length
-
--- the base is above the length
-pub record IsWrongBase (k : ℕ) (root : Root) (image at : ℕ) : Type 0 where
-  pub place : at ≡ place k + 16
-  pub fits : root.image_length ≤ image
-  pub above : root.length < root.base
-
--- the length is above that of the changes file, or above the limit of 2^30 bytes
-pub record IsWrongLength (k : ℕ) (root : Root) (image changes at : ℕ) : Type 0 where
-  pub place : at ≡ place k + 24
-  pub fits : root.image_length ≤ image
-  pub base : root.base ≤ root.length
-  pub above : (changes < root.length) ⊎ (2 ^ 30 < root.length)
-
--- the first number of root k behind its slot that is wrong for an image file and a changes file of these lengths
+-- The first number of root k behind its slot that is wrong for an image file and a changes file of these lengths: the image's
+-- length, above that of its file; the base, above the length; or the length, above that of the changes file or the limit of 2^30.
 abbrev pub IsWrongNumber : ℕ → Root → ℕ → ℕ → ℕ → Type 0
-IsWrongNumber k root image changes at = IsWrongImage k root image at ⊎ (IsWrongBase k root image at ⊎ IsWrongLength k root image changes at)
+IsWrongNumber k root image changes at =
+    ((at ≡ place k + 8) × (image < root.image_length))
+    ⊎ (((at ≡ place k + 16) × (root.image_length ≤ image) × (root.length < root.base))
+    ⊎ ((at ≡ place k + 24) × (root.image_length ≤ image) × (root.base ≤ root.length) × ((changes < root.length) ⊎ (2 ^ 30 < root.length))))
 
 -- no number behind the slot is wrong for files of these lengths
 pub record Fit (root : Root) (image changes : ℕ) : Type 0 where

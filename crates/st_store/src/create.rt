@@ -6,7 +6,7 @@ ghost use Rattle.st_host.specs.Runs.{LeavesOnly, ReadsAlike, Narrows, Changes, C
 ghost use Rattle.st_store.specs.Names.{roots_file, changes_file, image_file};
 ghost use Rattle.st_store.specs.Roots.{HasLetters, Fits};
 ghost use Rattle.st_store.specs.Faults.{RestsUnlessLetters};
-ghost use Rattle.st_store.specs.Founding.{OpensMaybe, IsCleared, IsBlank, first_root, first_stored, first_bytes, first_file};
+ghost use Rattle.st_store.specs.Founding.{IsNoStore, OpensMaybe, IsCleared, IsBlank, first_root, first_stored, first_bytes, first_file};
 ghost use Rattle.st_store.specs.Refusals.{RefusesNew, IsOfMaking, FaultHasCause};
 ghost use Rattle.st_store.specs.Stored.{Stored, Begins, Leaves, IsFirm, IsChosen, IsKept};
 ghost use Rattle.st_store.specs.declared.fault.StoreFault.TheVariants.{Disk};
@@ -61,8 +61,7 @@ fn find_store<H: Host>(host: &mut H, roots: &str) -> Result<bool, HostFault>
 /// Tests that there is no store of this name, and empties its roots file.
 pub fn clear<H: Host>(alloc: Global, host: &mut H, name: &str) -> Result<NewStore, StoreFault>
     ensures named { IfOk result (λ store. store ≡ name.now) }
-    ensures none { OnOk result (IsTrue H.is_told
-        → HasLetters (bytes_of (H.files host.old (roots_file name.now))) → ⊥) }
+    ensures none { OnOk result (IsTrue H.is_told → IsNoStore (H.files host.old (roots_file name.now))) }
     ensures empty { OnOk result (IsTrue H.is_told
         → Leaves H.Host.own host.new (roots_file name.now) (λ file. bytes_of file ≡ [])) }
     ensures refused { IfErr result (λ e. IsTrue H.is_told

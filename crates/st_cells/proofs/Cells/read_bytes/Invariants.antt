@@ -1,5 +1,5 @@
-use Rattle.st_cells.specs.Words.{HasBytes}
+use Rattle.st_cells.specs.Words.{ReadsBytes}
 use Rattle.st_cells.proofs.Cells.read_bytes.Given as goal
 
 abbrev pub invariant-loop-k : goal.invariant-loop-k
-invariant-loop-k l = record { read : HasBytes l.self l.at l.first l.k l.into }
+invariant-loop-k l = record { read : ReadsBytes l.self l.at l.first l.k l.into }

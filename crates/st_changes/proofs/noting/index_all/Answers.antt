@@ -1,47 +1,67 @@
-use Rattle.std.proofs.Common.{◌≡◌, ◌+◌, List, [], ◌∷◌, ◌++◌, length, take, sym, ap, ◌∙◌, subst, arith, length-append}
+use Rattle.std.proofs.Common.{◌≡◌, ◌<◌, ◌≤◌, ◌+◌, ◌-◌, List, length, take, sym, ap, subst, arith}
 use Rattle.std.proofs.lemmas.List.{take_all}
-use Rattle.st_chunk.specs.Definitions.{Definition, entry, entries}
+use Rattle.st_chunk.specs.Definitions.{Definition}
 use Rattle.st_changes.specs.IndexStates.{found}
-use Rattle.st_changes.specs.Views.{definition_of, definitions_of}
+use Rattle.st_changes.specs.Views.{definitions_of}
 use Rattle.st_changes.specs.Last.{Answers}
-use Rattle.st_changes.proofs.Lasts.{answers_same}
-use Rattle.st_changes.proofs.ListTexts.{entries_more, item_more, item_good, item_within}
+use Rattle.st_changes.specs.Indexing.{Indexes}
+use Rattle.st_changes.proofs.ListTexts.{front_within, item_more, item_good, item_within}
+use Rattle.st_changes.proofs.Indexing.{front_good, last_many, last_at}
 use Rattle.st_changes.proofs.noting.index_all.Goals as goal
 
-pub find_selector-requires : goal.find_selector-requires
-find_selector-requires c =
-    let good = item_good c.args.listed.now c.loop-definition.definition-index c.definition-item.result c.loop-definition-test.true c.definition-item.is c.requires.good in
-    omega (arith, good.short, ap length c.deref.ensures.value)
+pub overflow_sub-front : goal.overflow_sub-front
+overflow_sub-front c = omega (arith, last_many c.args.listed.now c.args.selectors.now c.requires.finds)
 
-pub entry_length-end-requires : goal.entry_length-end-requires
-entry_length-end-requires c = item_good c.args.listed.now c.loop-definition.definition-index c.definition-item.result c.loop-definition-test.true c.definition-item.is c.requires.good
+pub index_parsed-requires-clause-good : goal.index_parsed-requires-clause-good
+index_parsed-requires-clause-good c = front_good c.args.listed.now (length c.args.listed.now - length c.args.selectors.now) c.requires.good
 
-pub overflow_add-end : goal.overflow_add-end
-overflow_add-end c =
-    omega (arith, item_within c.args.listed.now c.loop-definition.definition-index c.definition-item.result c.loop-definition-test.true c.definition-item.is, c.requires.fits, c.loop-definition.invariant.place, c.entry_length-end.ensures)
+pub index_parsed-requires-clause-fits : goal.index_parsed-requires-clause-fits
+index_parsed-requires-clause-fits c = omega (arith, front_within c.args.listed.now (length c.args.listed.now - length c.args.selectors.now), c.requires.fits)
 
-pub note-requires-clause-good : goal.note-requires-clause-good
-note-requires-clause-good c = item_good c.args.listed.now c.loop-definition.definition-index c.definition-item.result c.loop-definition-test.true c.definition-item.is c.requires.good
+pub offset_bounds-listed-front : goal.offset_bounds-listed-front
+offset_bounds-listed-front c =
+    let many = last_many c.args.listed.now c.args.selectors.now c.requires.finds in
+    let less : length c.args.listed.now - length c.args.selectors.now + c.loop-i.i < length c.args.listed.now = omega (arith, many, c.loop-i-test.true) in
+    omega arith
 
-pub loop-definition-preserved : goal.loop-definition-preserved
-loop-definition-preserved c =
+pub bounds-listed-front : goal.bounds-listed-front
+bounds-listed-front c = omega (arith, last_many c.args.listed.now c.args.selectors.now c.requires.finds, c.loop-i-test.true)
+
+pub add-requires-clause-good : goal.add-requires-clause-good
+add-requires-clause-good c =
     let listed = c.args.listed.now in
-    let i = c.loop-definition.definition-index in
-    let x = c.definition-item.result in
-    let d = definition_of x in
-    let ds = definitions_of (take i listed) in
-    let more : definitions_of (take (i + 1) listed) ≡ ds ++ d ∷ [] = item_more listed i x c.loop-definition-test.true c.definition-item.is in
-    let inv = c.loop-definition.invariant in
-    let total = ap (λ (es : List Definition). length (entries es)) more ∙ ap length (entries_more ds d) ∙ length-append (entries ds) (entry d) in
-    let before = answers_same ds (found c.loop-definition.index) (found c.prepare.new.index) c.prepare.ensures.same inv.answers in
-    let behind = c.note.ensures ds before (omega (arith, inv.place, c.entry_length-end.ensures)) in
-    record {
-      place = omega (arith, inv.place, c.entry_length-end.ensures, total);
-      answers = subst (λ (es : List Definition). Answers es (found c.note.new.index)) (sym more) behind;
-    }
+    let many = last_many listed c.args.selectors.now c.requires.finds in
+    item_good listed (length listed - length c.args.selectors.now + c.loop-i.i) c.index-listed-front.result (omega (arith, many, c.loop-i-test.true)) c.index-listed-front.is c.requires.good
+
+pub add-requires-clause-finds : goal.add-requires-clause-finds
+add-requires-clause-finds c =
+    let listed = c.args.listed.now in
+    let ss = c.args.selectors.now in
+    let many = last_many listed ss c.requires.finds in
+    last_at listed ss c.requires.finds (length listed - length ss) c.loop-i.i c.index-listed-front.result c.index-selectors-i.result (omega (arith, many)) c.loop-i-test.true c.index-listed-front.is c.index-selectors-i.is
+
+pub add-requires-clause-fits : goal.add-requires-clause-fits
+add-requires-clause-fits c =
+    let listed = c.args.listed.now in
+    let many = last_many listed c.args.selectors.now c.requires.finds in
+    let within = item_within listed (length listed - length c.args.selectors.now + c.loop-i.i) c.index-listed-front.result (omega (arith, many, c.loop-i-test.true)) c.index-listed-front.is in
+    omega (arith, within, c.requires.fits, c.loop-i.invariant.end)
+
+pub loop-i-preserved : goal.loop-i-preserved
+loop-i-preserved c =
+    let listed = c.args.listed.now in
+    let many = last_many listed c.args.selectors.now c.requires.finds in
+    let front = length listed - length c.args.selectors.now in
+    let at = front + c.loop-i.i in
+    let next : at + 1 ≡ front + (c.loop-i.i + 1) = omega arith in
+    let more = item_more listed at c.index-listed-front.result (omega (arith, many, c.loop-i-test.true)) c.index-listed-front.is in
+    subst (λ n. Indexes (definitions_of (take n listed)) c.add.new.indexed) next
+    (subst (λ (ds : List Definition). Indexes ds c.add.new.indexed) (sym more) (c.in_ok-add.ensures (definitions_of (take at listed)) c.loop-i.invariant))
 
 pub returns : goal.returns
 returns c =
     let listed = c.args.listed.now in
-    let i = c.loop-definition.definition-index in
-    subst (λ (es : List Definition). Answers es (found c.loop-definition.index)) (ap definitions_of (take_all i listed c.loop-definition-test.false)) c.loop-definition.invariant.answers
+    let many = last_many listed c.args.selectors.now c.requires.finds in
+    let at = length listed - length c.args.selectors.now + c.loop-i.i in
+    let past : length listed ≤ at = omega (arith, many, c.loop-i-test.false) in
+    subst (λ (ds : List Definition). Answers ds (found c.loop-i.indexed.index)) (ap definitions_of (take_all at listed past)) c.loop-i.invariant.answers

@@ -1,5 +1,6 @@
-use Rattle.std.proofs.Common.{◌≡◌, ◌≤◌, Err, rules, arith}
+use Rattle.std.proofs.Common.{◌≡◌, ◌≤◌, Err, rules, arith, sym, subst, ◌∙◌}
 use Rattle.st_install.proofs.Growth.{places_begin, places_end, place_dies, place_counted}
+use Rattle.st_install.proofs.Vacancies.{one_there, most_one}
 use Rattle.st_install.proofs.growing.count_vacant.Goals as goal
 
 pub loop-k-init : goal.loop-k-init
@@ -13,7 +14,8 @@ returns-in_err-fetch_field g c =
 pub loop-k-preserved : goal.loop-k-preserved
 loop-k-preserved g c =
     place_counted c.args.dictionary c.args.places (g.M.Memory.view c.args.m.now).objects c.loop-k.k c.loop-k.vacant c.loop-k.invariant c.loop-k-test.true
-    c.in_ok-fetch_field.field-0 c.one_if_nil.result c.in_ok-fetch_field.ensures.fetches c.one_if_nil.ensures.one c.one_if_nil.ensures.small
+    c.in_ok-fetch_field.field-0 c.from.result c.in_ok-fetch_field.ensures.fetches (c.from.ensures ∙ one_there c.in_ok-fetch_field.field-0)
+    (subst (λ n. n ≤ 1) (sym c.from.ensures) (most_one _))
 
 pub returns : goal.returns
 returns g c =

@@ -1,5 +1,6 @@
-use Rattle.std.proofs.Common.{rules, ◌≡◌, Err, ap, ◌∙◌, List, length}
-use Rattle.st_install.specs.declared.plan.NewObject.{NewObject}
+use Rattle.std.proofs.Common.{rules, ◌≡◌, Err, ap, ◌∙◌}
+use Rattle.std.specs.Prelude.{not}
+use Rattle.std.specs.Bool.{then_some}
 use Rattle.st_model.specs.Values.{value}
 use Rattle.st_install.specs.Readies.{part_of}
 use Rattle.st_scope.specs.declared.unread.Unread.TheVariants.{Dies}
@@ -18,9 +19,8 @@ returns-in_err-objects g c =
 
 pub returns : goal.returns
 returns g c =
-    let same = ap (λ (os : List NewObject). length os) c.deref.ensures.value in
     record {
       dictionary = c.in_ok-dictionary.ensures.fetches;
       grown = c.in_ok-objects.ensures;
-      number = c.grown_number-number.ensures ∙ number_if c.in_ok-objects.ensures.grows (length c.deref.result.now) c.args.next (same ∙ c.in_ok-objects.ensures.count);
+      number = c.then_some-number.ensures ∙ ap (λ b. then_some (not b) c.args.next) c.is_empty.ensures ∙ number_if c.in_ok-objects.ensures.grows _ c.args.next (c.in_ok-objects.objects.ok.0 ∙ c.in_ok-objects.ensures.count);
     }

@@ -1,4 +1,5 @@
-use Rattle.std.proofs.Common.{◌≡◌, ℕ, List, refl, subst}
+use Rattle.std.proofs.Common.{◌≡◌, ℕ, List, length, refl, sym, subst}
+use Rattle.std.specs.Prelude.{All, nat_lt}
 use Rattle.std.proofs.lemmas.Result.{err_from_is_err_and}
 use Rattle.st_host.specs.Files.{Files}
 use Rattle.st_model.specs.Objects.{nil}
@@ -6,6 +7,9 @@ use Rattle.st_model.specs.Machine.{empty_world}
 use Rattle.st_store.specs.Stored.{IsOpening, stored_in}
 use Rattle.st_store.specs.declared.root.Root.{Root}
 use Rattle.st_store.proofs.Opening.{as_before}
+use Rattle.st_chunk.specs.Definitions.{IsDefinition, entries}
+use Rattle.st_changes.specs.States.{ChangesState}
+use Rattle.st_changes.specs.Lists.{Lists, StandsAt}
 use Rattle.st_install.specs.Defining.{installed}
 use Rattle.st_recover.specs.Replays.{ReplaysFrom}
 use Rattle.st_recover.proofs.Fetching.{left_now}
@@ -46,14 +50,14 @@ returns-in_err-loaded g c =
       cause = failed.cause;
     })
 
-pub returns-in_err-count : goal.returns-in_err-count
-returns-in_err-count g c =
+pub returns-in_err-replay : goal.returns-in_err-replay
+returns-in_err-replay g c =
     let H = g.H.Host in
     let a = c.args.host.now in
     let d = c.fetch.new.host in
     let fetch = c.fetch.ensures in
     let P : Files → List ℕ → Type 0 = λ f s. (s ≡ H.said a) × IsOpening H a c.args.name.now f in
-    let p = err_from_is_err_and c.from_residual-in_err-count.result c.from_residual-in_err-count.ensures.1 in
+    let p = err_from_is_err_and c.from_residual-in_err-replay.result c.from_residual-in_err-replay.ensures.1 in
     rw (p.1, p.2) (record {
       opened = tt;
       named = tt;
@@ -90,29 +94,35 @@ returns g c =
     let name = c.args.name.now in
     let fetched = c.in_ok-loaded.ensures in
     let p = c.in_ok-loaded.field-0 in
-    let answered = c.in_ok-count.field-0 in
+    let answered = c.in_ok-replay.replay in
+    let changes = c.in_ok-replay.changes in
     let was = view p.loaded.memory in
     let now = view c.install_again.new.m in
     let ready = c.install_again.ensures.ready p.loaded.frame (empty_world nil) (ready_empty was p.loaded.frame fetched.frame fetched.quiet) in
-    let from : ReplaysFrom installed p.changes.listed p.store.root.base was now answered =
-    subst (λ (r : Root). ReplaysFrom installed p.changes.listed r.base was now answered) c.root-base.ensures c.in_ok-count.ensures.replays in
+    let same : p.changes ≡ changes = sym c.in_ok-replay.ensures.indexed in
+    let at : ReplaysFrom installed p.changes.listed p.store.root.base was now answered =
+    subst (λ (r : Root). ReplaysFrom installed p.changes.listed r.base was now answered) c.root-base.ensures c.in_ok-replay.ensures.replays in
+    let from : ReplaysFrom installed changes.listed p.store.root.base was now answered =
+    subst (λ (x : ChangesState). ReplaysFrom installed x.listed p.store.root.base was now answered) same at in
+    let whole : p.store.root.length ≡ length (entries changes.listed) = subst (λ (x : ChangesState). p.store.root.length ≡ length (entries x.listed)) same fetched.whole in
     record {
       opened = λ told. (
-        commit_at (stored_in name (H.files a) p.store.root).image p.changes.listed from.before,
+        commit_at (stored_in name (H.files a) p.store.root).image changes.listed from.before,
         reopened H installed view name a d
-            (record { loaded = record { memory = c.install_again.new.m; frame = p.loaded.frame }; store = p.store; changes = p.changes; replayed = answered.count; lost = answered.lost })
-            was (fetched.fetched told).opens (fetched.fetched told).kept (fetched.fetched told).readable (fetched.fetched told).start (fetched.fetched told).lists fetched.whole fetched.quiet from,
+            (record { loaded = record { memory = c.install_again.new.m; frame = p.loaded.frame }; store = p.store; changes = changes; replayed = answered.count; lost = answered.lost })
+            was (fetched.fetched told).opens (fetched.fetched told).kept (fetched.fetched told).readable (fetched.fetched told).start
+            (subst (λ (x : ChangesState). Lists (stored_in name (H.files a) p.store.root).changes p.store.root.base x.listed) same (fetched.fetched told).lists) whole fetched.quiet from,
       );
       named = fetched.named;
-      listed = fetched.listed;
-      file = fetched.file;
-      whole = fetched.whole;
+      listed = subst (λ (x : ChangesState). x.name ≡ name) same fetched.listed;
+      file = subst (λ (x : ChangesState). x.second ≡ nat_lt 1 p.store.root.slot) same fetched.file;
+      whole = whole;
       sound = fetched.sound;
-      good = fetched.good;
-      stands = fetched.stands;
+      good = subst (λ (x : ChangesState). All IsDefinition x.listed) same fetched.good;
+      stands = subst (λ (x : ChangesState). StandsAt x.listed p.store.root.base) same fetched.stands;
       frame = ready.frame;
       quiet = quiet_empty now p.loaded.frame ready;
-      few = c.in_ok-count.ensures.few;
+      few = c.in_ok-replay.ensures.few;
       refused = tt;
       kind = tt;
       writes_nothing = tt;

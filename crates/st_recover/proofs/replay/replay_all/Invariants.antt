@@ -10,6 +10,7 @@ use Rattle.st_changes.specs.Views.{definitions_of}
 use Rattle.st_install.specs.Defining.{installed}
 use Rattle.st_recover.specs.Replays.{replay}
 use Rattle.st_recover.proofs.Replaying.{IsUnderway}
+use Rattle.st_recover.proofs.Selectors.{AreFound}
 use Rattle.st_recover.proofs.replay.replay_all.Given as goal
 
 -- what is left gives, behind what is answered so far, what the whole gives
@@ -19,6 +20,7 @@ invariant-loop-rest g l = record {
   numbers : l.number + length l.rest ≤ 2 ^ 32 - 1;
   count : l.replay.count ≤ l.number;
   few : length l.replay.lost.items ≤ l.number;
+  found : AreFound (definitions_of l.fn.definitions) (definitions_of l.rest) l.selectors.items;
   ready : (f : Frame) (w : World) → IsReady (g.M.Memory.view l.fn.m) f w → IsReady (g.M.Memory.view l.m) f w;
   replays : (f : Frame) (w : World) (s : State Births) → IsReady (g.M.Memory.view l.fn.m) f w → Shows (shown (g.M.Memory.view l.fn.m) f w) s
       → IsUnderway installed (replay installed s l.fn.before (definitions_of l.fn.definitions)) l.replay l.number (definitions_of l.rest) (shown (g.M.Memory.view l.m) f w);

@@ -3,9 +3,10 @@ use Rattle.std.specs.Prelude.{Err}
 use Rattle.st_store.specs.Names.{roots_file, changes_file, IsNoFileOf}
 use Rattle.st_changes.specs.Condensing.{turned}
 use Rattle.st_host.specs.declared.file_fault.FileFault.{FileFault}
+use Rattle.st_protocol.specs.declared.status.Status.TheVariants.{DiskFault, OutOfMemory}
 use Rattle.st_recover.specs.Commits.{stored_of}
 use Rattle.st_recover.proofs.Making.{both_spare}
-use Rattle.st_session.proofs.Condensed.{where_ok, condensed_told, unmade, rests_same, unless_gate}
+use Rattle.st_session.proofs.Condensed.{where_ok, condensed_told, does_unmade, rests_same, unless_gate}
 use Rattle.st_session.proofs.Exported.{counts_behind, told_kind, names_said}
 use Rattle.st_session.proofs.condensing.condense_store.Goals as goal
 
@@ -38,17 +39,14 @@ returns-in-Ok-clause-spares g c =
 pub returns-in-Err-Disk-clause-does : goal.returns-in-Err-Disk-clause-does
 returns-in-Err-Disk-clause-does g c k told kept =
     let x = stored_of c.args.store.root.slot k in
-    let un = unmade g.H.Host c.args.host.now c.args.store c.args.changes.now.listed k kept c.requires.good c.condense.new.host c.condense.result (c.condense.ensures.either x told kept.kept) (λ z. c.condense.ensures.makes x z told kept.kept) in
-    record {
-      moments = un.0;
-      has = (un.1, unless_gate g.H.Host c.args.host.now c.args.store c.args.changes.now.listed k kept c.requires.good c.condense.new.host (c.in-Err-Disk.ensures.broken x told kept.kept));
-    }
+    does_unmade g.H.Host c.args.host.now c.args.store c.args.changes.now.listed k kept c.requires.good c.condense.new.host c.condense.result DiskFault (c.condense.ensures.either x told kept.kept) (λ z. c.condense.ensures.makes x z told kept.kept)
+    (λ quiet. (quiet, unless_gate g.H.Host c.args.host.now c.args.store c.args.changes.now.listed k kept c.requires.good c.condense.new.host (c.in-Err-Disk.ensures.broken x told kept.kept)))
 
 pub returns-in-Err-OutOfMemory-clause-does : goal.returns-in-Err-OutOfMemory-clause-does
 returns-in-Err-OutOfMemory-clause-does g c k told kept =
     let x = stored_of c.args.store.root.slot k in
-    let un = unmade g.H.Host c.args.host.now c.args.store c.args.changes.now.listed k kept c.requires.good c.condense.new.host c.condense.result (c.condense.ensures.either x told kept.kept) (λ z. c.condense.ensures.makes x z told kept.kept) in
-    record {
-      moments = un.0;
-      has = (un.1, rests_same g.H.Host c.args.host.now c.args.store c.args.changes.now.listed k kept c.requires.good c.condense.new.host (c.in-Err-OutOfMemory.ensures.starved x told kept.kept (ap (λ (e : FileFault). Err e) c.in-Err-OutOfMemory.field-0-is)));
-    }
+    does_unmade g.H.Host c.args.host.now c.args.store c.args.changes.now.listed k kept c.requires.good c.condense.new.host c.condense.result OutOfMemory (c.condense.ensures.either x told kept.kept) (λ z. c.condense.ensures.makes x z told kept.kept)
+    (λ quiet. (
+      quiet,
+      rests_same g.H.Host c.args.host.now c.args.store c.args.changes.now.listed k kept c.requires.good c.condense.new.host (c.in-Err-OutOfMemory.ensures.starved x told kept.kept (ap (λ (e : FileFault). Err e) c.in-Err-OutOfMemory.field-0-is)),
+    ))

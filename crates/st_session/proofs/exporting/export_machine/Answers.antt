@@ -23,6 +23,15 @@ returns-in-Ok-clause-has g c s shows told =
     (subst (λ x. HasExported g.H.Host c.args.image.now (ExportsImage extent (view x).objects (view x).head) old new result) c.memory.ensures
     (c.export_image.ensures.has told))
 
+pub returns-in-Ok-clause-others : goal.returns-in-Ok-clause-others
+returns-in-Ok-clause-others g c = c.export_image.ensures.others
+
+pub returns-in-Ok-clause-counts : goal.returns-in-Ok-clause-counts
+returns-in-Ok-clause-counts g c = c.export_image.ensures.counts
+
+pub returns-in-Ok-clause-kind : goal.returns-in-Ok-clause-kind
+returns-in-Ok-clause-kind g c = c.export_image.ensures.kind
+
 pub returns-in-Err-clause-has : goal.returns-in-Err-clause-has
 returns-in-Err-clause-has g c s shows told =
     let n = c.save.new.self in

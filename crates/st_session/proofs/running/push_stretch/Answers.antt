@@ -19,19 +19,12 @@ cycles-init g c = record {
 
 pub returns-in-Snapshot-clause-pushes : goal.returns-in-Snapshot-clause-pushes
 returns-in-Snapshot-clause-pushes g c = λ s h.
-    let new = c.run-end.new.self in
-    let e = c.run-end.result in
-    let d = shown_by g.M.Memory.view new in
-    let far = c.cycles.invariant.said s h in
-    let alive = c.cycles.invariant.alive in
-    let ends = c.run-end.ensures.ends alive far.state far.shows in
-    let lives = c.run-end.ensures.death alive ∙ ap death_of c.in-Snapshot.is in
-    rw c.finished-finished.ensures (stops_here far e d ends new.death _ lives c.in-Snapshot.is (g.met.H.Host.only_now c.cycles.host))
+    let lives = c.run-end.ensures.death c.cycles.invariant.alive ∙ ap death_of c.in-Snapshot.is in
+    rw c.finished-finished.ensures (stops_here (c.cycles.invariant.said s h) c.run-end.result (shown_by g.M.Memory.view c.run-end.new.self) (c.run-end.ensures.ends c.cycles.invariant.alive) c.run-end.new.self.death _ lives c.in-Snapshot.is (g.met.H.Host.only_now c.cycles.host))
 
 pub cycles-preserved : goal.cycles-preserved
 cycles-preserved g c =
     let new = c.run-end.new.self in
-    let e = c.run-end.result in
     let n = c.args.cycles in
     let d = shown_by g.M.Memory.view new in
     let alive = c.cycles.invariant.alive in
@@ -47,37 +40,21 @@ cycles-preserved g c =
       few = omega (arith, most, count, few);
       said = λ s h.
           let far = c.cycles.invariant.said s h in
-          let ends = c.run-end.ensures.ends alive far.state far.shows in
           let line = push_as c.in-Ok.ensures.says (ap (λ m. said_in (g.M.Memory.view m).objects (value c.in-Say.object)) c.memory.ensures) in
-          subst (λ k. SaidSoFar g.H.Host n c.args.finished s (c.cycles.finished + k) d c.args.host.now c.say_at_once.new.host c.args.out.now c.say_at_once.new.out) (sym count) (said_on far e d ends _ c.in-Say.object c.in-Say.is line);
+          subst (λ k. SaidSoFar g.H.Host n c.args.finished s (c.cycles.finished + k) d c.args.host.now c.say_at_once.new.host c.args.out.now c.say_at_once.new.out) (sym count) (said_on far c.run-end.result d (c.run-end.ensures.ends alive) _ c.in-Say.object c.in-Say.is line);
     }
 
 pub returns-in-Err-clause-pushes : goal.returns-in-Err-clause-pushes
 returns-in-Err-clause-pushes g c = λ s h.
-    let new = c.run-end.new.self in
-    let e = c.run-end.result in
-    let d = shown_by g.M.Memory.view new in
-    let far = c.cycles.invariant.said s h in
-    let ends = c.run-end.ensures.ends c.cycles.invariant.alive far.state far.shows in
-    cut_short far e d ends _ c.in-Say.object c.in-Say.is new.death (push_as c.in-Err.ensures.says (ap (λ m. said_in (g.M.Memory.view m).objects (value c.in-Say.object)) c.memory.ensures))
+    let line = push_as c.in-Err.ensures.says (ap (λ m. said_in (g.M.Memory.view m).objects (value c.in-Say.object)) c.memory.ensures) in
+    cut_short (c.cycles.invariant.said s h) c.run-end.result (shown_by g.M.Memory.view c.run-end.new.self) (c.run-end.ensures.ends c.cycles.invariant.alive) _ c.in-Say.object c.in-Say.is c.run-end.new.self.death line
 
 pub returns-in-Ok-push_end-clause-pushes : goal.returns-in-Ok-push_end-clause-pushes
 returns-in-Ok-push_end-clause-pushes g c = λ s h.
-    let new = c.run-end.new.self in
-    let e = c.run-end.result in
-    let d = shown_by g.M.Memory.view new in
-    let far = c.cycles.invariant.said s h in
-    let alive = c.cycles.invariant.alive in
-    let ends = c.run-end.ensures.ends alive far.state far.shows in
-    ends_here far e d ends new.death (c.run-end.ensures.death alive) c.in_default.not-Snapshot c.in_default.not-Say
-    (push_as c.in-Ok-push_end.ensures (λ i. end_text (c.cycles.finished + c.finished-finished.ensures i) e))
+    ends_here (c.cycles.invariant.said s h) c.run-end.result (shown_by g.M.Memory.view c.run-end.new.self) (c.run-end.ensures.ends c.cycles.invariant.alive) c.run-end.new.self.death (c.run-end.ensures.death c.cycles.invariant.alive) c.in_default.not-Snapshot c.in_default.not-Say
+    (push_as c.in-Ok-push_end.ensures (λ i. end_text (c.cycles.finished + c.finished-finished.ensures i) c.run-end.result))
 
 pub returns-in-Err-push_end-clause-pushes : goal.returns-in-Err-push_end-clause-pushes
 returns-in-Err-push_end-clause-pushes g c = λ s h.
-    let new = c.run-end.new.self in
-    let e = c.run-end.result in
-    let d = shown_by g.M.Memory.view new in
-    let far = c.cycles.invariant.said s h in
-    let ends = c.run-end.ensures.ends c.cycles.invariant.alive far.state far.shows in
-    end_unsaid far e d ends new.death c.in_default.not-Snapshot c.in_default.not-Say
-    (push_as c.in-Err-push_end.ensures (λ i. end_text (c.cycles.finished + c.finished-finished.ensures i) e))
+    end_unsaid (c.cycles.invariant.said s h) c.run-end.result (shown_by g.M.Memory.view c.run-end.new.self) (c.run-end.ensures.ends c.cycles.invariant.alive) c.run-end.new.self.death c.in_default.not-Snapshot c.in_default.not-Say
+    (push_as c.in-Err-push_end.ensures (λ i. end_text (c.cycles.finished + c.finished-finished.ensures i) c.run-end.result))

@@ -5,13 +5,12 @@ use Rattle.st_protocol.specs.declared.status.Status.TheVariants.{OutOfMemory}
 use Rattle.st_protocol.proofs.Joins.{counts_behind}
 use Rattle.st_session.specs.Answers.{going_on, watched_course}
 use Rattle.st_session.specs.Keeping.{in_a_store}
-use Rattle.st_session.specs.Points.{alive}
 use Rattle.st_session.specs.Standing.{shown_by}
 use Rattle.st_session.specs.Stretches.{SaysStretch}
 use Rattle.st_session.specs.Watched.{watched_stretch}
 use Rattle.st_session.specs.Watching.{look_of}
 use Rattle.st_session.proofs.Points.{living_answers}
-use Rattle.st_session.proofs.Snapshots.{ran_none, run_over, run_unsaid, asked, at_snapshot, snapshot_failed, snapshot_died, snapshot_kept}
+use Rattle.st_session.proofs.Snapshots.{ran_none, run_over, run_unsaid, snapshot_failed, snapshot_died, snapshot_kept}
 use Rattle.st_session.proofs.Served.{ample}
 use Rattle.st_session.proofs.saving.run.Goals as goal
 
@@ -82,29 +81,14 @@ returns-in-Err g c =
 
 pub returns-in-Err-snapshot : goal.returns-in-Err-snapshot
 returns-in-Err-snapshot g c =
-    let view = g.M.Memory.view in
-    let n = c.args.cycles in
     let inv = c.stretches.invariant in
-    let m1 = c.say_stretch.new.machine in
-    let mid = c.say_stretch.new.host in
-    let m2 = c.snapshot.new.kept.machine in
-    let b = c.snapshot.new.kept.archive in
-    let new = c.snapshot.new.host in
-    let j = c.in-Ok-Some.asked in
     let first = c.in-Ok-Some.ensures.counts in
-    let follows = living_answers view g.H.Host c.args.kept.now.machine c.args.kept.now.archive c.args.host.now m2 b new (λ being. going_on in_a_store (watched_course in_a_store (look_of c.args.watch) 0 n) being) (Err c.in-Err-snapshot.status) c.requires.alive
-    (λ s k shows holds.
-    let far = inv.ran s k shows holds in
-    let said = subst (λ (x : Option ℕ). SaysStretch g.H.Host m1.death (shown_by view m1) (watched_stretch (look_of c.args.watch) c.stretches.finished (n - c.stretches.finished) far.state) c.stretches.host mid (Ok x)) c.in-Ok-Some.field-0-is (c.in-Ok-Some.ensures.says far.state far.shows) in
-    let from = at_snapshot view g.H.Host (look_of c.args.watch) far inv.few (sym inv.named) m1 mid j said m2 b new in
-    let p = alive (asked view g.H.Host (look_of c.args.watch) far inv.few (sym inv.named) m1 mid j said m2 b new).state far.commit in
-    snapshot_failed view g.H.Host (look_of c.args.watch) far inv.few (sym inv.named) m1 mid j said m2 b new c.in-Err-snapshot.status
-    (c.in-Err-snapshot.ensures.follows p from)) in
     record {
       go_on = tt;
       named = c.snapshot.ensures.named ∙ inv.named;
-      follows = follows;
-      counts = counts_behind g.H.Host ⊥ c.args.host.now mid new (Err c.in-Err-snapshot.status) (omega (arith, inv.disk, first.disk)) (omega (arith, inv.say, first.say)) c.in-Err-snapshot.ensures.counts;
+      follows = living_answers g.M.Memory.view g.H.Host c.args.kept.now.machine c.args.kept.now.archive c.args.host.now c.snapshot.new.kept.machine c.snapshot.new.kept.archive c.snapshot.new.host (λ being. going_on in_a_store (watched_course in_a_store (look_of c.args.watch) 0 c.args.cycles) being) (Err c.in-Err-snapshot.status) c.requires.alive
+          (λ s k shows holds. snapshot_failed g.M.Memory.view g.H.Host (look_of c.args.watch) (inv.ran s k shows holds) inv.few (sym inv.named) c.say_stretch.new.machine c.say_stretch.new.host c.in-Ok-Some.field-0-is c.in-Ok-Some.ensures.says c.snapshot.new.kept.machine c.snapshot.new.kept.archive c.snapshot.new.host c.in-Err-snapshot.status c.in-Err-snapshot.ensures.follows);
+      counts = counts_behind g.H.Host ⊥ c.args.host.now c.say_stretch.new.host c.snapshot.new.host (Err c.in-Err-snapshot.status) (omega (arith, inv.disk, first.disk)) (omega (arith, inv.say, first.say)) c.in-Err-snapshot.ensures.counts;
       served = c.in-Err-snapshot.ensures.served;
       starved = c.in-Err-snapshot.ensures.starved;
     }
@@ -112,47 +96,25 @@ returns-in-Err-snapshot g c =
 -- the machine died of saving
 pub returns-then-is_some : goal.returns-then-is_some
 returns-then-is_some g c =
-    let view = g.M.Memory.view in
-    let n = c.args.cycles in
     let inv = c.stretches.invariant in
-    let m1 = c.say_stretch.new.machine in
-    let mid = c.say_stretch.new.host in
-    let m2 = c.snapshot.new.kept.machine in
-    let b = c.snapshot.new.kept.archive in
-    let new = c.snapshot.new.host in
-    let j = c.in-Ok-Some.asked in
     let died = some_of c.death.result (sym c.is_some.ensures ∙ c.if-is_some.true) in
     let first = c.in-Ok-Some.ensures.counts in
-    let follows = living_answers view g.H.Host c.args.kept.now.machine c.args.kept.now.archive c.args.host.now m2 b new (λ being. going_on in_a_store (watched_course in_a_store (look_of c.args.watch) 0 n) being) (Ok tt) c.requires.alive
-    (λ s k shows holds.
-    let far = inv.ran s k shows holds in
-    let said = subst (λ (x : Option ℕ). SaysStretch g.H.Host m1.death (shown_by view m1) (watched_stretch (look_of c.args.watch) c.stretches.finished (n - c.stretches.finished) far.state) c.stretches.host mid (Ok x)) c.in-Ok-Some.field-0-is (c.in-Ok-Some.ensures.says far.state far.shows) in
-    let from = at_snapshot view g.H.Host (look_of c.args.watch) far inv.few (sym inv.named) m1 mid j said m2 b new in
-    let p = alive (asked view g.H.Host (look_of c.args.watch) far inv.few (sym inv.named) m1 mid j said m2 b new).state far.commit in
-    snapshot_died view g.H.Host (look_of c.args.watch) far inv.few (sym inv.named) m1 mid j said m2 b new died.0 (sym c.death.ensures ∙ died.1) (sym (c.snapshot.ensures.named ∙ inv.named)) (g.met.H.Host.only_now new)
-    (c.in-Ok.ensures.follows p from)) in
     record {
       go_on = c.in-Ok.ensures.go_on;
       named = c.snapshot.ensures.named ∙ inv.named;
-      follows = follows;
-      counts = counts_behind g.H.Host ⊥ c.args.host.now mid new (Ok tt) (omega (arith, inv.disk, first.disk)) (omega (arith, inv.say, first.say)) c.in-Ok.ensures.counts;
+      follows = living_answers g.M.Memory.view g.H.Host c.args.kept.now.machine c.args.kept.now.archive c.args.host.now c.snapshot.new.kept.machine c.snapshot.new.kept.archive c.snapshot.new.host (λ being. going_on in_a_store (watched_course in_a_store (look_of c.args.watch) 0 c.args.cycles) being) (Ok tt) c.requires.alive
+          (λ s k shows holds. snapshot_died g.M.Memory.view g.H.Host (look_of c.args.watch) (inv.ran s k shows holds) inv.few (sym inv.named) c.say_stretch.new.machine c.say_stretch.new.host c.in-Ok-Some.field-0-is c.in-Ok-Some.ensures.says c.snapshot.new.kept.machine c.snapshot.new.kept.archive c.snapshot.new.host died.0 (sym c.death.ensures ∙ died.1) (sym (c.snapshot.ensures.named ∙ inv.named)) (g.met.H.Host.only_now c.snapshot.new.host) c.in-Ok.ensures.follows);
+      counts = counts_behind g.H.Host ⊥ c.args.host.now c.say_stretch.new.host c.snapshot.new.host (Ok tt) (omega (arith, inv.disk, first.disk)) (omega (arith, inv.say, first.say)) c.in-Ok.ensures.counts;
       served = tt;
       starved = ample (Ok tt) tt;
     }
 
 pub stretches-preserved : goal.stretches-preserved
 stretches-preserved g c =
-    let view = g.M.Memory.view in
     let n = c.args.cycles in
     let inv = c.stretches.invariant in
-    let m1 = c.say_stretch.new.machine in
-    let mid = c.say_stretch.new.host in
-    let m2 = c.snapshot.new.kept.machine in
-    let b = c.snapshot.new.kept.archive in
-    let new = c.snapshot.new.host in
     let j = c.in-Ok-Some.asked in
-    let is = c.in-Ok-Some.field-0-is in
-    let later : (c.stretches.finished < j) × (j ≤ n) = subst (λ (x : Option ℕ). IfSome x (λ k. (c.stretches.finished < k) × (k ≤ n))) is c.in-Ok-Some.ensures.later in
+    let later : (c.stretches.finished < j) × (j ≤ n) = subst (λ (x : Option ℕ). IfSome x (λ k. (c.stretches.finished < k) × (k ≤ n))) c.in-Ok-Some.field-0-is c.in-Ok-Some.ensures.later in
     let lives = sym c.death.ensures ∙ none_of c.death.result (sym c.is_some.ensures ∙ c.if-is_some.false) in
     let first = c.in-Ok-Some.ensures.counts in
     let second = c.in-Ok.ensures.counts in
@@ -163,10 +125,5 @@ stretches-preserved g c =
       few = later.1;
       disk = omega (arith, inv.disk, first.disk, second.disk);
       say = omega (arith, inv.say, first.say, second.say);
-      ran = λ s k shows holds.
-          let far = inv.ran s k shows holds in
-          let said = subst (λ (x : Option ℕ). SaysStretch g.H.Host m1.death (shown_by view m1) (watched_stretch (look_of c.args.watch) c.stretches.finished (n - c.stretches.finished) far.state) c.stretches.host mid (Ok x)) is (c.in-Ok-Some.ensures.says far.state far.shows) in
-          let from = at_snapshot view g.H.Host (look_of c.args.watch) far inv.few (sym inv.named) m1 mid j said m2 b new in
-          let p = alive (asked view g.H.Host (look_of c.args.watch) far inv.few (sym inv.named) m1 mid j said m2 b new).state far.commit in
-          snapshot_kept view g.H.Host (look_of c.args.watch) far inv.few (sym inv.named) m1 mid j said m2 b new lives (c.in-Ok.ensures.follows p from);
+      ran = λ s k shows holds. snapshot_kept g.M.Memory.view g.H.Host (look_of c.args.watch) (inv.ran s k shows holds) inv.few (sym inv.named) c.say_stretch.new.machine c.say_stretch.new.host c.in-Ok-Some.field-0-is c.in-Ok-Some.ensures.says c.snapshot.new.kept.machine c.snapshot.new.kept.archive c.snapshot.new.host lives c.in-Ok.ensures.follows;
     }

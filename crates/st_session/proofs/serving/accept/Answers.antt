@@ -9,7 +9,8 @@ use Rattle.st_session.specs.Answers.{definition_course}
 use Rattle.st_session.specs.Keeping.{in_a_store}
 use Rattle.st_call.specs.Replies.{accepted_line}
 use Rattle.st_protocol.proofs.Joins.{counts_behind}
-use Rattle.st_session.proofs.Accepting.{prepared_selector, accepted_said, accepted_unkept}
+use Rattle.st_recover.proofs.Selectors.{prepared_selector}
+use Rattle.st_session.proofs.Accepting.{accepted_said, accepted_unkept}
 use Rattle.st_install.proofs.Compiling.{is_accepted}
 use Rattle.st_session.proofs.Points.{living_answers}
 use Rattle.st_session.proofs.Saying.{when_ok}

@@ -1,13 +1,12 @@
 use Rattle.std.proofs.Common.{◌≡◌, ◌-◌, None, subst, arith}
 use Rattle.std.specs.Prelude.{Ok, Some}
 use Rattle.st_host.specs.declared.host.SayFault.{SayFault}
-use Rattle.st_session.specs.declared.watching.Cycled.{Cycled}
 use Rattle.st_session.specs.Standing.{shown_by}
 use Rattle.st_session.specs.Stretches.{PushesStretch}
 use Rattle.st_session.specs.Watching.{look_of}
-use Rattle.st_session.specs.Watched.{PushesCycle, watched_cycle, watched_stretch}
+use Rattle.st_session.specs.Watched.{watched_stretch}
 use Rattle.st_session.proofs.Points.{shown_births}
-use Rattle.st_session.proofs.Seen.{SeenSoFar, none_seen, seen_on, seen_asked, seen_over, seen_cut, all_ran, ran_unsaid, goes_alive, asks_alive, one_later}
+use Rattle.st_session.proofs.Seen.{SeenSoFar, none_seen, seen_on, seen_asked, seen_over, seen_cut, all_ran, ran_unsaid, cycled_so, goes_alive, asks_alive, one_later}
 use Rattle.st_session.proofs.watching.push_cycles.Goals as goal
 
 pub cycles-init : goal.cycles-init
@@ -30,7 +29,7 @@ cycles-preserved g c =
     let later = inv.later in
     let some = shown_births g.M.Memory.view c.args.machine.now (g.met.M.Memory.whole c.args.machine.now.memory) c.requires.ready in
     let first = inv.said some.0 some.1 in
-    let lives : new.death ≡ None = goes_alive (subst (λ (x : Cycled). PushesCycle {E = SayFault} g.H.Host new.death d c.cycles.finished (watched_cycle (look c.cycles.finished) c.cycles.finished first.state) c.cycles.host c.push_watched.new.host c.cycles.out c.push_watched.new.out (Ok x)) is (c.in-Ok-GoesOn.ensures.pushes first.state first.shows)) in
+    let lives : new.death ≡ None = goes_alive (cycled_so is (c.in-Ok-GoesOn.ensures.pushes first.state first.shows)) in
     record {
       ready = c.push_watched.ensures.may_run lives;
       alive = lives;
@@ -39,17 +38,14 @@ cycles-preserved g c =
       said = λ s h.
           let far = inv.said s h in
           subst (λ k. SeenSoFar g.H.Host look c.args.cycles c.args.finished s k d c.args.host.now c.push_watched.new.host c.args.out.now c.push_watched.new.out) (one_later c.cycles.finished)
-          (seen_on far less new.death d (subst (λ (x : Cycled). PushesCycle {E = SayFault} g.H.Host new.death d c.cycles.finished (watched_cycle (look c.cycles.finished) c.cycles.finished far.state) c.cycles.host c.push_watched.new.host c.cycles.out c.push_watched.new.out (Ok x)) is (c.in-Ok-GoesOn.ensures.pushes far.state far.shows)));
+          (seen_on far less new.death d (cycled_so is (c.in-Ok-GoesOn.ensures.pushes far.state far.shows)));
     }
 
 pub returns-in-Ok-Asks-clause-alive : goal.returns-in-Ok-Asks-clause-alive
 returns-in-Ok-Asks-clause-alive g c =
-    let new = c.push_watched.new.machine in
-    let d = shown_by g.M.Memory.view new in
-    let look = look_of c.args.watch in
     let some = shown_births g.M.Memory.view c.args.machine.now (g.met.M.Memory.whole c.args.machine.now.memory) c.requires.ready in
     let first = c.cycles.invariant.said some.0 some.1 in
-    asks_alive (subst (λ (x : Cycled). PushesCycle {E = SayFault} g.H.Host new.death d c.cycles.finished (watched_cycle (look c.cycles.finished) c.cycles.finished first.state) c.cycles.host c.push_watched.new.host c.cycles.out c.push_watched.new.out (Ok x)) c.in-Ok-Asks.field-0-is (c.in-Ok-Asks.ensures.pushes first.state first.shows))
+    asks_alive (cycled_so c.in-Ok-Asks.field-0-is (c.in-Ok-Asks.ensures.pushes first.state first.shows))
 
 pub returns-in-Ok-Asks-clause-later : goal.returns-in-Ok-Asks-clause-later
 returns-in-Ok-Asks-clause-later g c =
@@ -64,15 +60,13 @@ returns-in-Ok-Asks-clause-pushes g c = λ s h.
     let look = look_of c.args.watch in
     let far = c.cycles.invariant.said s h in
     subst (λ k. PushesStretch {E = SayFault} g.H.Host new.death d (watched_stretch look c.args.finished (c.args.cycles - c.args.finished) s) c.args.host.now c.push_watched.new.host c.args.out.now c.push_watched.new.out (Ok (Some k))) (one_later c.cycles.finished)
-    (seen_asked far c.cycles-test.true new.death d (subst (λ (x : Cycled). PushesCycle {E = SayFault} g.H.Host new.death d c.cycles.finished (watched_cycle (look c.cycles.finished) c.cycles.finished far.state) c.cycles.host c.push_watched.new.host c.cycles.out c.push_watched.new.out (Ok x)) c.in-Ok-Asks.field-0-is (c.in-Ok-Asks.ensures.pushes far.state far.shows)))
+    (seen_asked far c.cycles-test.true new.death d (cycled_so c.in-Ok-Asks.field-0-is (c.in-Ok-Asks.ensures.pushes far.state far.shows)))
 
 pub returns-in-Ok-Over-clause-pushes : goal.returns-in-Ok-Over-clause-pushes
 returns-in-Ok-Over-clause-pushes g c = λ s h.
     let new = c.push_watched.new.machine in
-    let d = shown_by g.M.Memory.view new in
-    let look = look_of c.args.watch in
     let far = c.cycles.invariant.said s h in
-    seen_over far c.cycles-test.true new.death d (subst (λ (x : Cycled). PushesCycle {E = SayFault} g.H.Host new.death d c.cycles.finished (watched_cycle (look c.cycles.finished) c.cycles.finished far.state) c.cycles.host c.push_watched.new.host c.cycles.out c.push_watched.new.out (Ok x)) c.in-Ok-Over.field-0-is (c.in-Ok-Over.ensures.pushes far.state far.shows))
+    seen_over far c.cycles-test.true new.death (shown_by g.M.Memory.view new) (cycled_so c.in-Ok-Over.field-0-is (c.in-Ok-Over.ensures.pushes far.state far.shows))
 
 pub returns-in-Err-clause-pushes : goal.returns-in-Err-clause-pushes
 returns-in-Err-clause-pushes g c = λ s h.

@@ -3,5 +3,5 @@ use Rattle.st_kernel_text.specs.Known.{has_all}
 use Rattle.st_kernel_text.specs.Lists.{needs_of}
 use Rattle.st_kernel_text.proofs.known.Known.has_all.Given as goal
 
-abbrev pub invariant-loop-name : goal.invariant-loop-name
-invariant-loop-name l = has_all l.self (needs_of (drop l.name-index l.needs)) ≡ has_all l.self (needs_of l.needs)
+abbrev pub invariant-loop-wanted : goal.invariant-loop-wanted
+invariant-loop-wanted l = has_all l.self (needs_of (drop l.wanted-index l.needs)) ≡ has_all l.self (needs_of l.needs)
