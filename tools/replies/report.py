@@ -3,6 +3,7 @@
 import pathlib
 import subprocess
 
+from .classes import CLASS_FIELDS, NAME, field_of
 from .image import Head, Objects, Wrong
 from .live import object_of
 from .meanings import meaning_of
@@ -29,6 +30,11 @@ class Reported(Objects):
     def words(self):
         """How many words the objects have in all."""
         return sum(words_of(it) for it in self.objects.values())
+
+    def classes(self):
+        """The pointers of the objects that are the one instance of a metaclass."""
+        large = {it: found for it, found in self.objects.items() if len(found.fields) >= CLASS_FIELDS}
+        return {it for it, found in large.items() if field_of(self, found.of_class, NAME) == it}
 
 
 def words_of(found):
