@@ -8,7 +8,7 @@ mod stops;
 
 use crate::tool::tool;
 use files::{Files, IMAGE_B, STORE_B, failing_host, host_with};
-use st_host::{MemHost, MemSource};
+use st_memory_host::{MemHost, MemSource};
 use st_protocol::Status;
 use std::alloc::{AllocError, Global};
 use std::process::Abort;

@@ -1,5 +1,5 @@
 //! The crates of texts together. There is nothing here but tests: of method texts that are scanned, parsed, printed and
-//! compiled, of chunks, scripts and kernel texts, of stores, and of the changes that they keep.
+//! compiled, of chunks, scripts and kernel texts, of stores and the changes that they keep; and of hosts, on which stores stand.
 #![tactic(auto)]
 
 #[cfg(test)]
@@ -22,6 +22,10 @@ mod doubling;
 mod generated;
 #[cfg(test)]
 mod generator;
+#[cfg(test)]
+mod guards;
+#[cfg(test)]
+mod host_calls;
 #[cfg(test)]
 mod hosts;
 #[cfg(test)]

@@ -1,7 +1,7 @@
 //! Stores over a host in memory: that calls succeed, and the bytes of their files.
 
 use crate::hosts::{check_file, host_with};
-use st_host::MemHost;
+use st_memory_host::MemHost;
 use st_store::{Root, Store, StoreFault, StorePlace, clear, found, open_store};
 use std::alloc::{AllocError, Global};
 use std::process::Abort;

@@ -1,5 +1,5 @@
 //! Files of images and stores, as words.
-use st_host::MemHost;
+use st_memory_host::MemHost;
 use std::alloc::{AllocError, Global};
 
 /// A file: words, each row of them from its place on, and zeros between.

@@ -2,7 +2,7 @@
 //! the first one on until a run meets none; and how the store opens behind each.
 use super::files::{Files, IMAGE_G, STORE_C, STORE_G, host_with};
 use super::{MemHost, MemSource, Status, call};
-use st_host::Leave;
+use st_memory_host::Leave;
 use std::alloc::{AllocError, Global};
 use std::process::Abort;
 use std::test::Fail;
