@@ -55,7 +55,7 @@ const IS_REMEMBERED: Call = Call::Remembered(12, 66, Some(72));
 const IS_FORGOTTEN: Call = Call::Remembered(12, 66, None);
 
 /// Changes by which what was found is forgotten, and what the search finds then.
-const FORGOTTEN: [(Call, Result<Option<Oop>, Dead>); 8] = [
+const FORGOTTEN: &[(Call, Result<Option<Oop>, Dead>)] = &[
     // its place in the dictionary is emptied, or its method is another, or the class has another dictionary
     (Call::Store(68, 2, 2), Ok(None)),
     (Call::Store(70, 0, 64), Ok(Some(Oop(64)))),
@@ -69,7 +69,7 @@ const FORGOTTEN: [(Call, Result<Option<Oop>, Dead>); 8] = [
 ];
 
 /// What is remembered, and what is forgotten with something else.
-const ROWS: [&[Call]; 5] = [
+const ROWS: &[&[Call]] = &[
     &[IS_FORGOTTEN, FOUND, IS_REMEMBERED, FOUND],
     // what a class had is found in the one that it was exchanged with
     &[
@@ -154,9 +154,9 @@ fn kept(found: Result<Option<Oop>, Dead>) -> Option<u32> {
 fn what_was_found_is_forgotten_where_it_may_change(rt: HostRuntime) -> Result<(), Fail> {
     for (change, found) in FORGOTTEN {
         let mut m = image::<CachedLoader<CountedLoader>>(rt.alloc(), &C, 32767, 20000)?;
-        carry_out_all(&rt, &mut m, &[FOUND, change, IS_FORGOTTEN]);
-        carry_out(&rt, &mut m, Call::Find(12, 66, found));
-        carry_out(&rt, &mut m, Call::Remembered(12, 66, kept(found)));
+        carry_out_all(&rt, &mut m, &[FOUND, *change, IS_FORGOTTEN]);
+        carry_out(&rt, &mut m, Call::Find(12, 66, *found));
+        carry_out(&rt, &mut m, Call::Remembered(12, 66, kept(*found)));
     }
     Ok(())
 }
@@ -171,15 +171,15 @@ fn what_was_found_is_remembered_until_it_may_change(rt: HostRuntime) -> Result<(
 }
 
 /// Classes, dictionaries, Arrays of methods, selectors and methods, of image C and of what is made beside it.
-const SOME: [u16; 16] = [
+const SOME: &[u16] = &[
     2, 3, 10, 12, 18, 20, 30, 36, 42, 64, 66, 68, 70, 72, 50, 131,
 ];
 
 /// Two classes below class 12: class 10 with the dictionary 18, class 30 below it with the dictionary 36, and both with the
 /// Array 20, which has the methods of image C.
 fn make_classes<M: Memory>(rt: &impl Abort, m: &mut M) {
-    for size in [3, 6, 4, 3, 4] {
-        make(rt, m, 16, Kind::Pointers, size);
+    for size in &[3, 6, 4, 3, 4] {
+        make(rt, m, 16, Kind::Pointers, *size);
     }
     write_first(rt, m, 10, &[12, 18]);
     write_first(rt, m, 18, &[2, 20, 42, 66, 3]);
@@ -190,7 +190,8 @@ fn make_classes<M: Memory>(rt: &impl Abort, m: &mut M) {
 }
 
 fn pick(numbers: &mut Numbers) -> Oop {
-    Oop(SOME[numbers.next() as usize % 16])
+    let chosen = numbers.next() as usize % 16;
+    Oop(SOME.get(chosen).copied().unwrap_or(2))
 }
 
 /// One change of some objects.
@@ -225,7 +226,7 @@ fn chain_ends<M: Memory>(m: &M, class: Oop) -> bool {
 fn find_each<M: Memory, N: Memory>(rt: &impl Abort, m: &mut M, n: &N, class: Oop) {
     let ends = chain_ends(n, class);
     for selector in SOME {
-        let selector = Oop(selector);
+        let selector = Oop(*selector);
         if ends || remembered(m, class, selector).is_some() {
             assert_eq!(rt;
                 find_and_remember(m, class, selector),
@@ -237,7 +238,7 @@ fn find_each<M: Memory, N: Memory>(rt: &impl Abort, m: &mut M, n: &N, class: Oop
 
 fn find_all<M: Memory, N: Memory>(rt: &impl Abort, m: &mut M, n: &N) {
     for class in SOME {
-        find_each(rt, m, n, Oop(class));
+        find_each(rt, m, n, Oop(*class));
     }
 }
 

@@ -161,7 +161,7 @@ const NEW_FIELDS: &[Call] = &[
     Call::Field(60, 3, 2),
 ];
 
-const ROWS: [Row; 10] = [
+const ROWS: &[Row] = &[
     (B, 32767, 108, FILLED_WORDS),
     (B, 32767, 186, MOVED_WORDS),
     (B, 32767, 1048576, FILLED_TABLE),
@@ -211,9 +211,10 @@ fn make_in_turn<M: Memory>(rt: &impl Abort, m: &mut M, turn: u32) {
     used(rt, m, 25, 83);
     let made = make(rt, m, 12, Kind::Pointers, 4);
     assert!(rt; made != kept && made <= lost, "in turn {turn}");
-    for (object, at, word) in [(made, 0, 2), (made, 3, 2), (kept, 0, 2), (kept, 2, 6)] {
-        field_is(rt, m, object, at, word);
-    }
+    field_is(rt, m, made, 0, 2);
+    field_is(rt, m, made, 3, 2);
+    field_is(rt, m, kept, 0, 2);
+    field_is(rt, m, kept, 2, 6);
 }
 
 fn make_in_turns<M: Memory>(rt: &impl Abort, m: &mut M, count: u32) {
@@ -328,7 +329,7 @@ fn carry_out_all<M: Memory>(rt: &impl Abort, m: &mut M, calls: &[Call]) {
 
 fn rows_hold<L: Loader>(rt: &(impl Abort + AllocGlobal)) -> Result<(), Fail> {
     for (plan, entries, words, calls) in ROWS {
-        let mut m = image::<L>(rt.alloc(), &plan, entries, words)?;
+        let mut m = image::<L>(rt.alloc(), plan, *entries, *words)?;
         carry_out_all(rt, &mut m, calls);
     }
     Ok(())

@@ -1,31 +1,13 @@
 //! The crates of texts together. There is nothing here but tests: of method texts that are scanned, parsed, printed and
-//! compiled, of chunks, scripts and kernel texts, of stores, and of the changes that they keep.
+//! compiled, of what their code means, and of the changes that a store keeps.
 #![tactic(auto)]
 
 #[cfg(test)]
-mod chains;
-#[cfg(test)]
 mod changes;
-#[cfg(test)]
-mod checker;
-#[cfg(test)]
-mod chunks;
 #[cfg(test)]
 mod compiling;
 #[cfg(test)]
-mod decoder;
-#[cfg(test)]
-mod differential;
-#[cfg(test)]
-mod doubling;
-#[cfg(test)]
-mod generated;
-#[cfg(test)]
-mod generator;
-#[cfg(test)]
 mod hosts;
-#[cfg(test)]
-mod kernels;
 #[cfg(test)]
 mod meanings;
 #[cfg(test)]
@@ -34,11 +16,5 @@ mod parsing;
 mod printing;
 #[cfg(test)]
 mod scanning;
-#[cfg(test)]
-mod scripts;
-#[cfg(test)]
-mod shape;
-#[cfg(test)]
-mod stores;
 #[cfg(test)]
 mod texts;
