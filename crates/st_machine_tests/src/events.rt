@@ -181,7 +181,7 @@ const ROWS: &[&[Call]] = &[MANY_WORDS, SIGNALLED_WORD, WAITING_TIMER, PLACE_AND_
 fn events_come<L: Loader>(rt: &(impl Abort + AllocGlobal)) -> Result<(), Fail> {
     for calls in ROWS {
         let (mut m, mut w) = quiet_b::<L>(rt.alloc())?;
-        for next in calls {
+        for next in *calls {
             carry_out(rt, &mut m, &mut w, *next);
         }
     }

@@ -126,7 +126,7 @@ const ROWS: &[(u32, &[Call])] = &[(108, CLOSED_UP), (100, TAKEN_AGAIN)];
 fn blocks_stand_in_holes_and_move(rt: HostRuntime) -> Result<(), Fail> {
     for (words, calls) in ROWS {
         let (mut heap, mut t) = empty(rt.alloc(), *words)?;
-        for next in calls {
+        for next in *calls {
             carry_out(&rt, &mut heap, &mut t, *next);
         }
     }

@@ -259,7 +259,7 @@ const ROWS: &[(Start, &[Call])] = &[
 fn machines_are_called<L: Loader>(rt: &(impl Abort + AllocGlobal)) -> Result<(), Fail> {
     for (start, calls) in ROWS {
         let mut machine = machine_of::<L>(rt, *start)?;
-        for next in calls {
+        for next in *calls {
             carry_out(rt, &mut machine, *next);
         }
     }
