@@ -9,8 +9,9 @@ mod tool;
 
 use crate::tool::exit_code;
 use st_call::{Command, read_command, refuse};
-use st_host::{DirHost, Source, StdinSource};
+use st_host::Source;
 use st_protocol::Status;
+use st_system_host::{DirHost, StdinSource};
 use std::alloc::Global;
 use std::fs::File;
 use std::io::{self, ErrorKind};

@@ -1,9 +1,3 @@
-pub mod Appending
-pub mod Walking
-pub mod Windows
-pub mod Doing
-pub mod Leaving
-pub mod Replaying
 pub mod Rising
 pub mod Joining
 pub mod Touching

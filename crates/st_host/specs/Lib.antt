@@ -1,12 +1,3 @@
-pub mod Written
-pub mod Deeds
-pub mod HostState
-pub mod Leave
-pub mod Log
-pub mod MemHost
-pub mod Replay
-pub mod SourceState
-pub mod Untold
 pub mod Counts
 pub mod Files
 pub mod Names

@@ -2,9 +2,9 @@
 
 use crate::files::{Files, IMAGE_B, host_with};
 use st_counted::CountedLoader;
-use st_host::{MemHost, MemSource};
 use st_image::HeadValues;
 use st_lookup::CachedLoader;
+use st_memory_host::{MemHost, MemSource};
 use st_protocol::Status;
 use st_session::{Extent, build, condense, export, import, once, session};
 use std::alloc::Global;

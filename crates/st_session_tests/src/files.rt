@@ -1,6 +1,6 @@
 //! Files of images and stores.
 
-use st_host::MemHost;
+use st_memory_host::MemHost;
 use std::alloc::Global;
 use std::process::Abort;
 

@@ -4,7 +4,7 @@ ghost use Rattle.std.specs.Prelude.{◌<◌};
 
 use crate::commands::{Command, call};
 use crate::files::{STORE_B, host_with};
-use st_host::MemSource;
+use st_memory_host::MemSource;
 use st_protocol::Status;
 use std::alloc::Global;
 use std::process::Abort;

@@ -3,7 +3,7 @@
 
 use crate::commands::{Command, call};
 use crate::files::{Files, IMAGE_G, Parts, STORE_G, host_with};
-use st_host::{Leave, MemHost, MemSource};
+use st_memory_host::{Leave, MemHost, MemSource};
 use st_protocol::Status;
 use st_session::Extent;
 use std::alloc::Global;

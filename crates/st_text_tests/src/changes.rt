@@ -6,7 +6,7 @@ ghost use Rattle.st_changes.specs.Views.{definition_of};
 
 use crate::hosts::{check_file, host_with};
 use st_changes::{Changes, Definition, Span, load};
-use st_host::MemHost;
+use st_memory_host::MemHost;
 use st_scan::Text;
 use st_store::{Store, StoreFault, open_store};
 use std::alloc::{AllocError, Global};

@@ -1,6 +1,7 @@
 //! Hosts in memory, and what their files have.
 
-use st_host::{MemHost, file_length, read_from};
+use st_host::{file_length, read_from};
+use st_memory_host::MemHost;
 use std::alloc::{AllocError, Global};
 use std::process::Abort;
 use std::test::Fail;

@@ -1,0 +1,80 @@
+"""What tools/prove and tools/wrong share: `rt ci` over a copy of the crates, and what it prints of each."""
+
+import contextlib
+import os
+import pathlib
+import re
+import shutil
+import signal
+import subprocess
+import sys
+import time
+
+TOP = pathlib.Path(__file__).resolve().parent.parent
+SETTLED = re.compile(r"^rt: (\w+) (proved|is kept|NOT PROVED)", re.M)
+PAUSE = 1  # seconds between two looks at what the prover printed
+
+
+class Failed(Exception):
+    """What was asked for can't be done: why."""
+
+
+def uses_of_crates():
+    """The libraries that each crate of the repository uses, as crates.txt has them."""
+    lines = re.findall(r"(?m)^([a-z]\w*)[^:\n]*:(.*)$", (TOP / "crates.txt").read_text())
+    return {name: below.split() for name, below in lines}
+
+
+def copy_sources(to):
+    """Copies what a proof reads: the gate's edits, further wrong bodies and what earlier runs made stay out."""
+    shutil.copytree(TOP / "crates", to / "crates", ignore=shutil.ignore_patterns("out", "must-fail", "wrong"))
+    for name in ("crates.txt", "HANDLES"):
+        shutil.copyfile(TOP / name, to / name)
+
+
+@contextlib.contextmanager
+def gate_over(sources, names, place, log):
+    """`rt ci` over these crates of a copy, which works in `place` and prints to the file `log`; it is ended with what it has begun."""
+    with open(log, "wb") as output:
+        try:
+            gate = subprocess.Popen(["rt", "ci", *names], cwd=sources, env={**os.environ, "TMPDIR": str(place)}, stdin=subprocess.DEVNULL,
+                                    stdout=output, stderr=subprocess.STDOUT, start_new_session=True)
+        except FileNotFoundError:
+            raise Failed("rt, the command of the Rattle toolchain, isn't in the path") from None
+    try:
+        yield gate
+    finally:
+        with contextlib.suppress(ProcessLookupError):
+            os.killpg(gate.pid, signal.SIGTERM)
+        gate.wait()
+
+
+def crates_settled(gate, log):
+    """Each crate as soon as it is settled, with how; until the prover ends."""
+    told, ended = set(), False
+    while not ended:
+        ended = gate.poll() is not None
+        for name, how in SETTLED.findall(log.read_text(errors="replace")):
+            if name not in told:
+                told.add(name)
+                yield name, how
+        if not ended:
+            time.sleep(PAUSE)
+
+
+def run_tool(name, work):
+    """The exit status of a tool's work: 2, with a line on standard error, if it can't be done."""
+    for stop in (signal.SIGTERM, signal.SIGHUP):
+        signal.signal(stop, signal.default_int_handler)  # what is half made is removed then too
+    try:
+        return work()
+    except Failed as why:
+        print(f"{name}: {why}", file=sys.stderr)
+    except shutil.Error as why:
+        print(f"{name}: {why.args[0][0][2]}", file=sys.stderr)
+    except OSError as why:
+        print(f"{name}: {why.filename or 'a file'}: {why.strerror}", file=sys.stderr)
+    except KeyboardInterrupt:
+        print(f"{name}: interrupted; what is proved stays so", file=sys.stderr)
+        return 130
+    return 2
