@@ -9,7 +9,6 @@ use st_model::{Dead, Kind, Oop, RootPlace, Word};
 use st_plain::PlainLoader;
 use std::alloc::AllocGlobal;
 use std::process::Abort;
-use std::test::Fail;
 
 /// The pointer of the method that is remembered for a selector in a class.
 pub fn remembered<M: Memory>(m: &M, class: Oop, selector: Oop) -> Option<u32> {
@@ -151,23 +150,25 @@ fn kept(found: Result<Option<Oop>, Dead>) -> Option<u32> {
 }
 
 #[test]
-fn what_was_found_is_forgotten_where_it_may_change(rt: HostRuntime) -> Result<(), Fail> {
+fn what_was_found_is_forgotten_where_it_may_change(rt: HostRuntime) {
     for (change, found) in FORGOTTEN {
-        let mut m = image::<CachedLoader<CountedLoader>>(rt.alloc(), &C, 32767, 20000)?;
+        let mut m = image::<CachedLoader<CountedLoader>>(rt.alloc(), &C, 32767, 20000).expect(
+            &rt, "an image",
+        );
         carry_out_all(&rt, &mut m, &[FOUND, *change, IS_FORGOTTEN]);
         carry_out(&rt, &mut m, Call::Find(12, 66, *found));
         carry_out(&rt, &mut m, Call::Remembered(12, 66, kept(*found)));
     }
-    Ok(())
 }
 
 #[test]
-fn what_was_found_is_remembered_until_it_may_change(rt: HostRuntime) -> Result<(), Fail> {
+fn what_was_found_is_remembered_until_it_may_change(rt: HostRuntime) {
     for calls in ROWS {
-        let mut m = image::<CachedLoader<CountedLoader>>(rt.alloc(), &C, 32767, 20000)?;
+        let mut m = image::<CachedLoader<CountedLoader>>(rt.alloc(), &C, 32767, 20000).expect(
+            &rt, "an image",
+        );
         carry_out_all(&rt, &mut m, calls);
     }
-    Ok(())
 }
 
 /// Classes, dictionaries, Arrays of methods, selectors and methods, of image C and of what is made beside it.
@@ -243,9 +244,11 @@ fn find_all<M: Memory, N: Memory>(rt: &impl Abort, m: &mut M, n: &N) {
 }
 
 /// Some changes of both memories, after each of which both find the same.
-fn searches_agree(rt: &(impl Abort + AllocGlobal), state: u32) -> Result<(), Fail> {
-    let mut m = image::<CachedLoader<PlainLoader>>(rt.alloc(), &C, 32767, 20000)?;
-    let mut n = image::<PlainLoader>(rt.alloc(), &C, 32767, 20000)?;
+fn searches_agree(rt: &(impl Abort + AllocGlobal), state: u32) {
+    let mut m = image::<CachedLoader<PlainLoader>>(rt.alloc(), &C, 32767, 20000).expect(
+        rt, "an image",
+    );
+    let mut n = image::<PlainLoader>(rt.alloc(), &C, 32767, 20000).expect(rt, "an image");
     let mut one = Numbers { state };
     let mut two = Numbers { state };
     make_classes(rt, &mut m);
@@ -255,13 +258,11 @@ fn searches_agree(rt: &(impl Abort + AllocGlobal), state: u32) -> Result<(), Fai
         change(rt, &mut n, &mut two);
         find_all(rt, &mut m, &n);
     }
-    Ok(())
 }
 
 #[test]
-fn searches_find_what_they_find_beside_a_plain_memory(rt: HostRuntime) -> Result<(), Fail> {
+fn searches_find_what_they_find_beside_a_plain_memory(rt: HostRuntime) {
     for state in 1..50 {
-        searches_agree(&rt, state)?;
+        searches_agree(&rt, state);
     }
-    Ok(())
 }

@@ -7,7 +7,6 @@ use st_model::{Demand, Kind, Oop, RootPlace};
 use st_plain::PlainLoader;
 use std::alloc::AllocGlobal;
 use std::process::Abort;
-use std::test::Fail;
 
 /// A call of a memory, or what it answers then.
 #[derive(Clone, Copy)]
@@ -327,16 +326,15 @@ fn carry_out_all<M: Memory>(rt: &impl Abort, m: &mut M, calls: &[Call]) {
     }
 }
 
-fn rows_hold<L: Loader>(rt: &(impl Abort + AllocGlobal)) -> Result<(), Fail> {
+fn rows_hold<L: Loader>(rt: &(impl Abort + AllocGlobal)) {
     for (plan, entries, words, calls) in ROWS {
-        let mut m = image::<L>(rt.alloc(), plan, *entries, *words)?;
+        let mut m = image::<L>(rt.alloc(), plan, *entries, *words).expect(rt, "an image");
         carry_out_all(rt, &mut m, calls);
     }
-    Ok(())
 }
 
 #[test]
-fn rows_hold_over_both_memories(rt: HostRuntime) -> Result<(), Fail> {
-    rows_hold::<PlainLoader>(&rt)?;
-    rows_hold::<CountedLoader>(&rt)
+fn rows_hold_over_both_memories(rt: HostRuntime) {
+    rows_hold::<PlainLoader>(&rt);
+    rows_hold::<CountedLoader>(&rt);
 }

@@ -11,7 +11,6 @@ use st_scan::Text;
 use st_store::{Store, StoreFault, open_store};
 use std::alloc::{AllocError, Global};
 use std::process::Abort;
-use std::test::Fail;
 
 // Three definitions: `x ^x` of Point's instances, `y ^'!'` of its class side, whose category is `it's!`, and `x ^'!'` of
 // its instances, in the category `it's!`. The entries begin at 0, 32 and 79.
@@ -105,11 +104,11 @@ fn kept(rt: &impl Abort, alloc: Global, host: &mut MemHost) -> Result<Changes, S
 }
 
 #[test]
-fn a_definition_is_kept_and_read_back(rt: HostRuntime) -> Result<(), Fail> {
+fn a_definition_is_kept_and_read_back(rt: HostRuntime) {
     let alloc = rt.alloc();
-    let mut host = host_with(alloc, &ROOTS, &THREE[..79])?;
-    let changes = kept(&rt, alloc, &mut host)?;
+    let mut host = host_with(alloc, &ROOTS, &THREE[..79]).expect(&rt, "memory");
+    let changes = kept(&rt, alloc, &mut host).expect(&rt, "a store");
     assert_eq!(rt; changes.definitions().len(), 3);
     check_lasts(&rt, &changes, Span { at: 109, length: 7 });
-    check_file(&rt, alloc, &mut host, "s.changes", &THREE)
+    check_file(&rt, alloc, &mut host, "s.changes", &THREE);
 }

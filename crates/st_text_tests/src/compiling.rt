@@ -204,13 +204,12 @@ foo nil _ 1 => code 5 3
 foo thisContext _ 1 => code 5 3";
 
 #[test]
-fn texts_have_their_code_and_faults(rt: HostRuntime) -> Result<(), AllocError> {
-    let names = names(rt.alloc())?;
+fn texts_have_their_code_and_faults(rt: HostRuntime) {
+    let names = names(rt.alloc()).expect(&rt, "memory");
     for row in ROWS.lines() {
         let (text, wanted) = row_of(row);
         check(&rt, rt.alloc(), text.as_bytes(), &names, wanted);
     }
-    Ok(())
 }
 
 /// Methods within each bound, and past it, and one as deep as its text: the header, how many literals and how many bytes.
@@ -234,19 +233,17 @@ const LIMITS: &[(Pieces<'static>, &str)] = &[
 ];
 
 #[test]
-fn methods_are_as_large_as_they_may_be(rt: HostRuntime) -> Result<(), AllocError> {
-    let names = names(rt.alloc())?;
+fn methods_are_as_large_as_they_may_be(rt: HostRuntime) {
+    let names = names(rt.alloc()).expect(&rt, "memory");
     for (pieces, wanted) in LIMITS {
-        let text = text_of(rt.alloc(), pieces)?;
+        let text = text_of(rt.alloc(), pieces).expect(&rt, "memory");
         check(&rt, rt.alloc(), &text, &names, wanted);
     }
-    Ok(())
 }
 
 #[test]
-fn an_image_without_symbols_has_no_code(rt: HostRuntime) -> Result<(), AllocError> {
-    let mut names = names(rt.alloc())?;
+fn an_image_without_symbols_has_no_code(rt: HostRuntime) {
+    let mut names = names(rt.alloc()).expect(&rt, "memory");
     names.symbols = false;
     check(&rt, rt.alloc(), b"foo ^#a", &names, "code 0 10");
-    Ok(())
 }

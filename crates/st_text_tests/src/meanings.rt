@@ -312,13 +312,12 @@ const ROWS: &[(&[u8], &[Value], End<'static>)] = &[
 ];
 
 #[test]
-fn code_does_what_its_text_says(rt: HostRuntime) -> Result<(), AllocError> {
-    let names = names(rt.alloc())?;
+fn code_does_what_its_text_says(rt: HostRuntime) {
+    let names = names(rt.alloc()).expect(&rt, "memory");
     for (text, values, wanted) in ROWS {
-        let answers = plain_answers(rt.alloc(), values)?;
+        let answers = plain_answers(rt.alloc(), values).expect(&rt, "memory");
         check(&rt, rt.alloc(), text, &names, &answers, *wanted);
     }
-    Ok(())
 }
 
 /// How many messages answer true and make y true, and how many answer true behind them.
@@ -358,14 +357,13 @@ const BOUNDS: &[(Pieces<'static>, Answers, End<'static>)] = &[
 ];
 
 #[test]
-fn lists_are_as_long_as_they_may_be(rt: HostRuntime) -> Result<(), AllocError> {
-    let names = names(rt.alloc())?;
+fn lists_are_as_long_as_they_may_be(rt: HostRuntime) {
+    let names = names(rt.alloc()).expect(&rt, "memory");
     for (pieces, answers, wanted) in BOUNDS {
-        let text = text_of(rt.alloc(), pieces)?;
-        let answers = answers_of(rt.alloc(), *answers)?;
+        let text = text_of(rt.alloc(), pieces).expect(&rt, "memory");
+        let answers = answers_of(rt.alloc(), *answers).expect(&rt, "memory");
         check(&rt, rt.alloc(), &text, &names, &answers, *wanted);
     }
-    Ok(())
 }
 
 /// A value that is stored before code can't go on.
@@ -389,11 +387,10 @@ fn parts_of(alloc: Global, bytes: &[u8]) -> Result<MethodParts, AllocError> {
 }
 
 #[test]
-fn code_ends_where_it_cannot_go_on(rt: HostRuntime) -> Result<(), AllocError> {
+fn code_ends_where_it_cannot_go_on(rt: HostRuntime) {
     let answers = Vec::new(rt.alloc());
     for (bytes, wanted) in BROKEN {
-        let parts = parts_of(rt.alloc(), bytes)?;
+        let parts = parts_of(rt.alloc(), bytes).expect(&rt, "memory");
         check_walk(&rt, rt.alloc(), &parts, &answers, End::Deeds(wanted));
     }
-    Ok(())
 }

@@ -3,7 +3,7 @@
 use crate::texts::{Pieces, are_numbers, is_fault, is_signed, row_of, text_of};
 use st_parse::parse;
 use st_scan::{MethodTree, Signed, SyntaxFault};
-use std::alloc::{AllocError, Global};
+use std::alloc::Global;
 use std::process::Abort;
 
 /// Whether this is a primitive's number, with the bracket behind it; or nothing, where there is none.
@@ -276,10 +276,9 @@ const LARGE: &[(Pieces<'static>, &str)] = &[
 ];
 
 #[test]
-fn large_texts_are_parsed(rt: HostRuntime) -> Result<(), AllocError> {
+fn large_texts_are_parsed(rt: HostRuntime) {
     for (pieces, wanted) in LARGE {
-        let text = text_of(rt.alloc(), pieces)?;
+        let text = text_of(rt.alloc(), pieces).expect(&rt, "memory");
         check(&rt, rt.alloc(), &text, wanted);
     }
-    Ok(())
 }
