@@ -115,29 +115,38 @@ const ROWS: &[&[Call]] = &[
     ],
 ];
 
-fn carry_out<M: Memory>(rt: &impl Abort, m: &mut M, call: Call) {
+/// Calls a memory, and tells whether it answers what is wanted.
+fn answers<M: Memory>(rt: &impl Abort, m: &mut M, call: Call) -> bool {
     match call {
-        Call::Find(class, selector, found) => assert_eq!(rt;
-            find_and_remember(m, Oop(class), Oop(selector)),
-            found,
-            "{selector} in {class}"
-        ),
-        Call::Remembered(class, selector, method) => assert_eq!(rt;
-            remembered(m, Oop(class), Oop(selector)),
-            method,
-            "{selector} in {class}"
-        ),
-        Call::Store(o, at, v) => write(rt, m, o, at, v),
-        Call::Exchange(a, b) => exchange(m, Oop(a), Oop(b)),
-        Call::Make(size, o) => assert_eq!(rt; make(rt, m, 16, Kind::Pointers, size), o),
-        Call::Hold(o) => hold(rt, m, RootPlace::Display, o),
-        Call::Settle => m.settle(),
+        Call::Find(class, selector, found) => {
+            find_and_remember(m, Oop(class), Oop(selector)) == found
+        }
+        Call::Remembered(class, selector, method) => {
+            remembered(m, Oop(class), Oop(selector)) == method
+        }
+        Call::Store(o, at, v) => {
+            write(rt, m, o, at, v);
+            true
+        }
+        Call::Exchange(a, b) => {
+            exchange(m, Oop(a), Oop(b));
+            true
+        }
+        Call::Make(size, o) => make(rt, m, 16, Kind::Pointers, size) == o,
+        Call::Hold(o) => {
+            hold(rt, m, RootPlace::Display, o);
+            true
+        }
+        Call::Settle => {
+            m.settle();
+            true
+        }
     }
 }
 
-fn carry_out_all<M: Memory>(rt: &impl Abort, m: &mut M, calls: &[Call]) {
-    for next in calls {
-        carry_out(rt, m, *next);
+fn check_calls<M: Memory>(rt: &impl Abort, m: &mut M, calls: &[Call]) {
+    for (number, call) in calls.iter().enumerate() {
+        assert!(rt; answers(rt, m, *call), "call {number}");
     }
 }
 
@@ -155,9 +164,14 @@ fn what_was_found_is_forgotten_where_it_may_change(rt: HostRuntime) {
         let mut m = image::<CachedLoader<CountedLoader>>(rt.alloc(), &C, 32767, 20000).expect(
             &rt, "an image",
         );
-        carry_out_all(&rt, &mut m, &[FOUND, *change, IS_FORGOTTEN]);
-        carry_out(&rt, &mut m, Call::Find(12, 66, *found));
-        carry_out(&rt, &mut m, Call::Remembered(12, 66, kept(*found)));
+        let calls = [
+            FOUND,
+            *change,
+            IS_FORGOTTEN,
+            Call::Find(12, 66, *found),
+            Call::Remembered(12, 66, kept(*found)),
+        ];
+        check_calls(&rt, &mut m, &calls);
     }
 }
 
@@ -167,7 +181,7 @@ fn what_was_found_is_remembered_until_it_may_change(rt: HostRuntime) {
         let mut m = image::<CachedLoader<CountedLoader>>(rt.alloc(), &C, 32767, 20000).expect(
             &rt, "an image",
         );
-        carry_out_all(&rt, &mut m, calls);
+        check_calls(&rt, &mut m, calls);
     }
 }
 
