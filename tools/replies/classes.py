@@ -1,6 +1,11 @@
 """The classes, variables and methods of an image, as docs/FORMATS.md has them, and whether two images have the same."""
 
-from .image import NIL, WORDS, integer, is_small
+import pathlib
+import subprocess
+import tempfile
+
+from .image import NIL, WORDS, Image, Wrong, integer, is_small
+from .session import program_words
 
 # Bits of an instance specification, a SmallInteger's word, beside `WORDS`
 POINTERS, INDEXED = 0x8000, 0x2000
@@ -166,3 +171,14 @@ class System:
                 return fields or None
             field = fields[0]
         return None
+
+
+def system_of(store):
+    """What a store has now, with the definitions since its snapshot; `Wrong` if it can't be exported."""
+    with tempfile.TemporaryDirectory() as folder:
+        file = pathlib.Path(folder) / "image"
+        ran = subprocess.run([*program_words(), "export", str(store), str(file)], stdout=subprocess.PIPE, stderr=subprocess.PIPE)
+        said = ran.stdout.decode("latin-1").strip()
+        if not said.startswith("exported"):
+            raise Wrong(f"{store} can't be exported: {said or ran.stderr.decode(errors='replace').strip()}")
+        return System(Image(file.read_bytes()))
