@@ -85,4 +85,9 @@ def evaluate(session, text, cycles):
     if not reply.startswith("accepted"):
         return [reply]
     session.ask(f"input {BEGIN}")
-    return list(session.run(cycles))
+    lines = list(session.run(cycles))
+    if not lines[-1].startswith("quit"):
+        # (what didn't end would take the next words of input)
+        session.ask(f"input {INTERRUPT}")
+        list(session.run(cycles))
+    return lines
