@@ -1,9 +1,9 @@
-use Rattle.std.proofs.Common.{rules, ◌≡◌, Err, false, refl}
+use Rattle.std.proofs.Common.{rules, ◌≡◌, Err, false, refl, arith}
 use Rattle.st_model.specs.Values.{word}
 use Rattle.st_model.specs.Machine.{is_there}
-use Rattle.st_frames.proofs.Doing.{row-memory}
+use Rattle.st_frames.proofs.Doing.{row-memory, rows}
 use Rattle.st_frames.proofs.Leaves.{leaves-died}
-use Rattle.st_storage.proofs.Left.{field-missing, field-unfetched}
+use Rattle.st_storage.proofs.Left.{field-missing, field-unfetched, method_fields}
 use Rattle.st_storage.proofs.compiled_methods.store_method_field.Goals as goal
 
 pub returns-in_err-fetch_method_field : goal.returns-in_err-fetch_method_field
@@ -21,3 +21,9 @@ returns-then-not-is_there g c =
       };
       plain = tt;
     }
+
+pub returns-then-i-eq0-clause-does : goal.returns-then-i-eq0-clause-does
+returns-then-i-eq0-clause-does g c = grind (arith, rows, method_fields)
+
+pub returns-else-i-eq0-clause-does : goal.returns-else-i-eq0-clause-does
+returns-else-i-eq0-clause-does g c = grind (arith, rows, method_fields)

@@ -1,5 +1,5 @@
-use Rattle.std.proofs.Common.{sym, ◌∙◌}
-use Rattle.st_storage.proofs.ByNumber.{storage-60, storage-61, storage-62, storage-63, storage-64, storage-65, storage-66, storage-67, storage-68, storage-69, storage-70, storage-71, storage-72, storage-73, storage-74, storage-75, storage-76, storage-77, storage-78, storage-79, storage-96, storage-105, storage-112, storage-115}
+use Rattle.std.proofs.Common.{sym, ◌∙◌, arith}
+use Rattle.st_storage.proofs.ByNumber.{storage-60, storage-61, storage-62, storage-63, storage-64, storage-65, storage-66, storage-67, storage-68, storage-69, storage-70, storage-71, storage-72, storage-73, storage-74, storage-75, storage-76, storage-77, storage-78, storage-79, storage-96, storage-105, storage-112, storage-115, numbers}
 use Rattle.st_storage.proofs.dispatch.try_storage.Goals as goal
 
 pub returns-in-60-clause-does : goal.returns-in-60-clause-does
@@ -145,3 +145,6 @@ returns-in-115-clause-does g c = record {
   does = storage-115 g.O.Objects.names c.args.primitive c.args.arguments _ c.in-115.is (sym c.takes_arguments.ensures ∙ c.if-not-takes_arguments.false) ∙ c.primitive_oops_left.ensures.does.does;
   world = c.primitive_oops_left.ensures.does.world;
 }
+
+pub returns-then-not-takes_arguments-clause-does : goal.returns-then-not-takes_arguments-clause-does
+returns-then-not-takes_arguments-clause-does g c = grind (arith, numbers)

@@ -1,4 +1,4 @@
-use Rattle.std.proofs.Common.{rules}
+use Rattle.std.proofs.Common.{rules, arith}
 use Rattle.st_frames.proofs.Doing.{rows}
 use Rattle.st_frames.specs.Answering.{succeed_by}
 use Rattle.st_frames.proofs.Leaves.{left}
@@ -7,3 +7,7 @@ use Rattle.st_storage.proofs.large.answer_integer.Goals as goal
 pub returns-in_err-answer-clause-does : goal.returns-in_err-answer-clause-does
 unfolding succeed_by
 returns-in_err-answer-clause-does g c = search (rules, rows, left)
+
+pub returns-clause-does : goal.returns-clause-does
+unfolding succeed_by
+returns-clause-does g c = grind (arith, rows)

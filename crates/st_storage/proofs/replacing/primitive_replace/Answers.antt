@@ -1,6 +1,8 @@
-use Rattle.std.proofs.Common.{rules, ◌≡◌, Err, refl}
+use Rattle.std.proofs.Common.{rules, ◌≡◌, Err, refl, arith}
 use Rattle.st_frames.proofs.Leaves.{leaves-died}
 use Rattle.st_storage.proofs.ObjectTries.{tried-replace, lost-replace, died-replace, failed-replace}
+use Rattle.st_frames.proofs.Tries.{effects}
+use Rattle.st_model.specs.Storage.{primitive_replace}
 use Rattle.st_storage.proofs.replacing.primitive_replace.Goals as goal
 
 pub returns-in_ok-answer-in-Ok-clause-does : goal.returns-in_ok-answer-in-Ok-clause-does
@@ -24,3 +26,19 @@ returns-in-Err-clause-does g c = record {
   does = failed-replace _ _ _ _ _ _ _ _ c.in_ok-receiver.ensures.does c.in_ok-first.ensures.does c.in_ok-last.ensures.does c.in_ok-source.ensures.does c.in_ok-from.ensures.does c.in-Err.ensures.does;
   world = refl;
 }
+
+pub returns-in_err-receiver-clause-does : goal.returns-in_err-receiver-clause-does
+unfolding primitive_replace
+returns-in_err-receiver-clause-does g c = grind (arith, effects)
+
+pub returns-in_err-first-clause-does : goal.returns-in_err-first-clause-does
+unfolding primitive_replace
+returns-in_err-first-clause-does g c = grind (arith, effects)
+
+pub returns-in_err-last-clause-does : goal.returns-in_err-last-clause-does
+unfolding primitive_replace
+returns-in_err-last-clause-does g c = grind (arith, effects)
+
+pub returns-in_err-source-clause-does : goal.returns-in_err-source-clause-does
+unfolding primitive_replace
+returns-in_err-source-clause-does g c = grind (arith, effects)

@@ -1,6 +1,8 @@
-use Rattle.std.proofs.Common.{rules, ◌≡◌, Err, refl}
+use Rattle.std.proofs.Common.{rules, ◌≡◌, Err, refl, arith}
 use Rattle.st_frames.proofs.Leaves.{leaves-died}
 use Rattle.st_storage.proofs.StreamTries.{tried-next, died-next}
+use Rattle.st_frames.proofs.Tries.{effects}
+use Rattle.st_model.specs.Storage.{primitive_next}
 use Rattle.st_storage.proofs.streams.primitive_next.Goals as goal
 
 pub returns-in_err-answer-in-Ok-clause-does : goal.returns-in_err-answer-in-Ok-clause-does
@@ -13,3 +15,11 @@ returns-in_ok-answer-in-Ok-clause-does g c = record {
   does = tried-next _ _ _ _ _ _ _ c.in_ok-receiver.ensures.does c.in-Ok.ensures.does (rw c.in-Ok.ensures.of at c.in_ok-answer-in-Ok.ensures.does.does) c.succeed_leaving.ensures.does.does;
   world = search rules;
 }
+
+pub returns-in_err-receiver-clause-does : goal.returns-in_err-receiver-clause-does
+unfolding primitive_next
+returns-in_err-receiver-clause-does g c = grind (arith, effects)
+
+pub returns-in-Err-clause-does : goal.returns-in-Err-clause-does
+unfolding primitive_next
+returns-in-Err-clause-does g c = grind (arith, effects)

@@ -1,7 +1,8 @@
-use Rattle.std.proofs.Common.{rules, ◌≡◌, Err}
-use Rattle.st_frames.proofs.Doing.{row-memory}
+use Rattle.std.proofs.Common.{rules, ◌≡◌, Err, arith}
+use Rattle.st_frames.proofs.Doing.{row-memory, rows}
 use Rattle.st_storage.proofs.Commuting.{taken-left, taken-died}
 use Rattle.st_frames.proofs.Leaves.{leaves-died}
+use Rattle.st_model.specs.Storage.{take_next}
 use Rattle.st_storage.proofs.streams.take_next.Goals as goal
 
 pub returns-in_err-store_position-clause-does : goal.returns-in_err-store_position-clause-does
@@ -14,3 +15,7 @@ returns-clause-does g c = record {
   does = taken-left g.O.Objects.names g.met.O.Objects.tabular _ c.in_ok-answer.ensures.plain _ _ _ _ _ _ _ (c.requires.stands.collection _ (row-memory _ _ _)) c.in_ok-answer.ensures.does.does c.in_ok-store_position.ensures.does.does;
   world = search rules;
 }
+
+pub returns-in_err-answer-clause-does : goal.returns-in_err-answer-clause-does
+unfolding take_next
+returns-in_err-answer-clause-does g c = grind (arith, rows)

@@ -1,0 +1,13 @@
+use Rattle.std.proofs.Common.{arith}
+use Rattle.st_frames.proofs.Doing.{rows}
+use Rattle.st_storage.proofs.Makeable.{makeable}
+use Rattle.st_frames.specs.Answering.{succeed_by}
+use Rattle.st_storage.proofs.making.answer_fixed.Goals as goal
+
+pub returns-in_err-answer-clause-does : goal.returns-in_err-answer-clause-does
+unfolding succeed_by
+returns-in_err-answer-clause-does g c = grind (arith, rows, makeable)
+
+pub returns-clause-does : goal.returns-clause-does
+unfolding succeed_by
+returns-clause-does g c = grind (arith, rows, makeable)
