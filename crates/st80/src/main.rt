@@ -5,8 +5,6 @@
 //! a store of the image that a kernel text builds; `st80 drill N` runs a million cycles of an image that it builds from the number N.
 #![tactic(auto)]
 
-#[cfg(test)]
-mod tests;
 mod tool;
 
 use crate::tool::exit_code;

@@ -4,6 +4,7 @@ pub mod Names
 pub mod NamePlaces
 pub mod Nodes
 pub mod Selectors
+pub mod Tables
 pub mod Resolving
 pub mod Steps
 pub mod Emitting

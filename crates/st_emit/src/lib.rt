@@ -15,6 +15,7 @@ mod names;
 mod selector;
 mod shape;
 mod step;
+mod table;
 mod value;
 
 pub use counting::{names_in_statements, sum};

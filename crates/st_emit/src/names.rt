@@ -8,6 +8,7 @@ ghost use Rattle.st_emit.specs.NameViews.{frame_view, names_view, scope_view, va
 use crate::counting::sum;
 use crate::frame::{Frame, name_place};
 use crate::step::Constant;
+use crate::table::value_or;
 use st_model::Oop;
 use st_scan::Text;
 use std::alloc::{AllocError, Global};
@@ -48,23 +49,21 @@ pub enum Variable {
     Shared(Oop),
 }
 
+/// The pseudo variables, each with what it names.
+const CONSTANTS: [(&[u8], Option<Constant>); 6] = [
+    (b"self", Some(Constant::Receiver)),
+    (b"super", Some(Constant::Receiver)),
+    (b"true", Some(Constant::True)),
+    (b"false", Some(Constant::False)),
+    (b"nil", Some(Constant::Nil)),
+    (b"thisContext", Some(Constant::Context)),
+];
+
 /// The pseudo variable of a name.
 pub fn constant_named(text: &[u8]) -> Option<Constant>
     ensures { result ≡ constant_named text.now }
 {
-    if text == b"self".as_slice() || text == b"super".as_slice() {
-        Some(Constant::Receiver)
-    } else if text == b"true".as_slice() {
-        Some(Constant::True)
-    } else if text == b"false".as_slice() {
-        Some(Constant::False)
-    } else if text == b"nil".as_slice() {
-        Some(Constant::Nil)
-    } else if text == b"thisContext".as_slice() {
-        Some(Constant::Context)
-    } else {
-        None
-    }
+    value_or(&CONSTANTS, text, None)
 }
 
 /// The number of an instance variable. The first 64 have one.
@@ -161,10 +160,7 @@ pub fn inner_scope<'a>(
 ) -> Result<Vec<Frame<'a>>, AllocError>
     ensures { IfOk result (λ inner. scope_view inner.items ≡ scope_view scope.now ++ frame_view frame.entry) }
 {
-    let mut inner = Vec::new(alloc);
-    for outer in scope {
-        inner.push(*outer)?;
-    }
+    let mut inner = scope.to_vec(alloc)?;
     inner.push(frame)?;
     Ok(inner)
 }

@@ -6,6 +6,7 @@ ghost use Rattle.st_emit.specs.Selectors.{sends_now};
 ghost use Rattle.st_emit.specs.Resolving.{special_selector, special_code, form_named};
 
 use crate::form::{Form, Loop, OneSided, TwoSided};
+use crate::table::value_or;
 
 /// The code of the first special selector.
 const FIRST_SPECIAL: u8 = 176;
@@ -84,27 +85,21 @@ pub fn special_code(text: &[u8]) -> Option<u8>
     }
 }
 
+/// The selectors of conditional forms and loops, each with its form.
+const FORMS: [(&[u8], Form); 8] = [
+    (b"ifTrue:", Form::One(OneSided::IfTrue)),
+    (b"ifFalse:", Form::One(OneSided::IfFalse)),
+    (b"and:", Form::One(OneSided::And)),
+    (b"or:", Form::One(OneSided::Or)),
+    (b"ifTrue:ifFalse:", Form::Two(TwoSided::TrueFirst)),
+    (b"ifFalse:ifTrue:", Form::Two(TwoSided::FalseFirst)),
+    (b"whileTrue:", Form::Repeated(Loop::WhileTrue)),
+    (b"whileFalse:", Form::Repeated(Loop::WhileFalse)),
+];
+
 /// What a selector says of its form.
 pub fn form_named(text: &[u8]) -> Form
     ensures { result ≡ form_named text.now }
 {
-    if text == b"ifTrue:".as_slice() {
-        Form::One(OneSided::IfTrue)
-    } else if text == b"ifFalse:".as_slice() {
-        Form::One(OneSided::IfFalse)
-    } else if text == b"and:".as_slice() {
-        Form::One(OneSided::And)
-    } else if text == b"or:".as_slice() {
-        Form::One(OneSided::Or)
-    } else if text == b"ifTrue:ifFalse:".as_slice() {
-        Form::Two(TwoSided::TrueFirst)
-    } else if text == b"ifFalse:ifTrue:".as_slice() {
-        Form::Two(TwoSided::FalseFirst)
-    } else if text == b"whileTrue:".as_slice() {
-        Form::Repeated(Loop::WhileTrue)
-    } else if text == b"whileFalse:".as_slice() {
-        Form::Repeated(Loop::WhileFalse)
-    } else {
-        Form::Message
-    }
+    value_or(&FORMS, text, Form::Message)
 }

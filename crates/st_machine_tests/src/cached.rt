@@ -9,7 +9,6 @@ use st_model::{Dead, Kind, Oop, RootPlace, Word};
 use st_plain::PlainLoader;
 use std::alloc::AllocGlobal;
 use std::process::Abort;
-use std::test::Fail;
 
 /// The pointer of the method that is remembered for a selector in a class.
 pub fn remembered<M: Memory>(m: &M, class: Oop, selector: Oop) -> Option<u32> {
@@ -55,7 +54,7 @@ const IS_REMEMBERED: Call = Call::Remembered(12, 66, Some(72));
 const IS_FORGOTTEN: Call = Call::Remembered(12, 66, None);
 
 /// Changes by which what was found is forgotten, and what the search finds then.
-const FORGOTTEN: [(Call, Result<Option<Oop>, Dead>); 8] = [
+const FORGOTTEN: &[(Call, Result<Option<Oop>, Dead>)] = &[
     // its place in the dictionary is emptied, or its method is another, or the class has another dictionary
     (Call::Store(68, 2, 2), Ok(None)),
     (Call::Store(70, 0, 64), Ok(Some(Oop(64)))),
@@ -69,7 +68,7 @@ const FORGOTTEN: [(Call, Result<Option<Oop>, Dead>); 8] = [
 ];
 
 /// What is remembered, and what is forgotten with something else.
-const ROWS: [&[Call]; 5] = [
+const ROWS: &[&[Call]] = &[
     &[IS_FORGOTTEN, FOUND, IS_REMEMBERED, FOUND],
     // what a class had is found in the one that it was exchanged with
     &[
@@ -116,29 +115,38 @@ const ROWS: [&[Call]; 5] = [
     ],
 ];
 
-fn carry_out<M: Memory>(rt: &impl Abort, m: &mut M, call: Call) {
+/// Calls a memory, and tells whether it answers what is wanted.
+fn answers<M: Memory>(rt: &impl Abort, m: &mut M, call: Call) -> bool {
     match call {
-        Call::Find(class, selector, found) => assert_eq!(rt;
-            find_and_remember(m, Oop(class), Oop(selector)),
-            found,
-            "{selector} in {class}"
-        ),
-        Call::Remembered(class, selector, method) => assert_eq!(rt;
-            remembered(m, Oop(class), Oop(selector)),
-            method,
-            "{selector} in {class}"
-        ),
-        Call::Store(o, at, v) => write(rt, m, o, at, v),
-        Call::Exchange(a, b) => exchange(m, Oop(a), Oop(b)),
-        Call::Make(size, o) => assert_eq!(rt; make(rt, m, 16, Kind::Pointers, size), o),
-        Call::Hold(o) => hold(rt, m, RootPlace::Display, o),
-        Call::Settle => m.settle(),
+        Call::Find(class, selector, found) => {
+            find_and_remember(m, Oop(class), Oop(selector)) == found
+        }
+        Call::Remembered(class, selector, method) => {
+            remembered(m, Oop(class), Oop(selector)) == method
+        }
+        Call::Store(o, at, v) => {
+            write(rt, m, o, at, v);
+            true
+        }
+        Call::Exchange(a, b) => {
+            exchange(m, Oop(a), Oop(b));
+            true
+        }
+        Call::Make(size, o) => make(rt, m, 16, Kind::Pointers, size) == o,
+        Call::Hold(o) => {
+            hold(rt, m, RootPlace::Display, o);
+            true
+        }
+        Call::Settle => {
+            m.settle();
+            true
+        }
     }
 }
 
-fn carry_out_all<M: Memory>(rt: &impl Abort, m: &mut M, calls: &[Call]) {
-    for next in calls {
-        carry_out(rt, m, *next);
+fn check_calls<M: Memory>(rt: &impl Abort, m: &mut M, calls: &[Call]) {
+    for (number, call) in calls.iter().enumerate() {
+        assert!(rt; answers(rt, m, *call), "call {number}");
     }
 }
 
@@ -151,35 +159,42 @@ fn kept(found: Result<Option<Oop>, Dead>) -> Option<u32> {
 }
 
 #[test]
-fn what_was_found_is_forgotten_where_it_may_change(rt: HostRuntime) -> Result<(), Fail> {
+fn what_was_found_is_forgotten_where_it_may_change(rt: HostRuntime) {
     for (change, found) in FORGOTTEN {
-        let mut m = image::<CachedLoader<CountedLoader>>(rt.alloc(), &C, 32767, 20000)?;
-        carry_out_all(&rt, &mut m, &[FOUND, change, IS_FORGOTTEN]);
-        carry_out(&rt, &mut m, Call::Find(12, 66, found));
-        carry_out(&rt, &mut m, Call::Remembered(12, 66, kept(found)));
+        let mut m = image::<CachedLoader<CountedLoader>>(rt.alloc(), &C, 32767, 20000).expect(
+            &rt, "an image",
+        );
+        let calls = [
+            FOUND,
+            *change,
+            IS_FORGOTTEN,
+            Call::Find(12, 66, *found),
+            Call::Remembered(12, 66, kept(*found)),
+        ];
+        check_calls(&rt, &mut m, &calls);
     }
-    Ok(())
 }
 
 #[test]
-fn what_was_found_is_remembered_until_it_may_change(rt: HostRuntime) -> Result<(), Fail> {
+fn what_was_found_is_remembered_until_it_may_change(rt: HostRuntime) {
     for calls in ROWS {
-        let mut m = image::<CachedLoader<CountedLoader>>(rt.alloc(), &C, 32767, 20000)?;
-        carry_out_all(&rt, &mut m, calls);
+        let mut m = image::<CachedLoader<CountedLoader>>(rt.alloc(), &C, 32767, 20000).expect(
+            &rt, "an image",
+        );
+        check_calls(&rt, &mut m, calls);
     }
-    Ok(())
 }
 
 /// Classes, dictionaries, Arrays of methods, selectors and methods, of image C and of what is made beside it.
-const SOME: [u16; 16] = [
+const SOME: &[u16] = &[
     2, 3, 10, 12, 18, 20, 30, 36, 42, 64, 66, 68, 70, 72, 50, 131,
 ];
 
 /// Two classes below class 12: class 10 with the dictionary 18, class 30 below it with the dictionary 36, and both with the
 /// Array 20, which has the methods of image C.
 fn make_classes<M: Memory>(rt: &impl Abort, m: &mut M) {
-    for size in [3, 6, 4, 3, 4] {
-        make(rt, m, 16, Kind::Pointers, size);
+    for size in &[3, 6, 4, 3, 4] {
+        make(rt, m, 16, Kind::Pointers, *size);
     }
     write_first(rt, m, 10, &[12, 18]);
     write_first(rt, m, 18, &[2, 20, 42, 66, 3]);
@@ -190,7 +205,8 @@ fn make_classes<M: Memory>(rt: &impl Abort, m: &mut M) {
 }
 
 fn pick(numbers: &mut Numbers) -> Oop {
-    Oop(SOME[numbers.next() as usize % 16])
+    let chosen = numbers.next() as usize % 16;
+    Oop(SOME.get(chosen).copied().unwrap_or(2))
 }
 
 /// One change of some objects.
@@ -225,7 +241,7 @@ fn chain_ends<M: Memory>(m: &M, class: Oop) -> bool {
 fn find_each<M: Memory, N: Memory>(rt: &impl Abort, m: &mut M, n: &N, class: Oop) {
     let ends = chain_ends(n, class);
     for selector in SOME {
-        let selector = Oop(selector);
+        let selector = Oop(*selector);
         if ends || remembered(m, class, selector).is_some() {
             assert_eq!(rt;
                 find_and_remember(m, class, selector),
@@ -237,14 +253,16 @@ fn find_each<M: Memory, N: Memory>(rt: &impl Abort, m: &mut M, n: &N, class: Oop
 
 fn find_all<M: Memory, N: Memory>(rt: &impl Abort, m: &mut M, n: &N) {
     for class in SOME {
-        find_each(rt, m, n, Oop(class));
+        find_each(rt, m, n, Oop(*class));
     }
 }
 
 /// Some changes of both memories, after each of which both find the same.
-fn searches_agree(rt: &(impl Abort + AllocGlobal), state: u32) -> Result<(), Fail> {
-    let mut m = image::<CachedLoader<PlainLoader>>(rt.alloc(), &C, 32767, 20000)?;
-    let mut n = image::<PlainLoader>(rt.alloc(), &C, 32767, 20000)?;
+fn searches_agree(rt: &(impl Abort + AllocGlobal), state: u32) {
+    let mut m = image::<CachedLoader<PlainLoader>>(rt.alloc(), &C, 32767, 20000).expect(
+        rt, "an image",
+    );
+    let mut n = image::<PlainLoader>(rt.alloc(), &C, 32767, 20000).expect(rt, "an image");
     let mut one = Numbers { state };
     let mut two = Numbers { state };
     make_classes(rt, &mut m);
@@ -254,13 +272,11 @@ fn searches_agree(rt: &(impl Abort + AllocGlobal), state: u32) -> Result<(), Fai
         change(rt, &mut n, &mut two);
         find_all(rt, &mut m, &n);
     }
-    Ok(())
 }
 
 #[test]
-fn searches_find_what_they_find_beside_a_plain_memory(rt: HostRuntime) -> Result<(), Fail> {
+fn searches_find_what_they_find_beside_a_plain_memory(rt: HostRuntime) {
     for state in 1..50 {
-        searches_agree(&rt, state)?;
+        searches_agree(&rt, state);
     }
-    Ok(())
 }

@@ -176,12 +176,12 @@ fn carry_out<M: Memory>(rt: &impl Abort, m: &mut M, w: &mut World, call: Call)
 }
 
 /// Each of these begins with a memory that holds nothing and a new world.
-const ROWS: [&[Call]; 4] = [MANY_WORDS, SIGNALLED_WORD, WAITING_TIMER, PLACE_AND_TIME];
+const ROWS: &[&[Call]] = &[MANY_WORDS, SIGNALLED_WORD, WAITING_TIMER, PLACE_AND_TIME];
 
 fn events_come<L: Loader>(rt: &(impl Abort + AllocGlobal)) -> Result<(), Fail> {
     for calls in ROWS {
         let (mut m, mut w) = quiet_b::<L>(rt.alloc())?;
-        for next in calls {
+        for next in *calls {
             carry_out(rt, &mut m, &mut w, *next);
         }
     }

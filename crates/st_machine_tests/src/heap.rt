@@ -119,11 +119,14 @@ fn carry_out(rt: &impl Abort, heap: &mut Heap, t: &mut Table, call: Call)
     }
 }
 
+/// How many words a heap has, and what is called of it.
+const ROWS: &[(u32, &[Call])] = &[(108, CLOSED_UP), (100, TAKEN_AGAIN)];
+
 #[test]
 fn blocks_stand_in_holes_and_move(rt: HostRuntime) -> Result<(), Fail> {
-    for (words, calls) in [(108, CLOSED_UP), (100, TAKEN_AGAIN)] {
-        let (mut heap, mut t) = empty(rt.alloc(), words)?;
-        for next in calls {
+    for (words, calls) in ROWS {
+        let (mut heap, mut t) = empty(rt.alloc(), *words)?;
+        for next in *calls {
             carry_out(&rt, &mut heap, &mut t, *next);
         }
     }

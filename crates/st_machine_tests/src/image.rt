@@ -9,7 +9,6 @@ use st_memory::{Loader, Memory};
 use st_model::{Demand, Kind, Oop, RootPlace};
 use std::alloc::{AllocError, Global};
 use std::process::Abort;
-use std::test::Fail;
 
 /// The objects of image B, word by word: 20 of the root page, an association, a scheduler with one process, its context at
 /// word 52, and at word 72 a method without literals and with five bytes.
@@ -177,7 +176,7 @@ fn loaded<L: Loader>(
     plan: &Plan<'_>,
     entries: u32,
     words: u32,
-) -> Result<Loaded<L::Done>, Fail>
+) -> Result<Loaded<L::Done>, AllocError>
     ensures frame { IfOk result (λ l. IsFrame (L.Done.view l.memory) l.frame) }
     ensures quiet { IfOk result (λ l. (L.Done.view l.memory).held.devices ≡ no_devices) }
 {
@@ -189,7 +188,7 @@ fn loaded<L: Loader>(
     };
     match read::<L>(alloc, &bytes, &over) {
         Ok(loaded) => Ok(loaded),
-        Err(ReadImage::Fault(_)) | Err(ReadImage::OutOfMemory) => Err(AllocError.into()),
+        Err(ReadImage::Fault(_)) | Err(ReadImage::OutOfMemory) => Err(AllocError),
     }
 }
 
@@ -199,12 +198,15 @@ pub fn image<L: Loader>(
     plan: &Plan<'_>,
     entries: u32,
     words: u32,
-) -> Result<L::Done, Fail> {
+) -> Result<L::Done, AllocError> {
     Ok(loaded::<L>(alloc, plan, entries, words)?.memory)
 }
 
 /// An image with its registers, and a new world. The memory holds these alone.
-pub fn ready<L: Loader>(alloc: Global, plan: &Plan<'_>) -> Result<(Loaded<L::Done>, World), Fail>
+pub fn ready<L: Loader>(
+    alloc: Global,
+    plan: &Plan<'_>,
+) -> Result<(Loaded<L::Done>, World), AllocError>
     ensures { IfOk result (λ p. IsReady (L.Done.view p.0.memory) p.0.frame p.1) }
 {
     let loaded = loaded::<L>(alloc, plan, 32767, 1048576)?;
@@ -213,7 +215,7 @@ pub fn ready<L: Loader>(alloc: Global, plan: &Plan<'_>) -> Result<(Loaded<L::Don
 }
 
 /// Image B, in a memory that holds no device, and a new world, so that all that the world names is held.
-pub fn quiet_b<L: Loader>(alloc: Global) -> Result<(L::Done, World), Fail>
+pub fn quiet_b<L: Loader>(alloc: Global) -> Result<(L::Done, World), AllocError>
     ensures { IfOk result (λ p. IsNaming (L.Done.view p.0).held p.1) }
 {
     let (loaded, world) = ready::<L>(alloc, &B)?;

@@ -1,5 +1,5 @@
 //! Tests of both memories, alone and beside each other, of the heap below one, of a memory that remembers what searches found,
-//! and of images, drafts, events, copies of pixels and machines over them. No crate uses it.
+//! and of images, drafts, events and machines over them. No crate uses it.
 #![tactic(auto)]
 
 #[cfg(test)]
@@ -9,8 +9,6 @@ mod draft;
 #[cfg(test)]
 mod events;
 #[cfg(test)]
-mod faults;
-#[cfg(test)]
 mod heap;
 #[cfg(test)]
 mod image;
@@ -19,9 +17,9 @@ mod machines;
 #[cfg(test)]
 mod near;
 #[cfg(test)]
-mod pixels;
-#[cfg(test)]
 mod reads;
+#[cfg(test)]
+mod registers;
 #[cfg(test)]
 mod rows;
 #[cfg(test)]

@@ -245,7 +245,7 @@ fn carry_out<M: Memory>(rt: &impl Abort, machine: &mut Machine<M>, call: Call)
     }
 }
 
-const ROWS: [(Start, &[Call]); 5] = [
+const ROWS: &[(Start, &[Call])] = &[
     (Start::Two(Device::InputSemaphore, 30), WOKEN),
     (
         Start::Two(Device::InputSemaphore, 30),
@@ -258,8 +258,8 @@ const ROWS: [(Start, &[Call]); 5] = [
 
 fn machines_are_called<L: Loader>(rt: &(impl Abort + AllocGlobal)) -> Result<(), Fail> {
     for (start, calls) in ROWS {
-        let mut machine = machine_of::<L>(rt, start)?;
-        for next in calls {
+        let mut machine = machine_of::<L>(rt, *start)?;
+        for next in *calls {
             carry_out(rt, &mut machine, *next);
         }
     }

@@ -1,13 +1,12 @@
 //! Calls of a memory and what comes of them, as tables.
 
-use crate::image::{B, C, Plan, UNNAMED, WORDS, image, make, used, write};
+use crate::image::{B, C, Plan, UNNAMED, WORDS, hold, image, make, used, write};
 use st_counted::CountedLoader;
 use st_memory::{Loader, Memory, count_fields};
 use st_model::{Demand, Kind, Oop, RootPlace};
 use st_plain::PlainLoader;
 use std::alloc::AllocGlobal;
 use std::process::Abort;
-use std::test::Fail;
 
 /// A call of a memory, or what it answers then.
 #[derive(Clone, Copy)]
@@ -21,8 +20,6 @@ enum Call {
     /// At a place an object is held.
     Hold(RootPlace, u16),
     Settle,
-    /// At a place an object is held, the memory settles, and so many entries and words are used then.
-    Leaves(RootPlace, u16, u32, u32),
     Exchange(u16, u16),
     /// Into a field of an object a pointer is stored.
     Store(u16, u32, u16),
@@ -59,7 +56,9 @@ const FILLED_WORDS: &[Call] = &[
     Call::Room(0, 0, true),
     Call::Room(1, 2, false),
     Call::Hold(RootPlace::Display, 18),
-    Call::Leaves(RootPlace::Cursor, 30, 26, 90),
+    Call::Hold(RootPlace::Cursor, 30),
+    Call::Settle,
+    Call::Used(26, 90),
     Call::Room(1, 18, true),
     Call::Room(1, 19, false),
     Call::Make(1, 12, Kind::Words, 16, 10),
@@ -88,7 +87,9 @@ const FILLED_TABLE: &[Call] = &[
     Call::Used(32767, 78 + 2 * 32743),
     Call::Room(0, 0, true),
     Call::Room(1, 0, false),
-    Call::Leaves(RootPlace::Timer, 65534, 25, 80),
+    Call::Hold(RootPlace::Timer, 65534),
+    Call::Settle,
+    Call::Used(25, 80),
     Call::Room(32742, 0, true),
     Call::Room(32743, 0, false),
     Call::Make(1, 12, Kind::Pointers, 0, 10),
@@ -100,8 +101,12 @@ const CYCLE: &[Call] = &[
     Call::Make(1, 16, Kind::Pointers, 1, 18),
     Call::Store(10, 0, 18),
     Call::Store(18, 0, 10),
-    Call::Leaves(RootPlace::Display, 10, 26, 84),
-    Call::Leaves(RootPlace::Display, 2, 26, 84),
+    Call::Hold(RootPlace::Display, 10),
+    Call::Settle,
+    Call::Used(26, 84),
+    Call::Hold(RootPlace::Display, 2),
+    Call::Settle,
+    Call::Used(26, 84),
     Call::Next(16, 0, Some(Oop(10))),
     Call::Next(16, 10, Some(Oop(18))),
     Call::Next(16, 18, None),
@@ -112,7 +117,9 @@ const CHAIN: &[Call] = &[
     Call::MakeChain(1000),
     Call::Settle,
     Call::Used(1024, 4078),
-    Call::Leaves(RootPlace::Timer, 2, 24, 78),
+    Call::Hold(RootPlace::Timer, 2),
+    Call::Settle,
+    Call::Used(24, 78),
 ];
 
 /// An object that nothing names stays until the memory settles.
@@ -125,9 +132,15 @@ const UNNAMED_GOES: &[Call] = &[
 
 /// What is held twice is let go once.
 const HELD_TWICE: &[Call] = &[
-    Call::Leaves(RootPlace::Display, 58, 24, 78),
-    Call::Leaves(RootPlace::Display, 58, 24, 78),
-    Call::Leaves(RootPlace::Display, 2, 24, 78),
+    Call::Hold(RootPlace::Display, 58),
+    Call::Settle,
+    Call::Used(24, 78),
+    Call::Hold(RootPlace::Display, 58),
+    Call::Settle,
+    Call::Used(24, 78),
+    Call::Hold(RootPlace::Display, 2),
+    Call::Settle,
+    Call::Used(24, 78),
     Call::Object(58, 12, "pointers"),
 ];
 
@@ -148,8 +161,12 @@ const STORED_WORD: &[Call] = &[
     Call::Word(66, 0, 0),
     Call::Word(66, 1, 4660),
     Call::Word(66, 2, 65535),
-    Call::Leaves(RootPlace::InputSemaphore, 66, 25, 83),
-    Call::Leaves(RootPlace::InputSemaphore, 2, 24, 78),
+    Call::Hold(RootPlace::InputSemaphore, 66),
+    Call::Settle,
+    Call::Used(25, 83),
+    Call::Hold(RootPlace::InputSemaphore, 2),
+    Call::Settle,
+    Call::Used(24, 78),
 ];
 
 /// A new object's fields are nil, also where others had their fields, and what was there is as it was.
@@ -161,7 +178,7 @@ const NEW_FIELDS: &[Call] = &[
     Call::Field(60, 3, 2),
 ];
 
-const ROWS: [Row; 10] = [
+const ROWS: &[Row] = &[
     (B, 32767, 108, FILLED_WORDS),
     (B, 32767, 186, MOVED_WORDS),
     (B, 32767, 1048576, FILLED_TABLE),
@@ -174,20 +191,18 @@ const ROWS: [Row; 10] = [
     (B, 40, 100, NEW_FIELDS),
 ];
 
-/// Makes so many objects, of which the last one has this pointer.
+/// Makes so many objects, and answers the last one's pointer.
 fn make_many<M: Memory>(
     rt: &impl Abort,
     m: &mut M,
     count: u32,
-    object: (u16, Kind, u32),
-    last: u16,
-) {
-    let (class, kind, size) = object;
+    (class, kind, size): (u16, Kind, u32),
+) -> u16 {
     let mut made = 0;
     for _ in 0..count {
         made = make(rt, m, class, kind, size);
     }
-    assert_eq!(rt; made, last, "the last of {count}");
+    made
 }
 
 fn make_chain<M: Memory>(rt: &impl Abort, m: &mut M, count: u32) {
@@ -210,30 +225,17 @@ fn make_in_turn<M: Memory>(rt: &impl Abort, m: &mut M, turn: u32) {
     m.settle();
     used(rt, m, 25, 83);
     let made = make(rt, m, 12, Kind::Pointers, 4);
-    assert!(rt; made != kept && made <= lost, "in turn {turn}");
-    for (object, at, word) in [(made, 0, 2), (made, 3, 2), (kept, 0, 2), (kept, 2, 6)] {
-        field_is(rt, m, object, at, word);
-    }
+    let is_new = made != kept && made <= lost && is_field(m, made, 0, 2) && is_field(m, made, 3, 2);
+    assert!(rt;
+        is_new && is_field(m, kept, 0, 2) && is_field(m, kept, 2, 6),
+        "in turn {turn}"
+    );
 }
 
 fn make_in_turns<M: Memory>(rt: &impl Abort, m: &mut M, count: u32) {
     for turn in 0..count {
         make_in_turn(rt, m, turn);
     }
-}
-
-/// Holds an object at a place of a register or a device.
-fn hold<M: Memory>(rt: &impl Abort, m: &mut M, place: RootPlace, o: u16) {
-    assert!(rt; !matches!(place, RootPlace::Pending(_)));
-    assert!(rt; m.live(Oop(o)));
-    m.hold(place, Oop(o));
-}
-
-/// Holds an object, and settles; so many entries and words are used then.
-fn leaves<M: Memory>(rt: &impl Abort, m: &mut M, place: RootPlace, o: u16, left: (u32, u32)) {
-    hold(rt, m, place, o);
-    m.settle();
-    used(rt, m, left.0, left.1);
 }
 
 fn exchange<M: Memory>(rt: &impl Abort, m: &mut M, a: u16, b: u16) {
@@ -248,94 +250,95 @@ fn store_word<M: Memory>(rt: &impl Abort, m: &mut M, o: u16, at: u32, word: u16)
     m.set_word(object, at, word);
 }
 
-fn object_is<M: Memory>(rt: &impl Abort, m: &M, o: u16, class: u16, kind: &str) {
+fn is_object<M: Memory>(m: &M, o: u16, class: u16, kind: &str) -> bool {
     let object = Oop(o);
-    assert!(rt; m.live(object), "{o} is gone");
+    if !m.live(object) {
+        return false;
+    }
     let name = match m.kind(object) {
         Kind::Pointers => "pointers",
         Kind::Words => "words",
         Kind::Bytes => "bytes",
         Kind::Method => "method",
     };
-    assert_eq!(rt; (m.class_of(object).0, name), (class, kind), "of {o}");
+    m.class_of(object).0 == class && name == kind
 }
 
-fn field_is<M: Memory>(rt: &impl Abort, m: &M, o: u16, at: u32, field: u16) {
+fn is_field<M: Memory>(m: &M, o: u16, at: u32, field: u16) -> bool {
     let object = Oop(o);
-    assert!(rt; m.live(object), "{o} is gone");
-    assert!(rt; m.kind(object).is_pointers() && at < m.size(object));
-    assert_eq!(rt; m.pointer(object, at).0, field, "field {at} of {o}");
+    m.live(object)
+        && m.kind(object).is_pointers()
+        && at < m.size(object)
+        && m.pointer(object, at).0 == field
 }
 
-fn word_is<M: Memory>(rt: &impl Abort, m: &M, o: u16, at: u32, word: u16) {
+fn is_word<M: Memory>(m: &M, o: u16, at: u32, word: u16) -> bool {
     let object = Oop(o);
-    assert!(rt; m.live(object), "{o} is gone");
-    assert!(rt; m.kind(object).is_words() && at < m.size(object));
-    assert_eq!(rt; m.word(object, at), word, "word {at} of {o}");
+    m.live(object) && m.kind(object).is_words() && at < m.size(object) && m.word(object, at) == word
 }
 
-/// A byte of an object without fields.
-fn byte_is<M: Memory>(rt: &impl Abort, m: &M, o: u16, at: u32, byte: u8) {
+/// Whether this is a byte of an object without fields.
+fn is_byte<M: Memory>(m: &M, o: u16, at: u32, byte: u8) -> bool {
     let object = Oop(o);
-    assert!(rt; m.live(object), "{o} is gone");
-    assert!(rt; !m.kind(object).is_words() && count_fields(m, object) == 0);
-    assert!(rt; at < m.size(object));
-    assert_eq!(rt; m.byte(object, at), byte, "byte {at} of {o}");
+    m.live(object)
+        && !m.kind(object).is_words()
+        && count_fields(m, object) == 0
+        && at < m.size(object)
+        && m.byte(object, at) == byte
 }
 
-/// Calls a memory, and compares what it answers with what is wanted.
-fn carry_out<M: Memory>(rt: &impl Abort, m: &mut M, call: Call) {
+/// Makes a call that changes a memory; whether it is such a one, and answers what is wanted.
+fn does<M: Memory>(rt: &impl Abort, m: &mut M, call: Call) -> bool {
     match call {
-        Call::Make(count, class, kind, size, last) => make_many(
+        Call::Make(count, class, kind, size, last) => return make_many(
             rt,
             m,
             count,
             (class, kind, size),
-            last,
-        ),
+        ) == last,
         Call::MakeChain(count) => make_chain(rt, m, count),
         Call::MakeInTurns(count) => make_in_turns(rt, m, count),
         Call::Hold(place, o) => hold(rt, m, place, o),
         Call::Settle => m.settle(),
-        Call::Leaves(place, o, entries, words) => leaves(rt, m, place, o, (entries, words)),
         Call::Exchange(a, b) => exchange(rt, m, a, b),
         Call::Store(o, at, field) => write(rt, m, o, at, field),
         Call::StoreWord(o, at, word) => store_word(rt, m, o, at, word),
-        Call::Used(entries, words) => used(rt, m, entries, words),
-        Call::Room(entries, words, fits) => assert_eq!(rt;
-            m.room(Demand { entries, words }),
-            fits,
-            "{entries} and {words}"
-        ),
-        Call::Object(o, class, kind) => object_is(rt, m, o, class, kind),
-        Call::Gone(o) => assert!(rt; !m.live(Oop(o)), "{o} is there"),
-        Call::Field(o, at, field) => field_is(rt, m, o, at, field),
-        Call::Word(o, at, word) => word_is(rt, m, o, at, word),
-        Call::Byte(o, at, byte) => byte_is(rt, m, o, at, byte),
-        Call::Next(class, after, next) => assert_eq!(rt;
-            m.next_of(Oop(class), after),
-            next,
-            "after {after}"
-        ),
+        _ => return false,
+    }
+    true
+}
+
+/// Whether a memory, which stays as it is, answers what is wanted.
+fn is_so<M: Memory>(m: &M, call: Call) -> bool {
+    match call {
+        Call::Used(entries, words) => m.used() == Demand { entries, words },
+        Call::Room(entries, words, fits) => m.room(Demand { entries, words }) == fits,
+        Call::Object(o, class, kind) => is_object(m, o, class, kind),
+        Call::Gone(o) => !m.live(Oop(o)),
+        Call::Field(o, at, field) => is_field(m, o, at, field),
+        Call::Word(o, at, word) => is_word(m, o, at, word),
+        Call::Byte(o, at, byte) => is_byte(m, o, at, byte),
+        Call::Next(class, after, next) => m.next_of(Oop(class), after) == next,
+        _ => false,
     }
 }
 
-fn carry_out_all<M: Memory>(rt: &impl Abort, m: &mut M, calls: &[Call]) {
-    for next in calls {
-        carry_out(rt, m, *next);
+/// Calls a memory, which answers what is wanted.
+fn check_calls<M: Memory>(rt: &impl Abort, m: &mut M, calls: &[Call]) {
+    for (number, call) in calls.iter().enumerate() {
+        assert!(rt; is_so(m, *call) || does(rt, m, *call), "call {number}");
     }
 }
 
-fn rows_hold<L: Loader>(rt: &(impl Abort + AllocGlobal)) -> Result<(), Fail> {
+fn rows_hold<L: Loader>(rt: &(impl Abort + AllocGlobal)) {
     for (plan, entries, words, calls) in ROWS {
-        let mut m = image::<L>(rt.alloc(), &plan, entries, words)?;
-        carry_out_all(rt, &mut m, calls);
+        let mut m = image::<L>(rt.alloc(), plan, *entries, *words).expect(rt, "an image");
+        check_calls(rt, &mut m, calls);
     }
-    Ok(())
 }
 
 #[test]
-fn rows_hold_over_both_memories(rt: HostRuntime) -> Result<(), Fail> {
-    rows_hold::<PlainLoader>(&rt)?;
-    rows_hold::<CountedLoader>(&rt)
+fn rows_hold_over_both_memories(rt: HostRuntime) {
+    rows_hold::<PlainLoader>(&rt);
+    rows_hold::<CountedLoader>(&rt);
 }

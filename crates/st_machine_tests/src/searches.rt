@@ -184,7 +184,7 @@ fn pointers<M: Memory>(machine: &Machine<Counting<M>>) -> u32 {
 }
 
 /// Words in place of some of image C's objects, and the selector for which class 12's method 72 is found in the third cycle.
-const SENT: [(&[(usize, u16)], u16); 3] = [
+const SENT: &[(&[(usize, u16)], u16)] = &[
     // The method is 32 118 176: the addition of 16383 and 1 fails, and is sent, which is foreseen.
     (&[], 66),
     // With the literal 66 it is 118 118 224: 1 is sent 66 with the argument 1, at once.
@@ -217,7 +217,7 @@ fn what_was_sent_is_not_searched_again(rt: HostRuntime) -> Result<(), Fail> {
             objects: &objects,
             ..C
         };
-        is_remembered::<CachedLoader<CountedLoader>>(&rt, &plan, Oop(selector))?;
+        is_remembered::<CachedLoader<CountedLoader>>(&rt, &plan, Oop(*selector))?;
     }
     Ok(())
 }

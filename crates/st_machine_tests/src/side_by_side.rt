@@ -4,7 +4,6 @@ use st_memory::Memory;
 use st_model::{Demand, Kind, Oop, RootPlace};
 use st_plain::PlainLoader;
 use std::process::Abort;
-use std::test::Fail;
 
 /// How many thousands of calls are made.
 const THOUSANDS: u32 = 1000;
@@ -96,9 +95,9 @@ fn compare<M: Memory, N: Memory>(rt: &impl Abort, m: &M, n: &N) {
 }
 
 #[test]
-fn both_do_the_same(rt: HostRuntime) -> Result<(), Fail> {
-    let mut counted = image::<CountedLoader>(rt.alloc(), &B, 32767, 20000)?;
-    let mut plain = image::<PlainLoader>(rt.alloc(), &B, 32767, 20000)?;
+fn both_do_the_same(rt: HostRuntime) {
+    let mut counted = image::<CountedLoader>(rt.alloc(), &B, 32767, 20000).expect(&rt, "an image");
+    let mut plain = image::<PlainLoader>(rt.alloc(), &B, 32767, 20000).expect(&rt, "an image");
     let mut one = Numbers { state: 1 };
     let mut two = Numbers { state: 1 };
     for _ in 0..THOUSANDS {
@@ -108,5 +107,4 @@ fn both_do_the_same(rt: HostRuntime) -> Result<(), Fail> {
         }
         compare(&rt, &counted, &plain);
     }
-    Ok(())
 }

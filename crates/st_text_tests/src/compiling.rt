@@ -1,112 +1,140 @@
 //! Texts that are compiled: their code, or the first fault.
 
-use crate::parsing::repeated;
-use st_code::{Literal, MethodParts, Names, compile};
+use crate::texts::{Pieces, are_numbers, is_fault, is_number, is_signed, row_of, text_of};
+use st_code::{CodeFault, Literal, MethodParts, NamedOops, Names, TextList, compile};
 use st_model::Oop;
 use st_parse::parse;
-use st_scan::MethodTree;
+use st_scan::{MethodTree, Signed, SyntaxFault};
 use std::alloc::{AllocError, Global};
 use std::collections::BTreeMap;
 use std::process::Abort;
-use std::test::Fail;
+
+/// The class's variables x and y.
+fn fields(alloc: Global) -> Result<TextList, AllocError> {
+    let mut fields = Vec::new(alloc);
+    for name in [b'x', b'y'] {
+        fields.push([name].to_vec(alloc)?)?;
+    }
+    Ok(fields)
+}
+
+/// The image's one global.
+fn shared(alloc: Global) -> Result<NamedOops, AllocError> {
+    let mut shared = BTreeMap::new(alloc);
+    shared.insert(b"Shared".to_vec(alloc)?, Oop(60))?;
+    Ok(shared)
+}
 
 /// The names of a class with the variables x and y, in an image with one global.
 pub fn names(alloc: Global) -> Result<Names, AllocError> {
-    let mut fields = Vec::new(alloc);
-    fields.push(b"x".to_vec(alloc)?)?;
-    fields.push(b"y".to_vec(alloc)?)?;
-    let mut shared = BTreeMap::new(alloc);
-    shared.insert(b"Shared".to_vec(alloc)?, Oop(60))?;
+    let fields = fields(alloc)?;
     Ok(Names {
         fields,
-        shared,
+        shared: shared(alloc)?,
         symbols: true,
     })
 }
 
-/// The tree of a text, or how its fault is told.
-pub fn parsed(
-    rt: &impl Abort,
-    alloc: Global,
-    text: &[u8],
-) -> Result<Result<MethodTree, String>, AllocError> {
+/// Whether a word is this text between two others.
+fn is_between(word: &str, before: &str, text: &[u8], behind: &str) -> bool {
+    match word.strip_prefix(before) {
+        Some(rest) => match rest.strip_suffix(behind) {
+            Some(inner) => inner.as_bytes() == text,
+            None => false,
+        },
+        None => false,
+    }
+}
+
+/// Whether a word is this number between two others.
+fn is_number_between(word: &str, before: &str, number: u128, behind: &str) -> bool {
+    match word.strip_prefix(before) {
+        Some(rest) => is_number(rest.strip_suffix(behind).unwrap_or(""), number),
+        None => false,
+    }
+}
+
+/// Whether a word is this literal. Of an array it says how many members it has.
+fn is_literal(word: &str, literal: &Literal) -> bool {
+    match literal {
+        Literal::Number { minus, size } => is_signed(
+            word,
+            Signed {
+                minus: *minus,
+                size: *size,
+            },
+        ),
+        Literal::Character(byte) => is_between(word, "$", &[*byte], ""),
+        Literal::Bytes(text) => is_between(word, "'", text, "'"),
+        Literal::Symbol(text) => is_between(word, "#", text, ""),
+        Literal::Array(members) => is_number_between(word, "(", members.len() as u128, ")"),
+        Literal::Named(association) => is_number_between(word, "@", u128::from(association.0), ""),
+        Literal::Owner => word == "owner",
+    }
+}
+
+/// Whether these are the literals, with a blank before each.
+fn are_literals(text: &str, literals: &[Literal]) -> bool {
+    let mut seen = 0usize;
+    for word in text.split(' ').skip(1) {
+        match literals.get(seen) {
+            Some(literal) if is_literal(word, literal) => seen += 1,
+            _ => return false,
+        }
+    }
+    seen == literals.len()
+}
+
+/// Whether these are the bytes, with a blank before each.
+fn are_bytes(text: &str, bytes: &[u8]) -> bool {
+    let mut seen = 0usize;
+    for word in text.split(' ').skip(1) {
+        match bytes.get(seen) {
+            Some(byte) if is_number(word, u128::from(*byte)) => seen += 1,
+            _ => return false,
+        }
+    }
+    seen == bytes.len()
+}
+
+/// Whether this is the code: header, literals, a colon, bytes; or the header, how many literals and how many bytes.
+fn is_code(text: &str, parts: &MethodParts) -> bool {
+    let header = parts.header;
+    match text.rsplit_once(':') {
+        Some((front, bytes)) => {
+            let number = front.split(' ').next().unwrap_or("");
+            is_number(number, u128::from(header))
+                && are_literals(front, &parts.literals)
+                && are_bytes(bytes, &parts.bytes)
+        }
+        None => are_numbers(
+            text,
+            &[usize::from(header), parts.literals.len(), parts.bytes.len()],
+        ),
+    }
+}
+
+/// A tree has this code, or this fault.
+fn check_tree(rt: &impl Abort, alloc: Global, tree: &MethodTree, names: &Names, wanted: &str) {
+    let is_wanted = match compile(alloc, tree, names) {
+        Ok(parts) => is_code(wanted, &parts),
+        Err(CodeFault::At { place, cause }) => is_fault(wanted, "code", place, cause),
+        Err(CodeFault::OutOfMemory) => false,
+    };
+    assert!(rt; is_wanted, "no {wanted}");
+}
+
+/// A text has this code, or this fault.
+fn check(rt: &impl Abort, alloc: Global, text: &[u8], names: &Names, wanted: &str) {
     assert!(rt; text.len() <= 65_536);
     match parse(alloc, text) {
-        Ok(tree) => Ok(Ok(tree)),
-        Err(fault) => Ok(Err(format!(in alloc; "{fault}")?)),
+        Ok(tree) => check_tree(rt, alloc, &tree, names, wanted),
+        Err(SyntaxFault::At { place, cause }) => assert!(rt;
+            is_fault(wanted, "syntax", place, cause),
+            "no {wanted}"
+        ),
+        Err(SyntaxFault::OutOfMemory) => panic!(rt; "no memory"),
     }
-}
-
-/// What is compiled of a text, or how its fault is told.
-pub fn compiled(
-    rt: &impl Abort,
-    alloc: Global,
-    text: &[u8],
-    names: &Names,
-) -> Result<Result<MethodParts, String>, AllocError> {
-    let tree = match parsed(rt, alloc, text)? {
-        Ok(tree) => tree,
-        Err(fault) => return Ok(Err(fault)),
-    };
-    match compile(alloc, &tree, names) {
-        Ok(parts) => Ok(Ok(parts)),
-        Err(fault) => Ok(Err(format!(in alloc; "{fault}")?)),
-    }
-}
-
-/// Adds a text between two others.
-fn add_between(
-    shown: &mut String,
-    before: &str,
-    text: &[u8],
-    behind: &str,
-) -> Result<(), AllocError> {
-    shown.push_str(before)?;
-    for byte in text {
-        shown.push(char::from(*byte))?;
-    }
-    shown.push_str(behind)
-}
-
-/// Adds a literal. Of an array it says how many members it has.
-fn add_literal(shown: &mut String, alloc: Global, literal: &Literal) -> Result<(), AllocError> {
-    let text = match literal {
-        Literal::Number { minus, size } => {
-            let sign = if *minus { "-" } else { "" };
-            format!(in alloc; " {sign}{size}")?
-        }
-        Literal::Character(byte) => return add_between(shown, " $", &[*byte], ""),
-        Literal::Bytes(text) => return add_between(shown, " '", text, "'"),
-        Literal::Symbol(text) => return add_between(shown, " #", text, ""),
-        Literal::Array(members) => format!(in alloc; " array {}", members.len())?,
-        Literal::Named(association) => format!(in alloc; " @{}", association.0)?,
-        Literal::Owner => return shown.push_str(" owner"),
-    };
-    shown.push_str(&text)
-}
-
-/// Adds bytes as numbers.
-fn add_bytes(shown: &mut String, alloc: Global, bytes: &[u8]) -> Result<(), AllocError> {
-    for byte in bytes {
-        let next = format!(in alloc; " {byte}")?;
-        shown.push_str(&next)?;
-    }
-    Ok(())
-}
-
-/// The header, the literals and the bytes; or the fault.
-fn shown(rt: &impl Abort, alloc: Global, text: &[u8], names: &Names) -> Result<String, AllocError> {
-    let parts = match compiled(rt, alloc, text, names)? {
-        Ok(parts) => parts,
-        Err(fault) => return Ok(fault),
-    };
-    let mut shown = format!(in alloc; "{}", parts.header)?;
-    for literal in &parts.literals {
-        add_literal(&mut shown, alloc, literal)?;
-    }
-    shown.push(':')?;
-    add_bytes(&mut shown, alloc, &parts.bytes)?;
-    Ok(shown)
 }
 
 /// Texts, and the header, the literals and the bytes, or the first fault, one a line.
@@ -133,7 +161,7 @@ foo => 40961: 120
 foo thisContext => 1: 137 135 120
 foo ^super foo => 5 #foo owner: 112 133 0 124
 foo ^y bar; baz => 5 #bar #baz: 1 136 208 135 209 124
-foo ^#(1 a) => 3 array 2: 32 124
+foo ^#(1 a) => 3 (2): 32 124
 foo ^'ab' => 3 'ab': 32 124
 foo ^#ab => 3 #ab: 32 124
 foo ^$a => 3 $a: 32 124
@@ -176,63 +204,46 @@ foo nil _ 1 => code 5 3
 foo thisContext _ 1 => code 5 3";
 
 #[test]
-fn texts_have_their_code_and_faults(rt: HostRuntime) -> Result<(), Fail> {
-    let names = names(rt.alloc())?;
+fn texts_have_their_code_and_faults(rt: HostRuntime) {
+    let names = names(rt.alloc()).expect(&rt, "memory");
     for row in ROWS.lines() {
-        let (text, expected) = row.split_once(" => ").ok_or("no row")?;
-        let found = shown(&rt, rt.alloc(), text.as_bytes(), &names)?;
-        assert_eq!(rt; found.as_str(), expected, "{text}");
-    }
-    Ok(())
-}
-
-/// The header, how many literals and how many bytes; or the fault.
-fn counted(
-    rt: &impl Abort,
-    alloc: Global,
-    text: &[u8],
-    names: &Names,
-) -> Result<String, AllocError> {
-    match compiled(rt, alloc, text, names)? {
-        Ok(parts) => format!(in alloc;
-            "{} {} {}",
-            parts.header,
-            parts.literals.len(),
-            parts.bytes.len()
-        ),
-        Err(fault) => Ok(fault),
+        let (text, wanted) = row_of(row);
+        check(&rt, rt.alloc(), text.as_bytes(), &names, wanted);
     }
 }
 
-/// What stands first, what is repeated, how often, what stands last, and what is compiled: methods within each bound, and past it.
-const LIMITS: [(&[u8], &[u8], usize, &[u8], &str); 9] = [
-    (b"foo ", b"'a'. ", 63, b"", "127 63 158"),
-    (b"foo ", b"'a'. ", 64, b"", "code 0 4"),
-    (b"foo ", b"[:a | a]. ", 30, b"", "7809 0 307"),
-    (b"foo ", b"[:a | a]. ", 31, b"", "code 0 6"),
-    (b"foo ", b"[:a | a]. ", 32, b"", "code 0 5"),
-    (b"foo x ifTrue: [", b"x. ", 510, b"x]", "1 0 1028"),
-    (b"foo x ifTrue: [", b"x. ", 511, b"x]", "code 0 7"),
-    (b"foo ", b"[].", 16_382, b"", "1 0 131057"),
-    (b"foo ", b"[].", 16_383, b"", "code 0 11"),
+/// Methods within each bound, and past it, and one as deep as its text: the header, how many literals and how many bytes.
+const LIMITS: &[(Pieces<'static>, &str)] = &[
+    (&[(b"foo ", 1), (b"'a'. ", 63)], "127 63 158"),
+    (&[(b"foo ", 1), (b"'a'. ", 64)], "code 0 4"),
+    (&[(b"foo ", 1), (b"[:a | a]. ", 30)], "7809 0 307"),
+    (&[(b"foo ", 1), (b"[:a | a]. ", 31)], "code 0 6"),
+    (&[(b"foo ", 1), (b"[:a | a]. ", 32)], "code 0 5"),
+    (
+        &[(b"foo x ifTrue: [", 1), (b"x. ", 510), (b"x]", 1)],
+        "1 0 1028",
+    ),
+    (
+        &[(b"foo x ifTrue: [", 1), (b"x. ", 511), (b"x]", 1)],
+        "code 0 7",
+    ),
+    (&[(b"foo ", 1), (b"[].", 16_382)], "1 0 131057"),
+    (&[(b"foo ", 1), (b"[].", 16_383)], "code 0 11"),
+    (&[(b"foo ^x", 1), (b" y", 32_000)], "1 0 32002"),
 ];
 
 #[test]
-fn methods_are_as_large_as_they_may_be(rt: HostRuntime) -> Result<(), Fail> {
-    let names = names(rt.alloc())?;
-    for (before, part, count, behind, expected) in LIMITS {
-        let text = repeated(rt.alloc(), before, part, count, behind)?;
-        let found = counted(&rt, rt.alloc(), &text, &names)?;
-        assert_eq!(rt; found.as_str(), expected);
+fn methods_are_as_large_as_they_may_be(rt: HostRuntime) {
+    let names = names(rt.alloc()).expect(&rt, "memory");
+    for (pieces, wanted) in LIMITS {
+        let text = text_of(rt.alloc(), pieces).expect(&rt, "memory");
+        check(&rt, rt.alloc(), &text, &names, wanted);
     }
-    Ok(())
 }
 
 #[test]
-fn an_image_without_symbols_has_no_code(rt: HostRuntime) -> Result<(), Fail> {
-    let mut names = names(rt.alloc())?;
+fn an_image_without_symbols_has_no_code(rt: HostRuntime) {
+    let mut names = names(rt.alloc()).expect(&rt, "memory");
     names.symbols = false;
-    let found = shown(&rt, rt.alloc(), b"foo ^#a", &names)?;
-    assert_eq!(rt; found.as_str(), "code 0 10");
-    Ok(())
+    check(&rt, rt.alloc(), b"foo ^#a", &names, "code 0 10");
 }

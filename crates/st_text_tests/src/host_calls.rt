@@ -3,10 +3,9 @@
 use st_host::{Host, HostFault, ReadFault, SayFault, Source, file_length, read_from, say_all};
 use st_memory_host::{Leave, MemHost, MemSource};
 use st_system_host::{DirHost, StdinSource};
-use std::alloc::{AllocError, Global};
+use std::alloc::Global;
 use std::fs;
 use std::process::Abort;
-use std::test::Fail;
 
 // A call of a host on a file, and what comes of it.
 #[derive(Clone, Copy)]
@@ -115,35 +114,35 @@ const DEVICE: &[Call<'static>] = &[
 ];
 
 #[test]
-fn a_host_in_memory_has_the_files_that_were_put(rt: HostRuntime) -> Result<(), Fail> {
-    let mut host = MemHost::new(rt.alloc())?;
-    host.put(rt.alloc(), "image", b"old")?;
-    host.put(rt.alloc(), "other", b"ABC")?;
-    host.put(rt.alloc(), "image", b"12345678")?;
+fn a_host_in_memory_has_the_files_that_were_put(rt: HostRuntime) {
+    let mut host = MemHost::new(rt.alloc()).expect(&rt, "memory");
+    host.put(rt.alloc(), "image", b"old").expect(&rt, "memory");
+    host.put(rt.alloc(), "other", b"ABC").expect(&rt, "memory");
+    host.put(rt.alloc(), "image", b"12345678")
+        .expect(&rt, "memory");
     check_calls(&rt, &mut host, "image", READS);
     check_calls(&rt, &mut host, "other", &[Call::Holds(b"ABC")]);
-    Ok(())
 }
 
 // A host with room for so many bytes and calls, of which these calls fail.
 fn host_with_room(
+    rt: &impl Abort,
     alloc: Global,
     bytes: u64,
     calls: u64,
     failing: &[u64],
-) -> Result<MemHost, AllocError> {
-    let mut host = MemHost::new(alloc)?;
-    host.room_for(alloc, bytes, calls)?;
-    host.fail(alloc, failing)?;
-    Ok(host)
+) -> MemHost {
+    let mut host = MemHost::new(alloc).expect(rt, "memory");
+    host.room_for(alloc, bytes, calls).expect(rt, "memory");
+    host.fail(alloc, failing).expect(rt, "memory");
+    host
 }
 
 #[test]
-fn a_host_in_memory_writes_and_cuts(rt: HostRuntime) -> Result<(), Fail> {
-    let mut host = host_with_room(rt.alloc(), 14, 8, &[])?;
+fn a_host_in_memory_writes_and_cuts(rt: HostRuntime) {
+    let mut host = host_with_room(&rt, rt.alloc(), 14, 8, &[]);
     check_calls(&rt, &mut host, "a", ABSENT);
     check_calls(&rt, &mut host, "a", WRITES);
-    Ok(())
 }
 
 // Room for so many bytes and calls, the calls that fail, what is called, and all that is said then.
@@ -178,13 +177,12 @@ const SAYING: &[Saying<'static>] = &[
 ];
 
 #[test]
-fn a_host_in_memory_fails_without_room_or_where_it_is_told_to(rt: HostRuntime) -> Result<(), Fail> {
+fn a_host_in_memory_fails_without_room_or_where_it_is_told_to(rt: HostRuntime) {
     for (bytes, count, failing, calls, said) in SAYING {
-        let mut host = host_with_room(rt.alloc(), *bytes, *count, failing)?;
+        let mut host = host_with_room(&rt, rt.alloc(), *bytes, *count, failing);
         check_calls(&rt, &mut host, "a", calls);
         assert_eq!(rt; host.said(), *said);
     }
-    Ok(())
 }
 
 // Writes past the last sync into a file that was synced, and into one that was put, and makes a third.
@@ -230,28 +228,24 @@ const LEFT: &[(Leave, Files<'static>)] = &[
 ];
 
 #[test]
-fn a_stop_leaves_files_as_at_their_last_sync_or_what_was_written_or_ones(
-    rt: HostRuntime,
-) -> Result<(), Fail> {
+fn a_stop_leaves_files_as_at_their_last_sync_or_what_was_written_or_ones(rt: HostRuntime) {
     for (how, files) in LEFT {
-        let mut host = host_with_room(rt.alloc(), 34, 5, &[])?;
-        host.put(rt.alloc(), "put", b"abc")?;
+        let mut host = host_with_room(&rt, rt.alloc(), 34, 5, &[]);
+        host.put(rt.alloc(), "put", b"abc").expect(&rt, "memory");
         check_files(&rt, &mut host, PAST_A_SYNC);
-        let mut left = host.after_stop(rt.alloc(), *how)?;
+        let mut left = host.after_stop(rt.alloc(), *how).expect(&rt, "memory");
         check_files(&rt, &mut left, files);
     }
-    Ok(())
 }
 
 #[test]
-fn a_folder_has_its_files(rt: HostRuntime) -> Result<(), Fail> {
+fn a_folder_has_its_files(rt: HostRuntime) {
     let name = "hosts_a_folder_has_its_files";
-    fs::write(&rt, name, b"12345678")?;
-    let mut host = DirHost::new(rt.clone()?);
+    fs::write(&rt, name, b"12345678").expect(&rt, "a file");
+    let mut host = DirHost::new(rt.clone().expect(&rt, "a handle"));
     check_calls(&rt, &mut host, name, READS);
-    fs::remove_file(&rt, name)?;
+    fs::remove_file(&rt, name).expect(&rt, "a file");
     check_calls(&rt, &mut host, name, ABSENT);
-    Ok(())
 }
 
 const CUT_FILE: &str = "hosts_a_folder_writes_and_cuts";
@@ -265,11 +259,10 @@ const FOLDER: Files<'static> = &[
 ];
 
 #[test]
-fn a_folder_writes_and_cuts(rt: HostRuntime) -> Result<(), Fail> {
-    let mut host = DirHost::new(rt.clone()?);
+fn a_folder_writes_and_cuts(rt: HostRuntime) {
+    let mut host = DirHost::new(rt.clone().expect(&rt, "a handle"));
     check_files(&rt, &mut host, FOLDER);
-    fs::remove_file(&rt, CUT_FILE)?;
-    Ok(())
+    fs::remove_file(&rt, CUT_FILE).expect(&rt, "a file");
 }
 
 // What is taken by up to five bytes from a source that gives two, and of which the second call fails.
@@ -291,12 +284,11 @@ fn takes<S: Source>(source: &mut S, wanted: Result<&[u8], ReadFault>) -> bool {
 }
 
 #[test]
-fn a_source_in_memory_gives_pieces(rt: HostRuntime) -> Result<(), Fail> {
-    let mut source = MemSource::new(rt.alloc(), b"abcde", 2, &[2])?;
+fn a_source_in_memory_gives_pieces(rt: HostRuntime) {
+    let mut source = MemSource::new(rt.alloc(), b"abcde", 2, &[2]).expect(&rt, "memory");
     for wanted in TAKEN {
         assert!(rt; takes(&mut source, *wanted));
     }
-    Ok(())
 }
 
 #[test]

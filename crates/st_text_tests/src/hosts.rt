@@ -4,7 +4,6 @@ use st_host::{file_length, read_from};
 use st_memory_host::MemHost;
 use std::alloc::{AllocError, Global};
 use std::process::Abort;
-use std::test::Fail;
 
 /// A host with a store's roots file and changes file, and with room for calls.
 pub fn host_with(alloc: Global, roots: &[u8], changes: &[u8]) -> Result<MemHost, AllocError> {
@@ -16,17 +15,12 @@ pub fn host_with(alloc: Global, roots: &[u8], changes: &[u8]) -> Result<MemHost,
 }
 
 /// A file has these bytes, and no others.
-pub fn check_file(
-    rt: &impl Abort,
-    alloc: Global,
-    host: &mut MemHost,
-    name: &str,
-    wanted: &[u8],
-) -> Result<(), Fail> {
-    let length = file_length(host, name)?;
-    assert!(rt; length == Some(wanted.len() as u64), "of {name}");
-    let mut bytes = vec![in alloc; 0; wanted.len()]?;
-    read_from(host, name, 0, &mut bytes)?;
+pub fn check_file(rt: &impl Abort, alloc: Global, host: &mut MemHost, name: &str, wanted: &[u8]) {
+    assert!(rt;
+        file_length(host, name) == Ok(Some(wanted.len() as u64)),
+        "of {name}"
+    );
+    let mut bytes = vec![in alloc; 0; wanted.len()].expect(rt, "memory");
+    read_from(host, name, 0, &mut bytes).expect(rt, "a read");
     assert!(rt; bytes.as_slice() == wanted, "in {name}");
-    Ok(())
 }

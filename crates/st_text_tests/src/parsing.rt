@@ -1,35 +1,43 @@
 //! Texts that are parsed: what they mean, or their first fault.
 
+use crate::texts::{Pieces, are_numbers, is_fault, is_signed, row_of, text_of};
 use st_parse::parse;
-use std::alloc::{AllocError, Global};
+use st_scan::{MethodTree, Signed, SyntaxFault};
+use std::alloc::Global;
 use std::process::Abort;
-use std::test::Fail;
 
-/// What is parsed of a text: the selector, how many arguments, temporaries and statements, and the primitive's number; or
-/// the fault.
-fn shown(rt: &impl Abort, alloc: Global, text: &[u8]) -> Result<String, AllocError> {
-    assert!(rt; text.len() <= 65_536);
-    let tree = match parse(alloc, text) {
-        Ok(tree) => tree,
-        Err(fault) => return format!(in alloc; "{fault}"),
-    };
-    let mut shown = String::new(alloc);
-    for byte in &tree.selector {
-        shown.push(char::from(*byte))?;
+/// Whether this is a primitive's number, with the bracket behind it; or nothing, where there is none.
+fn is_primitive(text: &str, number: Option<Signed>) -> bool {
+    match (text.strip_suffix(">"), number) {
+        (Some(text), Some(number)) => is_signed(text, number),
+        (None, None) => text.is_empty(),
+        _ => false,
     }
-    let counts = format!(in alloc;
-        " {} {} {}",
+}
+
+/// Whether a tree has this selector, so many arguments, temporaries and statements, and this primitive.
+fn is_tree(text: &str, tree: &MethodTree) -> bool {
+    let (front, primitive) = text.split_once(" <").unwrap_or((text, ""));
+    let (selector, counts) = front.split_once(' ').unwrap_or((front, ""));
+    let lengths = [
         tree.arguments.len(),
         tree.temporaries.len(),
-        tree.body.len()
-    )?;
-    shown.push_str(&counts)?;
-    if let Some(number) = tree.primitive {
-        let sign = if number.minus { "-" } else { "" };
-        let primitive = format!(in alloc; " <{sign}{}>", number.size)?;
-        shown.push_str(&primitive)?;
-    }
-    Ok(shown)
+        tree.body.len(),
+    ];
+    selector.as_bytes() == tree.selector.as_slice()
+        && are_numbers(counts, &lengths)
+        && is_primitive(primitive, tree.primitive)
+}
+
+/// A text means this, or has this fault.
+fn check(rt: &impl Abort, alloc: Global, text: &[u8], wanted: &str) {
+    assert!(rt; text.len() <= 65_536);
+    let is_wanted = match parse(alloc, text) {
+        Ok(tree) => is_tree(wanted, &tree),
+        Err(SyntaxFault::At { place, cause }) => is_fault(wanted, "syntax", place, cause),
+        Err(SyntaxFault::OutOfMemory) => false,
+    };
+    assert!(rt; is_wanted, "{text:?} isn't {wanted}");
 }
 
 /// Texts, and what they mean or their first fault, one a line.
@@ -223,88 +231,54 @@ foo ^$' => foo 0 0 1
 "#;
 
 #[test]
-fn texts_have_their_trees_and_faults(rt: HostRuntime) -> Result<(), Fail> {
-    let mut rows = 0u32;
-    let mut wrong = String::new(rt.alloc());
+fn texts_have_their_trees_and_faults(rt: HostRuntime) {
     for row in ROWS.lines() {
-        let (text, expected) = row.split_once(" => ").ok_or("no row")?;
-        let found = shown(&rt, rt.alloc(), text.as_bytes())?;
-        if found.as_str() != expected {
-            let line = format!(in rt.alloc(); "{text} => {found}; ")?;
-            wrong.push_str(&line)?;
-        }
-        rows = rows.wrapping_add(1);
+        let (text, wanted) = row_of(row);
+        check(&rt, rt.alloc(), text.as_bytes(), wanted);
     }
-    assert_eq!(rt; wrong.as_str(), "");
-    assert_eq!(rt; rows, 187);
-    Ok(())
 }
 
-/// `count` copies of `part`, between two other texts.
-pub fn repeated(
-    alloc: Global,
-    before: &[u8],
-    part: &[u8],
-    count: usize,
-    behind: &[u8],
-) -> Result<Vec<u8>, AllocError> {
-    let mut text = before.to_vec(alloc)?;
-    for _ in 0..count {
-        text.extend_from_slice(part)?;
-    }
-    text.extend_from_slice(behind)?;
-    Ok(text)
-}
-
-/// What opens a bracket, how many of them, what stands behind, and what is parsed.
-const DEPTHS: [(&[u8], usize, &[u8], &str); 9] = [
-    (b"(", 201, b"", "syntax 206 6"),
-    (b"(", 200, b"", "syntax 206 3"),
-    (b"(", 200, b"1", "syntax 207 3"),
-    (b"(", 200, b"1 (", "syntax 208 3"),
-    (b"[", 200, b"", "syntax 206 3"),
-    (b"[", 201, b"", "syntax 206 6"),
-    (b"#(", 200, b"", "syntax 406 3"),
-    (b"#(", 201, b"", "syntax 406 6"),
-    (b"(", 200, b"#(", "syntax 206 6"),
+/// Brackets as deep as they may be, and one more; and texts of 65,536 bytes at most.
+const LARGE: &[(Pieces<'static>, &str)] = &[
+    (&[(b"foo ^", 1), (b"(", 201)], "syntax 206 6"),
+    (&[(b"foo ^", 1), (b"(", 200)], "syntax 206 3"),
+    (&[(b"foo ^", 1), (b"(", 200), (b"1", 1)], "syntax 207 3"),
+    (&[(b"foo ^", 1), (b"(", 200), (b"1 (", 1)], "syntax 208 3"),
+    (&[(b"foo ^", 1), (b"[", 200)], "syntax 206 3"),
+    (&[(b"foo ^", 1), (b"[", 201)], "syntax 206 6"),
+    (&[(b"foo ^", 1), (b"#(", 200)], "syntax 406 3"),
+    (&[(b"foo ^", 1), (b"#(", 201)], "syntax 406 6"),
+    (&[(b"foo ^", 1), (b"(", 200), (b"#(", 1)], "syntax 206 6"),
+    (
+        &[(b"foo ^", 1), (b"(", 200), (b"1", 1), (b")", 200)],
+        "foo 0 0 1",
+    ),
+    (
+        &[
+            (b"foo ", 1),
+            (b"(", 200),
+            (b"1", 1),
+            (b")", 200),
+            (b".", 1),
+            (b"(", 200),
+            (b"1", 1),
+            (b")", 200),
+        ],
+        "foo 0 0 2",
+    ),
+    (&[(b"foo ^x", 1), (b" y", 32_760)], "foo 0 0 1"),
+    (&[(b"foo ^x", 1), (b"+y", 32_760)], "foo 0 0 1"),
+    (&[(b"foo x", 1), (b" a:y", 16_380)], "foo 0 0 1"),
+    (&[(b"foo x y", 1), (b";z", 32_760)], "foo 0 0 1"),
+    (&[(b"foo ", 1), (b"a_", 32_760), (b"1", 1)], "foo 0 0 1"),
+    (&[(b"foo ", 1), (b"x.", 32_760)], "foo 0 0 32760"),
+    (&[(b"foo #(", 1), (b"1 ", 32_760), (b")", 1)], "foo 0 0 1"),
 ];
 
 #[test]
-fn brackets_are_as_deep_as_they_may_be(rt: HostRuntime) -> Result<(), Fail> {
-    for (bracket, count, behind, expected) in DEPTHS {
-        let text = repeated(rt.alloc(), b"foo ^", bracket, count, behind)?;
-        let found = shown(&rt, rt.alloc(), &text)?;
-        assert_eq!(rt; found.as_str(), expected);
+fn large_texts_are_parsed(rt: HostRuntime) {
+    for (pieces, wanted) in LARGE {
+        let text = text_of(rt.alloc(), pieces).expect(&rt, "memory");
+        check(&rt, rt.alloc(), &text, wanted);
     }
-    let opened = repeated(rt.alloc(), b"foo ^", b"(", 200, b"1")?;
-    let closed = repeated(rt.alloc(), &opened, b")", 200, b"")?;
-    let found = shown(&rt, rt.alloc(), &closed)?;
-    assert_eq!(rt; found.as_str(), "foo 0 0 1");
-    Ok(())
-}
-
-/// Texts of 65,536 bytes at most: what stands first, what is repeated, how often, what stands last, and what is parsed.
-const LARGE: [(&[u8], &[u8], usize, &[u8], &str); 7] = [
-    (b"foo ^x", b" y", 32_760, b"", "foo 0 0 1"),
-    (b"foo ^x", b"+y", 32_760, b"", "foo 0 0 1"),
-    (b"foo x", b" a:y", 16_380, b"", "foo 0 0 1"),
-    (b"foo x y", b";z", 32_760, b"", "foo 0 0 1"),
-    (b"foo ", b"a_", 32_760, b"1", "foo 0 0 1"),
-    (b"foo ", b"x.", 32_760, b"", "foo 0 0 32760"),
-    (b"foo #(", b"1 ", 32_760, b")", "foo 0 0 1"),
-];
-
-#[test]
-fn large_texts_are_parsed(rt: HostRuntime) -> Result<(), Fail> {
-    for (before, part, count, behind, expected) in LARGE {
-        let text = repeated(rt.alloc(), before, part, count, behind)?;
-        let found = shown(&rt, rt.alloc(), &text)?;
-        assert_eq!(rt; found.as_str(), expected);
-    }
-    let opened = repeated(rt.alloc(), b"", b"(", 200, b"1")?;
-    let statement = repeated(rt.alloc(), &opened, b")", 200, b".")?;
-    let text = repeated(rt.alloc(), b"foo ", &statement, 163, b"")?;
-    let found = shown(&rt, rt.alloc(), &text)?;
-    assert_eq!(rt; found.as_str(), "foo 0 0 163");
-    Ok(())
 }

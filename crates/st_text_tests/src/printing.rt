@@ -1,16 +1,27 @@
 //! Trees that are printed, and texts that are read back.
 
-use crate::shape::shape_of;
+use crate::texts::row_of;
 use st_parse::{parse, print};
 use st_scan::MethodTree;
 use std::alloc::Global;
 use std::process::Abort;
-use std::test::Fail;
 
-/// The tree of a text that has one.
-fn tree_of(rt: &impl Abort, alloc: Global, text: &[u8]) -> Result<MethodTree, Fail> {
+/// Of a tree this is printed.
+fn check_tree(rt: &impl Abort, alloc: Global, tree: &MethodTree, wanted: &str) {
+    let is_wanted = match print(alloc, tree) {
+        Ok(printed) => printed.as_slice() == wanted.as_bytes(),
+        Err(_) => false,
+    };
+    assert!(rt; is_wanted, "{wanted} isn't printed");
+}
+
+/// Of a text's tree this is printed.
+fn check(rt: &impl Abort, alloc: Global, text: &str, wanted: &str) {
     assert!(rt; text.len() <= 65_536);
-    Ok(parse(alloc, text)?)
+    match parse(alloc, text.as_bytes()) {
+        Ok(tree) => check_tree(rt, alloc, &tree, wanted),
+        Err(_) => panic!(rt; "{text} has no tree"),
+    }
 }
 
 /// Texts, and what is printed of their trees, one a line.
@@ -35,22 +46,12 @@ foo a + (b _ c); d => foo a + ( b _ c ) ; d
 foo #a:b: foo. -0 => foo #a:b: foo . -0
 "#;
 
+/// What is printed is read back, and the tree that it has is printed so too.
 #[test]
-fn trees_are_printed_and_read_back(rt: HostRuntime) -> Result<(), Fail> {
+fn trees_are_printed_and_read_back(rt: HostRuntime) {
     for row in PRINTED.lines() {
-        let (text, expected) = row.split_once(" => ").ok_or("no row")?;
-        let tree = tree_of(&rt, rt.alloc(), text.as_bytes())?;
-        let once = print(rt.alloc(), &tree)?;
-        assert!(rt; once.as_slice() == expected.as_bytes(), "of {text}");
-        let again = tree_of(&rt, rt.alloc(), &once)?;
-        let shape = shape_of(rt.alloc(), &tree)?;
-        let shape_again = shape_of(rt.alloc(), &again)?;
-        assert!(rt; shape == shape_again, "of {text}");
+        let (text, wanted) = row_of(row);
+        check(&rt, rt.alloc(), text, wanted);
+        check(&rt, rt.alloc(), wanted, wanted);
     }
-    let left = tree_of(&rt, rt.alloc(), b"foo (a + b) * c")?;
-    let right = tree_of(&rt, rt.alloc(), b"foo a + (b * c)")?;
-    let left_shape = shape_of(rt.alloc(), &left)?;
-    let right_shape = shape_of(rt.alloc(), &right)?;
-    assert!(rt; left_shape != right_shape);
-    Ok(())
 }

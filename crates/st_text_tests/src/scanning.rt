@@ -1,50 +1,59 @@
 //! Texts that are scanned: their tokens, or the scanner's first fault.
 
-use crate::parsing::repeated;
-use st_scan::{Cause, Fault, Sort, Token, scan, tokens};
-use std::alloc::{AllocError, Global};
+use crate::texts::{is_fault, is_number, is_signed, row_of};
+use st_scan::{Sort, SyntaxFault, Token, tokens};
+use std::alloc::Global;
 use std::process::Abort;
-use std::test::Fail;
 
-/// The name of a sort, with the value of a number and the byte of a character.
-fn sort_name(alloc: Global, sort: Sort) -> Result<String, AllocError> {
-    let name = match sort {
-        Sort::Name => "name",
-        Sort::Keyword => "keyword",
-        Sort::Operator => "operator",
-        Sort::Number(number) => {
-            let minus = if number.minus { "-" } else { "" };
-            return format!(in alloc; "number {minus}{}", number.size);
-        }
-        Sort::Character(byte) => return format!(in alloc; "character {byte}"),
-        Sort::Bytes => "string",
-        Sort::Symbol => "symbol",
-        Sort::Opening => "opening",
-        Sort::Mark => "mark",
-    };
-    String::from_str(alloc, name)
+/// Whether this names a sort, with the value of a number and the byte of a character.
+fn is_sort(text: &str, sort: Sort) -> bool {
+    let (name, value) = text.split_once(' ').unwrap_or((text, ""));
+    match sort {
+        Sort::Name => text == "name",
+        Sort::Keyword => text == "keyword",
+        Sort::Operator => text == "operator",
+        Sort::Number(number) => name == "number" && is_signed(value, number),
+        Sort::Character(byte) => name == "character" && is_number(value, u128::from(byte)),
+        Sort::Bytes => text == "string",
+        Sort::Symbol => text == "symbol",
+        Sort::Opening => text == "opening",
+        Sort::Mark => text == "mark",
+    }
 }
 
-/// The tokens of a text in words, each with its first byte and the one behind it, or the fault.
-fn shown(rt: &impl Abort, alloc: Global, text: &[u8]) -> Result<String, AllocError> {
-    assert!(rt; text.len() <= 65_536);
-    let found = match tokens(alloc, text) {
-        Ok(found) => found,
-        Err(fault) => return format!(in alloc; "{fault}"),
-    };
-    if found.is_empty() {
-        return String::from_str(alloc, "none");
-    }
-    let mut shown = String::new(alloc);
-    for token in &found {
-        if !shown.is_empty() {
-            shown.push_str(", ")?;
+/// Whether a token is of this sort, with this first byte and this one after it.
+fn is_token(text: &str, token: &Token) -> bool {
+    let (front, end) = text.rsplit_once(' ').unwrap_or((text, ""));
+    let (sort, start) = front.rsplit_once(' ').unwrap_or((front, ""));
+    is_sort(sort, token.sort)
+        && is_number(start, u128::from(token.start))
+        && is_number(end, u128::from(token.end))
+}
+
+/// Whether these are tokens in words, with commas between.
+fn are_tokens(text: &str, found: &[Token]) -> bool {
+    let mut seen = 0usize;
+    for words in text.split(", ") {
+        if let Some(token) = found.get(seen)
+            && is_token(words, token)
+        {
+            seen += 1;
+        } else {
+            return text == "none" && found.is_empty();
         }
-        let name = sort_name(alloc, token.sort)?;
-        let entry = format!(in alloc; "{name} {} {}", token.start, token.end)?;
-        shown.push_str(&entry)?;
     }
-    Ok(shown)
+    seen == found.len()
+}
+
+/// A text has these tokens, or this fault.
+fn check(rt: &impl Abort, alloc: Global, text: &[u8], wanted: &str) {
+    assert!(rt; text.len() <= 65_536);
+    let is_wanted = match tokens(alloc, text) {
+        Ok(found) => are_tokens(wanted, &found),
+        Err(SyntaxFault::At { place, cause }) => is_fault(wanted, "syntax", place, cause),
+        Err(SyntaxFault::OutOfMemory) => false,
+    };
+    assert!(rt; is_wanted, "{text:?} has not {wanted}");
 }
 
 /// Texts, and their tokens or the scanner's first fault, one a line.
@@ -195,48 +204,51 @@ foo ^-16385 => name 0 3, mark 4 5, number -16385 5 11
 "#;
 
 #[test]
-fn texts_have_their_tokens(rt: HostRuntime) -> Result<(), Fail> {
-    let mut rows = 0u32;
+fn texts_have_their_tokens(rt: HostRuntime) {
     for row in ROWS.lines() {
-        let (text, expected) = row.split_once(" => ").ok_or("no row")?;
-        let shown = shown(&rt, rt.alloc(), text.as_bytes())?;
-        assert_eq!(rt; shown.as_str(), expected, "at {text}");
-        rows = rows.wrapping_add(1);
+        let (text, wanted) = row_of(row);
+        check(&rt, rt.alloc(), text.as_bytes(), wanted);
     }
-    assert_eq!(rt; rows, 144);
-    Ok(())
 }
 
-/// What stands before and behind a byte that is no blank and begins no token, and what is found.
-const PLACES: [(&[u8], &[u8], &str); 12] = [
-    (b"", b"", "syntax 1 1"),
-    (b"a", b"b", "syntax 2 1"),
-    (b"1", b"", "syntax 2 1"),
-    (b"16r", b"", "syntax 4 1"),
-    (b"-", b"1", "syntax 2 1"),
-    (b":", b"=", "syntax 2 1"),
-    (b"#", b"a", "syntax 1 1"),
-    (b"#a:", b"b:", "syntax 4 1"),
-    (b"#(", b")", "syntax 3 1"),
-    (b"'a", b"'", "string 0 4"),
-    (b"'a", b"", "syntax 1 2"),
-    (b"\"a", b"\"", "none"),
-];
-
-#[test]
-fn every_byte_has_its_place(rt: HostRuntime) -> Result<(), Fail> {
-    for byte in [0, 11, 255] {
-        for (before, behind, expected) in PLACES {
-            let text = repeated(rt.alloc(), before, &[byte], 1, behind)?;
-            let found = shown(&rt, rt.alloc(), &text)?;
-            assert_eq!(rt; found.as_str(), expected, "at {text:?}");
-        }
-    }
-    Ok(())
-}
-
-/// Bytes behind a `$`, of which each is a character, and bytes before a name, of which each is a blank.
-const CHARACTERS: [(&[u8], &str); 4] = [
+/// Bytes that are no blank and begin no token, after a `$` and within a string or a comment, and what is found; and blanks.
+const BYTES: &[(&[u8], &str)] = &[
+    (b"\x00", "syntax 1 1"),
+    (b"a\x00b", "syntax 2 1"),
+    (b"1\x00", "syntax 2 1"),
+    (b"16r\x00", "syntax 4 1"),
+    (b"-\x001", "syntax 2 1"),
+    (b":\x00=", "syntax 2 1"),
+    (b"#\x00a", "syntax 1 1"),
+    (b"#a:\x00b:", "syntax 4 1"),
+    (b"#(\x00)", "syntax 3 1"),
+    (b"'a\x00'", "string 0 4"),
+    (b"'a\x00", "syntax 1 2"),
+    (b"\"a\x00\"", "none"),
+    (b"\x0b", "syntax 1 1"),
+    (b"a\x0bb", "syntax 2 1"),
+    (b"1\x0b", "syntax 2 1"),
+    (b"16r\x0b", "syntax 4 1"),
+    (b"-\x0b1", "syntax 2 1"),
+    (b":\x0b=", "syntax 2 1"),
+    (b"#\x0ba", "syntax 1 1"),
+    (b"#a:\x0bb:", "syntax 4 1"),
+    (b"#(\x0b)", "syntax 3 1"),
+    (b"'a\x0b'", "string 0 4"),
+    (b"'a\x0b", "syntax 1 2"),
+    (b"\"a\x0b\"", "none"),
+    (b"\xff", "syntax 1 1"),
+    (b"a\xffb", "syntax 2 1"),
+    (b"1\xff", "syntax 2 1"),
+    (b"16r\xff", "syntax 4 1"),
+    (b"-\xff1", "syntax 2 1"),
+    (b":\xff=", "syntax 2 1"),
+    (b"#\xffa", "syntax 1 1"),
+    (b"#a:\xffb:", "syntax 4 1"),
+    (b"#(\xff)", "syntax 3 1"),
+    (b"'a\xff'", "string 0 4"),
+    (b"'a\xff", "syntax 1 2"),
+    (b"\"a\xff\"", "none"),
     (b"$\x00", "character 0 0 2"),
     (b"$\x0b", "character 11 0 2"),
     (b"$\xff", "character 255 0 2"),
@@ -244,27 +256,8 @@ const CHARACTERS: [(&[u8], &str); 4] = [
 ];
 
 #[test]
-fn characters_and_blanks_are_of_any_byte(rt: HostRuntime) -> Result<(), Fail> {
-    for (text, expected) in CHARACTERS {
-        let found = shown(&rt, rt.alloc(), text)?;
-        assert_eq!(rt; found.as_str(), expected, "at {text:?}");
+fn every_byte_has_its_place(rt: HostRuntime) {
+    for (text, wanted) in BYTES {
+        check(&rt, rt.alloc(), text, wanted);
     }
-    Ok(())
-}
-
-#[test]
-fn the_tokens_before_a_fault_are_told(rt: HostRuntime) -> Result<(), Fail> {
-    let scanned = scan(rt.alloc(), b"x 3.5 y")?;
-    let name = Token {
-        start: 0,
-        end: 1,
-        sort: Sort::Name,
-    };
-    assert_eq!(rt; scanned.tokens.as_slice(), [name].as_slice());
-    let fault = Fault {
-        place: 3,
-        cause: Cause::Float,
-    };
-    assert_eq!(rt; scanned.fault, Some(fault));
-    Ok(())
 }

@@ -1,69 +1,61 @@
-//! Rows of texts, one a line, and what is told of them.
-//!
-//! In a row `\n`, `\r`, `\t` and `\f` are what they are in a string, and `\3x` is `xxx`. What is told stands behind ` =>`.
+//! Rows of texts, one a line, with what is found after ` => `; and texts that are too long for a row.
 
+use st_scan::Signed;
 use std::alloc::{AllocError, Global};
-use std::process::Abort;
 
-/// The byte that a letter behind a backslash stands for.
-fn control_of(letter: u8) -> u8 {
-    match letter {
-        b'n' => b'\n',
-        b'r' => b'\r',
-        b't' => b'\t',
-        b'f' => b'\x0c',
-        other => other,
+/// A row's text, and what is found.
+pub fn row_of(row: &str) -> (&str, &str) {
+    row.split_once(" => ").unwrap_or((row, ""))
+}
+
+/// Whether a number is written so.
+pub fn is_number(text: &str, number: u128) -> bool {
+    text.parse::<u128>().ok() == Some(number)
+}
+
+/// Whether a number is written so, with a `-` before it if it is a negative one.
+pub fn is_signed(text: &str, number: Signed) -> bool {
+    let size = text.strip_prefix("-");
+    size.is_some() == number.minus && is_number(size.unwrap_or(text), number.size)
+}
+
+/// Whether these are numbers with blanks between.
+pub fn are_numbers(text: &str, numbers: &[usize]) -> bool {
+    let mut seen = 0usize;
+    for word in text.split(' ') {
+        match numbers.get(seen) {
+            Some(number) if is_number(word, *number as u128) => seen += 1,
+            _ => return false,
+        }
+    }
+    seen == numbers.len()
+}
+
+/// Whether a fault is reported so: its kind, its place, and the number of its cause.
+pub fn is_fault(text: &str, kind: &str, place: u32, cause: u8) -> bool {
+    match text.split_once(' ') {
+        Some((name, numbers)) => name == kind
+            && are_numbers(numbers, &[place as usize, usize::from(cause)]),
+        None => false,
     }
 }
 
-fn push_often(text: &mut Vec<u8>, byte: u8, count: usize) -> Result<(), AllocError> {
+/// Pieces of a text, each with how often it stands there.
+pub type Pieces<'a> = &'a [(&'a [u8], usize)];
+
+/// Adds a piece so often.
+fn push_often(text: &mut Vec<u8>, piece: &[u8], count: usize) -> Result<(), AllocError> {
     for _ in 0..count {
-        text.push(byte)?;
+        text.extend_from_slice(piece)?;
     }
     Ok(())
 }
 
-/// Adds the bytes that a row writes.
-pub fn add_written(text: &mut Vec<u8>, row: &str) -> Result<(), AllocError> {
-    // How often the next byte stands there, behind a backslash.
-    let mut escape = None;
-    for byte in row.as_bytes() {
-        match (escape, *byte) {
-            (None, b'\\') => escape = Some(0usize),
-            (None, plain) => text.push(plain)?,
-            (Some(count), digit @ b'0'..=b'9') => {
-                escape = Some(count.wrapping_mul(10).wrapping_add((digit & 15) as usize));
-            }
-            (Some(count), letter) => {
-                push_often(text, control_of(letter), count.max(1))?;
-                escape = None;
-            }
-        }
-    }
-    Ok(())
-}
-
-/// The bytes that a row writes.
-pub fn written(alloc: Global, row: &str) -> Result<Vec<u8>, AllocError> {
+/// The text of some pieces.
+pub fn text_of(alloc: Global, pieces: Pieces<'_>) -> Result<Vec<u8>, AllocError> {
     let mut text = Vec::new(alloc);
-    add_written(&mut text, row)?;
-    Ok(text)
-}
-
-/// Adds bytes as a row writes them.
-pub fn add_bytes(told: &mut String, bytes: &[u8]) -> Result<(), AllocError> {
-    for byte in bytes {
-        match *byte {
-            b'\n' => told.push_str("\\n")?,
-            b'\r' => told.push_str("\\r")?,
-            b'\t' => told.push_str("\\t")?,
-            plain => told.push(char::from(plain))?,
-        }
+    for (piece, count) in pieces {
+        push_often(&mut text, piece, *count)?;
     }
-    Ok(())
-}
-
-/// What is told of a row's text is what stands behind it.
-pub fn check_told(rt: &impl Abort, text: &str, told: &str, expected: &str) {
-    assert_eq!(rt; told, expected, "of {text}");
+    Ok(text)
 }

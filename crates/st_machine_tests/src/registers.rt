@@ -1,19 +1,22 @@
 //! Calls on registers and methods over a memory.
+
 ghost use Rattle.st_frames.specs.Shown.{IsFrame};
 
-use super::files::{SENDING_IMAGE, bytes_of};
+use crate::image::{C, Plan, objects_of_c, ready};
 use st_counted::CountedLoader;
 use st_frames::{Frame, fetch};
-use st_image::{HeadValues, ReadImage, read};
 use st_lookup::find;
 use st_memory::Memory;
 use st_method::primitive;
 use st_model::{Dead, Oop};
-use std::alloc::AllocError;
+use std::alloc::AllocGlobal;
 use std::process::Abort;
 use std::test::Fail;
 
-/// Works the stack of the sending image's context, and stores its registers.
+/// Words in place of image C's, by which the method has the two literals 16383 and 66 and one byte, which is next.
+const WORDS: &[(usize, u16)] = &[(60, 15), (79, 5), (81, 66)];
+
+/// Works the stack of the context, and stores its registers.
 fn check_stack<M: Memory>(rt: &impl Abort, m: &mut M, frame: &mut Frame)
     requires { IsFrame (M.view m.old) frame.old }
 {
@@ -42,8 +45,8 @@ fn check_fetch<M: Memory>(rt: &impl Abort, m: &mut M) {
     assert_eq!(rt; fetch(m, Oop(62)), Ok(STORED));
 }
 
-/// A class, a selector, and the method that is found: the sending image's one, none for another selector, and no answer in an
-/// object that is no class.
+/// A class, a selector, and the method that is found: image C's one, none for another selector, and no answer in an object that
+/// is no class.
 const FOUND: &[(Oop, Oop, Result<Option<Oop>, Dead>)] = &[
     (Oop(12), Oop(66), Ok(Some(Oop(72)))),
     (Oop(12), Oop(42), Ok(None)),
@@ -56,7 +59,7 @@ fn check_find<M: Memory>(rt: &impl Abort, m: &M) {
     }
 }
 
-/// The first of the two literals of the sending image's first method is the integer 16383, whose lower 8 bits name primitive 255.
+/// The first of the method's two literals is the integer 16383, whose lower 8 bits name primitive 255.
 fn check_primitive<M: Memory>(rt: &impl Abort, m: &M) {
     let method = Oop(64);
     assert!(rt; m.live(method));
@@ -66,15 +69,15 @@ fn check_primitive<M: Memory>(rt: &impl Abort, m: &M) {
 
 #[test]
 fn registers_and_methods_are_reached_over_a_memory(rt: HostRuntime) -> Result<(), Fail> {
-    let image = bytes_of(rt.alloc(), SENDING_IMAGE)?;
-    match read::<CountedLoader>(rt.alloc(), &image, &HeadValues::NONE) {
-        Ok(mut loaded) => {
-            check_find(&rt, &loaded.memory);
-            check_primitive(&rt, &loaded.memory);
-            check_stack(&rt, &mut loaded.memory, &mut loaded.frame);
-            check_fetch(&rt, &mut loaded.memory);
-        }
-        Err(ReadImage::Fault(_)) | Err(ReadImage::OutOfMemory) => return Err(AllocError.into()),
-    }
+    let objects = objects_of_c(WORDS);
+    let plan = Plan {
+        objects: &objects,
+        ..C
+    };
+    let (mut loaded, _world) = ready::<CountedLoader>(rt.alloc(), &plan)?;
+    check_find(&rt, &loaded.memory);
+    check_primitive(&rt, &loaded.memory);
+    check_stack(&rt, &mut loaded.memory, &mut loaded.frame);
+    check_fetch(&rt, &mut loaded.memory);
     Ok(())
 }
