@@ -26,7 +26,15 @@ function option(value, isChosen) {
 
 async function showClasses(place) {
   const {classes} = await ask('classes');
-  at('class-list').replaceChildren(...classes.map((name) => option(name, name === place.class)));
+  const list = at('class-list');
+  // (a list that is the same keeps its place)
+  if (classes.join() === [...list.options].map((it) => it.value).join()) return;
+  list.replaceChildren(...classes.map((name) => option(name, name === place.class)));
+}
+
+async function showLists(place) {
+  await showClasses(place);
+  await showMethods(place);
 }
 
 async function showMethods(place) {
@@ -163,16 +171,16 @@ async function showSenders(event) {
 }
 
 export async function enter(place) {
-  if (!at('class-list').options.length) await showClasses(place);
+  await showClasses(place);
   at('class-list').value = place.class ?? '';
   at(place.side === 'class' ? 'class-side' : 'instance-side').checked = true;
   await showAll(place);
 }
 
-// Something was done: methods may be others.
+// Something was done: classes and methods may be others.
 export function changed() {
   clearTimeout(waiting);
-  waiting = setTimeout(() => here().view === 'classes' && !document.hidden && showMethods(here()).catch(() => {}), 500);
+  waiting = setTimeout(() => here().view === 'classes' && !document.hidden && showLists(here()).catch(() => {}), 500);
 }
 
 export function begin(attempts) {
