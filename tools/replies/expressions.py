@@ -77,3 +77,17 @@ def with_answer(text):
 def source_of(text):
     """The text of the method `doIt` that does an expression."""
     return FRONT + with_answer(text)
+
+
+def evaluate(session, text, cycles):
+    """Has an expression done, in so many cycles at most, and answers the lines that come back, up to a refusal or the run's end."""
+    reply = session.define(HEADER, source_of(text))
+    if not reply.startswith("accepted"):
+        return [reply]
+    session.ask(f"input {BEGIN}")
+    lines = list(session.run(cycles))
+    if not lines[-1].startswith("quit"):
+        # (what didn't end would take the next words of input)
+        session.ask(f"input {INTERRUPT}")
+        list(session.run(cycles))
+    return lines

@@ -29,6 +29,15 @@ def integer(word):
     return (word >> 1) - (32768 if word & 0x8000 else 0)
 
 
+class Head:
+    """What the head of an image says; without the letters what docs/FORMATS.md has in its place."""
+
+    def __init__(self, data):
+        self.has_letters = data[8:12] == b"ST80"
+        numbers = [long_at(data, at) for at in range(12, 32, 4)] if self.has_letters else [1, 32767, 1048576, 0, 0]
+        self.version, self.entries, self.words, self.globals, self.symbols = numbers
+
+
 class Object:
     """An object: its class, its kind as a report's letter, its fields, and its units."""
 
@@ -56,12 +65,11 @@ class Image(Objects):
     def __init__(self, data):
         if len(data) < SHORT or len(data) < self.end_of(data):
             raise Wrong("too short for an image")
-        lettered = data[8:12] == b"ST80"
-        self.globals = long_at(data, 24) if lettered else 0
-        self.symbols = long_at(data, 28) if lettered else 0
-        entries = list(self.entries_of(data, 3 if lettered and long_at(data, 12) == 2 else 2))
+        head = Head(data)
+        self.globals, self.symbols = head.globals, head.symbols
+        entries = list(self.entries_of(data, 3 if head.version == 2 else 2))
         self.objects = {pointer: self.object_at(data, marks, at) for pointer, marks, at in entries}
-        if not lettered:
+        if not head.has_letters:
             for pointer, marks, at in entries:
                 marks = marks | 16 if self.has_words(self.objects[pointer].of_class) else marks & ~16
                 self.objects[pointer] = self.object_at(data, marks, at)
