@@ -7,7 +7,8 @@ import time
 import traceback
 
 from replies.chunks import BLANKS
-from replies.expressions import BEGIN, HEADER, INTERRUPT, is_open, source_of
+from replies.evaluations import Clocks, Evaluations
+from replies.expressions import BEGIN, INTERRUPT, is_open
 from replies.image import Wrong as NoStore
 from replies.live import Live
 from replies.meanings import RUNS, meaning_of
@@ -20,6 +21,7 @@ from .texts import Texts
 WAITING = 500  # what may wait to be done
 FIRST_PIECE, LEAST_PIECE, GREATEST_PIECE = 20000, 1000, 1000000  # bytecodes
 PIECE_SECONDS = 0.05
+PAUSE = 0.02  # seconds between two looks at a delay that waits
 WITHOUT_END = 10**15
 
 
@@ -129,6 +131,7 @@ class Desk:
     def open(self):
         session = Session(self.store)
         self.session, self.live = session, Live(session, self.store)
+        self.evaluations, self.clocks = Evaluations(session), Clocks(session, self.live, is_real=True)
         self.texts.forget()
         self.cycles, self.going, self.stopping, self.unfinished = 0, None, False, False
         again, lost = self.session.opened.split()[1:]
@@ -237,21 +240,26 @@ class Desk:
 
     def evaluation(self):
         end = yield from self.in_pieces(WITHOUT_END)
+        while end.startswith("quit") and (delay := self.clocks.first_end()) is not None:
+            while not self.clocks.is_due(delay) and not self.stopping:
+                time.sleep(PAUSE)
+                yield
+            self.clocks.tick(delay)
+            end = yield from self.in_pieces(WITHOUT_END)
         self.judge(end)
 
     def evaluate(self, text):
         """Defines `doIt` and begins it; answers why that is refused, if it is."""
         if is_open(text):
             raise Refused(400, "a bracket or a quote is open at the end")
-        source = source_of(text)
-        why = why_no_method(HEADER, source)
-        if why:
+        if why := self.evaluations.why_not(text):
             raise Refused(400, why)
         if self.unfinished:
             raise Refused(409, "the last evaluation isn't finished: `Run` goes on with it, `Interrupt` ends it")
         self.log.show(going=True)
         self.log.add("asked", text)
-        reply = self.session.define(HEADER, source)
+        self.clocks.set()
+        reply, source = self.evaluations.define(text)
         if not reply.startswith("accepted"):
             answer = self.refuse(reply, source)
             self.settle()

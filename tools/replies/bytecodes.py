@@ -87,6 +87,15 @@ def rules():
     return found
 
 
+def primitives():
+    """The numbers of the primitives that docs/DEFINITIONS.md has; all others fail always."""
+    text = DEFINITIONS.read_text()
+    table = text[text.index("\n## Primitives") :].split("```")[1]
+    columns = " ".join(line.partition("  ")[0] for line in table.splitlines())
+    ranges = re.findall(r"(\d+)(?: to (\d+))?", columns)
+    return {number for first, last in ranges for number in range(int(first), int(last or first) + 1)}
+
+
 def length_of(code):
     """How many bytes a bytecode with this first byte has."""
     if code in (132, 134):

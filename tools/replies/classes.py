@@ -91,7 +91,7 @@ class Described:
         self.kind = kind_of(fields[SPECIFICATION])
         self.variables = [image.bytes_of(it).decode("latin-1") for it in image.elements_of(fields[VARIABLES])]
         self.pool = members_of(image, fields[CLASS_POOL])
-        self.shared = [it for it in image.elements_of(fields[SHARED_POOLS]) if it != NIL]
+        self.shared = [it for it in image.elements_of(fields[SHARED_POOLS]) if it not in (NIL, image.globals)]
         self.metaclass = image.get(pointer).of_class
         sides = {False: pointer, True: self.metaclass}
         self.methods = {(meta, key): it for meta, side in sides.items() for key, it in methods_of(image, side).items()}

@@ -7,17 +7,18 @@ import time
 from .classes import CLASS_POOL, field_of, members_of
 from .expressions import BEGIN, HEADER, pieces, source_of
 from .image import NIL, integer, is_small
+from .script import why_no_method
 
 LEAST = -16384  # of the integers that the compiler takes as literals
 CYCLES = 1000000  # of one run
 RESUMPTION_TIME = 1  # the field of a Delay
 NAME_REFUSED = re.compile(r"refused code (\d+) 1$")
-ASSIGNED = re.compile(r"([A-Za-z]\w*)\s*(?::=|_(?!\w))")
+ASSIGNED = re.compile(r"(?<![A-Za-z0-9])([A-Za-z][A-Za-z0-9]*+)\s*+(?::=|_)")
 BEFORE_1970 = 2177452800  # seconds from 1901 on
 MOST = 4294967295  # of either clock
 
-NUMBER = r"\d+r-?[0-9A-Z]+(?:\.[0-9A-Z]+(?:e-?\d+)?(?![\w:])|e-?\d+)?|\d+(?:\.\d+)?(?:e-?\d+)?"
-OTHERS = r"\"[^\"]*\"?|'(?:[^']|'')*'?|\$.|\#\(|\#?[A-Za-z][\w:]*|\s+|."
+NUMBER = r"\d+r-?[0-9A-Z]+(?:\.[0-9A-Z]+(?:e-?\d+)?(?![A-Za-z0-9:])|e-?\d+)?|\d+(?:\.\d+)?(?:e-?\d+)?"
+OTHERS = r"\"[^\"]*\"?|'(?:[^']|'')*'?|\$.|\#\(|\#?[A-Za-z][A-Za-z0-9:]*|\s+|."
 AFTER_OPERAND = re.compile(f"{NUMBER}|{OTHERS}", re.S)
 BEFORE_OPERAND = re.compile(f"-?(?:{NUMBER})|{OTHERS}", re.S)
 
@@ -64,18 +65,19 @@ def assigned_names(text):
     return [(it[1], it.start()) for it in ASSIGNED.finditer(text) if it.start() in places]
 
 
-def lost_class(session, text):
-    """A class that a text would store something else into, if there is one."""
-    names = {name for name, _ in assigned_names(text) if name[0].isupper()}
-    classes = {line.split()[1] for line in session.ask("classes")[1:]} if names else set()
-    return min(names & classes, default=None)
-
-
 class Evaluations:
     """The expressions of a session of the kernel, each of which is defined as `doIt`."""
 
     def __init__(self, session):
         self.session, self.declared = session, set()
+
+    def why_not(self, text):
+        """Why an expression isn't to be defined, if it isn't."""
+        names = {name for name, _ in assigned_names(text) if name[0].isupper()}
+        classes = {line.split()[1] for line in self.session.ask("classes")[1:]} if names else set()
+        if lost := min(names & classes, default=None):
+            return f"{lost} is a class, which would be lost; `=` compares"
+        return why_no_method(HEADER, source_of(text))
 
     def define(self, text):
         """The reply to the definition of an expression, and the text that was defined; names that it is the first to assign to are declared."""

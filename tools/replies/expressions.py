@@ -9,7 +9,7 @@ FRONT = "doIt\n\t"
 BEGIN = 1  # the word of input that begins an evaluation
 INTERRUPT = 3  # the word of input that ends an evaluation
 OPENING, CLOSING = "([", ")]"
-FRACTION = re.compile(r"(?<!\w)\d+(?:\.\d|r-?[0-9A-Z]+\.[0-9A-Z]+(?:e-?\d+)?(?![\w:]))")
+FRACTION = re.compile(r"(?<![A-Za-z0-9])\d+(?:\.\d|r-?[0-9A-Z]+\.[0-9A-Z]+(?:e-?\d+)?(?![A-Za-z0-9:]))")
 # A comment, or in its one group what is none: a string, a character, or any other one.
 TOKEN = re.compile(r"""\"[^"]*\"?|('(?:[^']|'')*'?|\$.|.)""", re.S)
 
@@ -76,3 +76,17 @@ def source_of(text):
     """The text of the method `doIt` that does an expression. After a `$` at its end a comment keeps the blank, which the end of a chunk loses."""
     kept = '""' if text.rstrip(BLANKS).endswith("$") else ""
     return FRONT + with_answer(text) + kept
+
+
+def evaluate(session, text, cycles):
+    """Has an expression done, in so many cycles at most, and answers the lines that come back, up to a refusal or the run's end."""
+    reply = session.define(HEADER, source_of(text))
+    if not reply.startswith("accepted"):
+        return [reply]
+    session.ask(f"input {BEGIN}")
+    lines = list(session.run(cycles))
+    if not lines[-1].startswith("quit"):
+        # (what didn't end would take the next words of input)
+        session.ask(f"input {INTERRUPT}")
+        list(session.run(cycles))
+    return lines

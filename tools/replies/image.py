@@ -1,8 +1,10 @@
 """The objects of an image file, and what of them classes and methods are, as docs/FORMATS.md has them."""
 
 import pathlib
+import shutil
 import struct
 
+ENDINGS = (".roots", ".changes", ".changes2", ".a", ".b")  # of the names of a store's files
 NIL, METHODS = 2, 34
 SHORT = 512
 WORDS = 0x4000  # the bit of an instance specification, a SmallInteger's word, of instances that have words
@@ -27,6 +29,15 @@ def is_small(word):
 def integer(word):
     """The number of a SmallInteger's word."""
     return (word >> 1) - (32768 if word & 0x8000 else 0)
+
+
+class Head:
+    """What the head of an image says; without the letters what docs/FORMATS.md has in its place."""
+
+    def __init__(self, data):
+        self.has_letters = data[8:12] == b"ST80"
+        numbers = [long_at(data, at) for at in range(12, 32, 4)] if self.has_letters else [1, 32767, 1048576, 0, 0]
+        self.version, self.entries, self.words, self.globals, self.symbols = numbers
 
 
 class Object:
@@ -56,12 +67,11 @@ class Image(Objects):
     def __init__(self, data):
         if len(data) < SHORT or len(data) < self.end_of(data):
             raise Wrong("too short for an image")
-        lettered = data[8:12] == b"ST80"
-        self.globals = long_at(data, 24) if lettered else 0
-        self.symbols = long_at(data, 28) if lettered else 0
-        entries = list(self.entries_of(data, 3 if lettered and long_at(data, 12) == 2 else 2))
+        head = Head(data)
+        self.globals, self.symbols = head.globals, head.symbols
+        entries = list(self.entries_of(data, 3 if head.version == 2 else 2))
         self.objects = {pointer: self.object_at(data, marks, at) for pointer, marks, at in entries}
-        if not lettered:
+        if not head.has_letters:
             for pointer, marks, at in entries:
                 marks = marks | 16 if self.has_words(self.objects[pointer].of_class) else marks & ~16
                 self.objects[pointer] = self.object_at(data, marks, at)
@@ -112,7 +122,18 @@ class Image(Objects):
 def is_of_store(file):
     """Whether a file is one of a store's, over which nothing else is to be written."""
     path = pathlib.Path(file)
-    return path.suffix in (".roots", ".changes", ".changes2", ".a", ".b") and path.with_suffix(".roots").exists()
+    return path.suffix in ENDINGS and path.with_suffix(".roots").exists()
+
+
+def copy_store(store, folder):
+    """Copies a store's files into a folder, and answers the name of the copy. The roots file is first: what a session writes meanwhile comes after."""
+    if not pathlib.Path(f"{store}.roots").is_file():
+        raise Wrong(f"there is no store {store}: {store}.roots is missing")
+    copied = pathlib.Path(folder) / "store"
+    for ending in ENDINGS:
+        if pathlib.Path(f"{store}{ending}").is_file():
+            shutil.copyfile(f"{store}{ending}", f"{copied}{ending}")
+    return copied
 
 
 def root_of(store):

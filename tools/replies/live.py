@@ -1,13 +1,13 @@
 """The objects of a machine in a session, by its replies to `object`, in the form of `image`'s, and words for what they are."""
 
 from .classes import DICTIONARY, NAME, SUPERCLASS, class_name, field_of, is_class, members_of
-from .image import NIL, Object, Objects, current_image, integer, is_small, long_at
+from .image import NIL, Head, Object, Objects, current_image, integer, is_small
 from .session import escape
 
 # The classes of the root page, whose names an image needn't have.
 PAGE = {12: "SmallInteger", 14: "String", 16: "Array", 22: "MethodContext", 24: "BlockContext", 26: "Point", 28: "LargePositiveInteger",
         32: "Message", 34: "CompiledMethod", 40: "Character", 56: "Symbol"}
-FALSE, TRUE, STRING, CHARACTER, SYMBOL = 4, 6, 14, 40, 56
+FALSE, TRUE, STRING, ARRAY, CHARACTER, SYMBOL = 4, 6, 14, 16, 40, 56
 SHOWN = 60  # characters of a text that stand for an object
 INSTRUCTION, METHOD, RECEIVER, FRONT = 1, 3, 5, 6  # fields of a context
 ABOVE = 1000  # superclasses that are looked through at most
@@ -35,11 +35,9 @@ class Live(Objects):
     """The objects as they are now, each asked for once until `forget`, and the pointers of a store's tables of names."""
 
     def __init__(self, session, store):
-        head = current_image(store)[:32]
-        lettered = head[8:12] == b"ST80"
+        head = Head(current_image(store))
         self.session = session
-        self.globals = long_at(head, 24) if lettered else 0
-        self.room = (long_at(head, 16), long_at(head, 20)) if lettered else (32767, 1048576)
+        self.globals, self.room = head.globals, (head.entries, head.words)
         self.forget()
 
     def forget(self):
@@ -178,6 +176,10 @@ class Live(Objects):
         found = self.name_of_method(home[METHOD], home[RECEIVER])
         name = f"{found[0]}>>{found[1]}" if found else f"a method @{home[METHOD]} that its receiver doesn't find"
         return f"[] in {name}" if is_small(fields[METHOD]) else name
+
+    def names_of_stack(self):
+        """What the active context and those that it returns to are a part of, at most 100 of them."""
+        return [self.name_of_context(word_of(line.split()[1])) for line in self.session.ask("stack")[1:]]
 
 
 class Still(Live):

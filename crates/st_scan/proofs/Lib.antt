@@ -2,6 +2,7 @@ pub mod Choices
 pub mod Classes
 pub mod Complete
 pub mod Formed
+mod Fronts
 pub mod Keywords
 pub mod Numerals
 pub mod One

@@ -1,5 +1,6 @@
-use Rattle.std.proofs.Common.{rules, ◌≡◌, Err}
-use Rattle.st_control.proofs.Valued.{tried-value_with}
+use Rattle.std.proofs.Common.{rules, ◌≡◌, Err, arith}
+use Rattle.st_control.proofs.Valued.{tried-value_with, values}
+use Rattle.st_model.specs.Blocks.{primitive_value_with, value_with_if_any}
 use Rattle.st_control.proofs.values.primitive_value_with.Goals as goal
 
 pub returns-in_err-value_with_fields-in-Ok-clause-does : goal.returns-in_err-value_with_fields-in-Ok-clause-does
@@ -9,3 +10,15 @@ returns-in_err-value_with_fields-in-Ok-clause-does g c =
       does = tried-value_with _ _ _ c.in-Ok.passing _ _ c.in-Ok.ensures.block c.in_ok-block.ensures.does c.in_ok-array.ensures.does c.in-Ok.ensures.does c.in_err-value_with_fields-in-Ok.ensures.does.does;
       world = c.in_err-value_with_fields-in-Ok.ensures.does.world;
     })
+
+pub returns-in_err-block-clause-does : goal.returns-in_err-block-clause-does
+unfolding primitive_value_with value_with_if_any
+returns-in_err-block-clause-does g c = grind (arith, values)
+
+pub returns-in_err-array-clause-does : goal.returns-in_err-array-clause-does
+unfolding primitive_value_with value_with_if_any
+returns-in_err-array-clause-does g c = grind (arith, values)
+
+pub returns-in-Err-clause-does : goal.returns-in-Err-clause-does
+unfolding primitive_value_with value_with_if_any
+returns-in-Err-clause-does g c = grind (arith, values)

@@ -1,5 +1,6 @@
-use Rattle.std.proofs.Common.{rules, ◌≡◌, Err}
-use Rattle.st_control.proofs.Valued.{tried-value}
+use Rattle.std.proofs.Common.{rules, ◌≡◌, Err, arith}
+use Rattle.st_control.proofs.Valued.{tried-value, values}
+use Rattle.st_model.specs.Blocks.{primitive_value, value_if_any}
 use Rattle.st_control.proofs.values.value_at_once.Goals as goal
 
 pub returns-in_err-value_with_words-in-Ok-clause-does : goal.returns-in_err-value_with_words-in-Ok-clause-does
@@ -9,3 +10,11 @@ returns-in_err-value_with_words-in-Ok-clause-does g c =
       does = tried-value _ _ _ c.in-Ok.passing _ _ c.in-Ok.ensures.block c.in-Ok.ensures.count c.in_ok-block.ensures.does c.in-Ok.ensures.does c.in_err-value_with_words-in-Ok.ensures.does.does;
       world = c.in_err-value_with_words-in-Ok.ensures.does.world;
     })
+
+pub returns-in_err-block-clause-does : goal.returns-in_err-block-clause-does
+unfolding primitive_value value_if_any
+returns-in_err-block-clause-does g c = grind (arith, values)
+
+pub returns-in-Err-clause-does : goal.returns-in-Err-clause-does
+unfolding primitive_value value_if_any
+returns-in-Err-clause-does g c = grind (arith, values)

@@ -1,5 +1,5 @@
-use Rattle.std.proofs.Common.{sym, ◌∙◌}
-use Rattle.st_process.proofs.ByNumber.{input-90, input-91, input-92, input-93, input-94, input-95, input-98, input-99, input-100, input-101, input-102, input-116}
+use Rattle.std.proofs.Common.{sym, ◌∙◌, arith}
+use Rattle.st_process.proofs.ByNumber.{input-90, input-91, input-92, input-93, input-94, input-95, input-98, input-99, input-100, input-101, input-102, input-116, input_by}
 use Rattle.st_process.proofs.dispatch.try_input.Goals as goal
 
 pub returns-in-90-clause-does : goal.returns-in-90-clause-does
@@ -73,3 +73,9 @@ returns-in-116-clause-does g c = record {
   does = input-116 g.O.Objects.names c.args.primitive c.args.arguments _ c.in-116.is (sym c.input_takes.ensures ∙ c.if-not-input_takes.false) ∙ c.primitive_low_space.ensures.does.does;
   world = c.primitive_low_space.ensures.does.world;
 }
+
+pub returns-then-not-input_takes-clause-does : goal.returns-then-not-input_takes-clause-does
+returns-then-not-input_takes-clause-does g c = grind (arith, input_by)
+
+pub returns-in_default-clause-does : goal.returns-in_default-clause-does
+returns-in_default-clause-does g c = grind (arith, input_by)

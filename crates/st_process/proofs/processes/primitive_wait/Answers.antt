@@ -2,6 +2,8 @@ use Rattle.std.proofs.Common.{arith}
 use Rattle.st_process.proofs.Numbering.{passed-is}
 use Rattle.st_process.proofs.ProcessTries.{tried-wait}
 use Rattle.st_process.proofs.Taken.{takes-most}
+use Rattle.st_frames.proofs.Tries.{effects}
+use Rattle.st_model.specs.Processes.{primitive_wait}
 use Rattle.st_process.proofs.processes.primitive_wait.Goals as goal
 
 pub returns-in-Ok-clause-does : goal.returns-in-Ok-clause-does
@@ -12,3 +14,11 @@ returns-in-Ok-clause-does g c = record {
 
 pub returns-in-Ok-clause-takes : goal.returns-in-Ok-clause-takes
 returns-in-Ok-clause-takes g c = takes-most _ _ g.O.Objects _ _ _ 7 _ _ _ _ c.answer_wait.ensures.does.does (omega arith) c.answer_wait.ensures.takes
+
+pub returns-in_err-receiver-clause-does : goal.returns-in_err-receiver-clause-does
+unfolding primitive_wait
+returns-in_err-receiver-clause-does g c = grind (arith, effects)
+
+pub returns-in-Err-clause-does : goal.returns-in-Err-clause-does
+unfolding primitive_wait
+returns-in-Err-clause-does g c = grind (arith, effects)

@@ -1,7 +1,8 @@
-use Rattle.std.proofs.Common.{◌≡◌, rules, Err, refl}
-use Rattle.st_frames.proofs.Doing.{row-memory}
+use Rattle.std.proofs.Common.{◌≡◌, rules, Err, refl, arith}
+use Rattle.st_frames.proofs.Doing.{row-memory, rows}
 use Rattle.st_process.proofs.Numbering.{passed-is}
 use Rattle.st_process.proofs.Sleeping.{row-died, sleep-unnumbered, sleep-unready, sleep-unlisted, sleep-listed}
+use Rattle.st_model.specs.Processes.{sleep}
 use Rattle.st_process.proofs.ready.sleep.Goals as goal
 
 pub returns-in_err-number-clause-does : goal.returns-in_err-number-clause-does
@@ -25,3 +26,7 @@ returns-clause-does g c = record {
   does = sleep-listed g.O.Objects.names _ _ _ _ (passed-is c.in_ok-priority.priority c.in_ok-priority.ensures.low c.in_ok-priority.ensures.high) (c.in_ok-priority.ensures.integer _ (row-memory _ _ _)) _ (c.in_ok-number.ensures _) _ (c.in_ok-lists.ensures _ (row-memory _ _ _)) _ _ (c.in_ok-list.ensures _ (row-memory _ _ _)) c.add_last.ensures.does.does;
   world = c.add_last.ensures.does.world;
 }
+
+pub returns-in_err-priority-clause-does : goal.returns-in_err-priority-clause-does
+unfolding sleep
+returns-in_err-priority-clause-does g c = grind (arith, rows)

@@ -1,7 +1,8 @@
-use Rattle.std.proofs.Common.{◌∙◌, ap}
+use Rattle.std.proofs.Common.{◌∙◌, ap, arith}
 use Rattle.st_model.specs.Machine.{Went}
-use Rattle.st_frames.proofs.Doing.{row-memory, row-head, row-stored, row-active}
+use Rattle.st_frames.proofs.Doing.{row-memory, row-head, row-stored, row-active, rows, pages}
 use Rattle.st_process.proofs.ProcessTries.{left-process}
+use Rattle.st_model.specs.Processes.{leave_process, let_wait}
 use Rattle.st_process.proofs.switching.leave_process.Goals as goal
 
 pub returns-clause-does : goal.returns-clause-does
@@ -13,3 +14,19 @@ returns-clause-does g c =
       does = left-process m _ _ _ _ _ _ _ _ _ (row-active _ _ _) (c.in_ok-old.ensures _ (row-memory _ _ _)) first (c.in_ok-scheduler.ensures _ (row-memory _ _ _)) second (c.page.ensures.page _ (row-memory _ _ _)) c.hold.ensures.does.does;
       world = c.hold.ensures.does.world;
     }
+
+pub returns-in_err-old-clause-does : goal.returns-in_err-old-clause-does
+unfolding leave_process let_wait
+returns-in_err-old-clause-does g c = grind (arith, rows, pages)
+
+pub returns-in_err-store_field-clause-does : goal.returns-in_err-store_field-clause-does
+unfolding leave_process let_wait
+returns-in_err-store_field-clause-does g c = grind (arith, rows, pages)
+
+pub returns-in_err-scheduler-clause-does : goal.returns-in_err-scheduler-clause-does
+unfolding leave_process let_wait
+returns-in_err-scheduler-clause-does g c = grind (arith, rows, pages)
+
+pub returns-in_err-store_field-2-clause-does : goal.returns-in_err-store_field-2-clause-does
+unfolding leave_process let_wait
+returns-in_err-store_field-2-clause-does g c = grind (arith, rows, pages)

@@ -1,0 +1,12 @@
+use Rattle.std.proofs.Common.{arith}
+use Rattle.st_frames.proofs.Doing.{rows}
+use Rattle.st_frames.specs.Answering.{succeed_by}
+use Rattle.st_control.proofs.wide.answer_large.Goals as goal
+
+pub returns-in_err-value-clause-does : goal.returns-in_err-value-clause-does
+unfolding succeed_by
+returns-in_err-value-clause-does g c = grind (arith, rows)
+
+pub returns-clause-does : goal.returns-clause-does
+unfolding succeed_by
+returns-clause-does g c = grind (arith, rows)
