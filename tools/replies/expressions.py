@@ -75,8 +75,9 @@ def with_answer(text):
 
 
 def source_of(text):
-    """The text of the method `doIt` that does an expression."""
-    return FRONT + with_answer(text)
+    """The text of the method `doIt` that does an expression. After a `$` at its end a comment keeps the blank, which the end of a chunk loses."""
+    kept = '""' if text.rstrip(BLANKS).endswith("$") else ""
+    return FRONT + with_answer(text) + kept
 
 
 def evaluate(session, text, cycles):

@@ -1,8 +1,10 @@
 """The objects of an image file, and what of them classes and methods are, as docs/FORMATS.md has them."""
 
 import pathlib
+import shutil
 import struct
 
+ENDINGS = (".roots", ".changes", ".changes2", ".a", ".b")  # of the names of a store's files
 NIL, METHODS = 2, 34
 SHORT = 512
 WORDS = 0x4000  # the bit of an instance specification, a SmallInteger's word, of instances that have words
@@ -120,7 +122,18 @@ class Image(Objects):
 def is_of_store(file):
     """Whether a file is one of a store's, over which nothing else is to be written."""
     path = pathlib.Path(file)
-    return path.suffix in (".roots", ".changes", ".changes2", ".a", ".b") and path.with_suffix(".roots").exists()
+    return path.suffix in ENDINGS and path.with_suffix(".roots").exists()
+
+
+def copy_store(store, folder):
+    """Copies a store's files into a folder, and answers the name of the copy. The roots file is first: what a session writes meanwhile comes after."""
+    if not pathlib.Path(f"{store}.roots").is_file():
+        raise Wrong(f"there is no store {store}: {store}.roots is missing")
+    copied = pathlib.Path(folder) / "store"
+    for ending in ENDINGS:
+        if pathlib.Path(f"{store}{ending}").is_file():
+            shutil.copyfile(f"{store}{ending}", f"{copied}{ending}")
+    return copied
 
 
 def root_of(store):

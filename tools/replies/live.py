@@ -177,6 +177,10 @@ class Live(Objects):
         name = f"{found[0]}>>{found[1]}" if found else f"a method @{home[METHOD]} that its receiver doesn't find"
         return f"[] in {name}" if is_small(fields[METHOD]) else name
 
+    def names_of_stack(self):
+        """What the active context and those that it returns to are a part of, at most 100 of them."""
+        return [self.name_of_context(word_of(line.split()[1])) for line in self.session.ask("stack")[1:]]
+
 
 class Still(Live):
     """The same words for the objects of an image file."""

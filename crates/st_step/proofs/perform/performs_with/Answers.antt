@@ -1,5 +1,7 @@
-use Rattle.std.proofs.Common.{refl}
+use Rattle.std.proofs.Common.{refl, arith}
 use Rattle.st_step.proofs.Performed.{spread-performs, spread-fails}
+use Rattle.st_frames.proofs.Doing.{rows}
+use Rattle.st_step.specs.Trying.{performs_with}
 use Rattle.st_step.proofs.perform.performs_with.Goals as goal
 
 pub returns-in-Ok-clause-does : goal.returns-in-Ok-clause-does
@@ -13,3 +15,15 @@ returns-in-Err-clause-does g c = record {
   does = spread-fails _ _ _ _ _ c.in_ok-receiver.ensures.does c.in_ok-selector.ensures.does c.in_ok-array.ensures.does _ c.in-Err.ensures.does;
   world = refl;
 }
+
+pub returns-in_err-receiver-clause-does : goal.returns-in_err-receiver-clause-does
+unfolding performs_with
+returns-in_err-receiver-clause-does g c = grind (arith, rows)
+
+pub returns-in_err-selector-clause-does : goal.returns-in_err-selector-clause-does
+unfolding performs_with
+returns-in_err-selector-clause-does g c = grind (arith, rows)
+
+pub returns-in_err-array-clause-does : goal.returns-in_err-array-clause-does
+unfolding performs_with
+returns-in_err-array-clause-does g c = grind (arith, rows)

@@ -1,0 +1,17 @@
+use Rattle.std.proofs.Common.{arith}
+use Rattle.st_control.proofs.Returning.{returning}
+use Rattle.st_model.specs.Bytecodes.{return_top_to_caller}
+use Rattle.st_model.specs.Executing.{executed_if_any}
+use Rattle.st_step.proofs.returns.return_top_to_caller.Goals as goal
+
+pub returns-in_err-x-clause-does : goal.returns-in_err-x-clause-does
+unfolding return_top_to_caller executed_if_any
+returns-in_err-x-clause-does g c = grind (arith, returning)
+
+pub returns-in_err-call-clause-does : goal.returns-in_err-call-clause-does
+unfolding return_top_to_caller executed_if_any
+returns-in_err-call-clause-does g c = grind (arith, returning)
+
+pub returns-clause-does : goal.returns-clause-does
+unfolding return_top_to_caller executed_if_any
+returns-clause-does g c = grind (arith, returning)

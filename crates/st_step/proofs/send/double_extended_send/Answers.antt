@@ -1,0 +1,21 @@
+use Rattle.std.proofs.Common.{arith}
+use Rattle.st_frames.proofs.Doing.{rows}
+use Rattle.st_model.specs.Bytecodes.{double_extended_send}
+use Rattle.st_model.specs.Executing.{executed}
+use Rattle.st_step.proofs.send.double_extended_send.Goals as goal
+
+pub returns-in_err-arguments-clause-does : goal.returns-in_err-arguments-clause-does
+unfolding double_extended_send executed
+returns-in_err-arguments-clause-does g c = grind (arith, rows)
+
+pub returns-in_err-literal-clause-does : goal.returns-in_err-literal-clause-does
+unfolding double_extended_send executed
+returns-in_err-literal-clause-does g c = grind (arith, rows)
+
+pub returns-in_err-call-clause-does : goal.returns-in_err-call-clause-does
+unfolding double_extended_send executed
+returns-in_err-call-clause-does g c = grind (arith, rows)
+
+pub returns-clause-does : goal.returns-clause-does
+unfolding double_extended_send executed
+returns-clause-does g c = grind (arith, rows)
