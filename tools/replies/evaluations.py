@@ -43,7 +43,7 @@ def written_out(number):
 
 
 def with_numbers(text):
-    """The text with each number outside a literal array that the compiler refuses, and the character blank, written as an expression."""
+    """The text with each number outside a literal array that the compiler refuses written as an expression."""
     parts, at, is_operand = [], 0, False
     while at < len(text):
         it = (AFTER_OPERAND if is_operand else BEFORE_OPERAND).match(text, at)
@@ -52,7 +52,7 @@ def with_numbers(text):
             end = end_of_array(text, at)
             piece = text[at:end]
         is_number = piece[-1].isalnum() and piece.lstrip("-")[0].isdigit()
-        parts.append(written_out(piece) if is_number else "(Character value: 32)" if piece == "$ " else piece)
+        parts.append(written_out(piece) if is_number else piece)
         if piece.strip() and piece[0] != '"':
             is_operand = piece[-1] in ")]'" or piece[0] in "$#" or piece[-1].isalnum()
         at = end
