@@ -17,7 +17,7 @@ ASSIGNED = re.compile(r"(?<![A-Za-z0-9])([A-Za-z][A-Za-z0-9]*+)\s*+(?::=|_)")
 BEFORE_1970 = 2177452800  # seconds from 1901 on
 MOST = 4294967295  # of either clock
 
-NUMBER = r"\d+r[0-9A-Z]+|\d+(?:\.\d+)?(?:e-?\d+)?"
+NUMBER = r"\d+r-?[0-9A-Z]+(?:\.[0-9A-Z]+(?:e-?\d+)?(?![A-Za-z0-9:])|e-?\d+)?|\d+(?:\.\d+)?(?:e-?\d+)?"
 OTHERS = r"\"[^\"]*\"?|'(?:[^']|'')*'?|\$.|\#\(|\#?[A-Za-z][A-Za-z0-9:]*|\s+|."
 AFTER_OPERAND = re.compile(f"{NUMBER}|{OTHERS}", re.S)
 BEFORE_OPERAND = re.compile(f"-?(?:{NUMBER})|{OTHERS}", re.S)
@@ -35,9 +35,9 @@ def end_of_array(text, at):
 
 def written_out(number):
     """A number as an expression, if the compiler doesn't take it as a literal."""
+    if re.search(r"[.e]|r-", number):
+        return f"(Number readFrom: '{number}')"
     radix, _, digits = number.lstrip("-").rpartition("r")
-    if not radix and re.search(r"[.e]", number):
-        return f"(Float readFrom: '{number}')"
     is_below = number[0] == "-" and -int(digits, int(radix or 10)) < LEAST
     return f"({number[1:]} negated)" if is_below else number
 

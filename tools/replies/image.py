@@ -126,7 +126,7 @@ def is_of_store(file):
 
 
 def copy_store(store, folder):
-    """Copies a store's files into a folder, and answers the name of the copy. The roots file is first: what a session writes meanwhile comes after."""
+    """Copies a store's files into a folder, the roots file first, and answers the name of the copy. (A session may add to the others meanwhile.)"""
     if not pathlib.Path(f"{store}.roots").is_file():
         raise Wrong(f"there is no store {store}: {store}.roots is missing")
     copied = pathlib.Path(folder) / "store"

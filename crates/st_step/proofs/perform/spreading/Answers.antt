@@ -22,6 +22,6 @@ pub returns-in_err-fields-clause-does : goal.returns-in_err-fields-clause-does
 unfolding spreading
 returns-in_err-fields-clause-does g c = grind (arith, checks)
 
-pub returns-then-fields-r-n-clause-does : goal.returns-then-fields-r-n-clause-does
+pub returns-then-fields-r-clause-does : goal.returns-then-fields-r-clause-does
 unfolding spreading
-returns-then-fields-r-n-clause-does g c = grind (arith, checks)
+returns-then-fields-r-clause-does g c = grind (arith, checks)
