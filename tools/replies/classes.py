@@ -12,6 +12,8 @@ POINTERS, INDEXED = 0x8000, 0x2000
 SUPERCLASS, DICTIONARY, SPECIFICATION, VARIABLES, NAME, CLASS_POOL, SHARED_POOLS = 0, 1, 2, 4, 6, 7, 8
 CLASS_FIELDS = 9
 SCHEDULER = 8  # the pointer of its association
+# The message that makes a class whose instances are of a kind, as a kernel text names it.
+MESSAGES = {"fixed": "subclass", "indexed": "variableSubclass", "words": "variableWordSubclass", "bytes": "variableByteSubclass"}
 DEEP = 200  # literals within one another, as deep as a text can have them
 
 

@@ -9,6 +9,7 @@ FRONT = "doIt\n\t"
 BEGIN = 1  # the word of input that begins an evaluation
 INTERRUPT = 3  # the word of input that ends an evaluation
 OPENING, CLOSING = "([", ")]"
+FRACTION = re.compile(r"(?<![A-Za-z0-9])\d+(?:\.\d|r-?[0-9A-Z]+\.[0-9A-Z]+(?:e-?\d+)?(?![A-Za-z0-9:]))")
 # A comment, or in its one group what is none: a string, a character, or any other one.
 TOKEN = re.compile(r"""\"[^"]*\"?|('(?:[^']|'')*'?|\$.|.)""", re.S)
 
@@ -46,11 +47,8 @@ def parts_of(text):
 
 
 def is_in_number(text, at):
-    """Whether the dot at that place is one of a number with a fraction, as in 3.14, and ends no statement."""
-    begin = at
-    while begin > 0 and text[begin - 1].isalnum():
-        begin -= 1
-    return text[begin].isdigit() and text[at + 1 : at + 2].isdigit()
+    """Whether the dot at that place is one of a number with a fraction, as in 3.14 or 16rAC.DC, and ends no statement."""
+    return any(it.start() < at < it.end() for it in FRACTION.finditer(text))
 
 
 def last_statement(text):

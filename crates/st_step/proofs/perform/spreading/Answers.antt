@@ -21,7 +21,3 @@ returns-in_err-n-clause-does g c = grind (arith, checks)
 pub returns-in_err-fields-clause-does : goal.returns-in_err-fields-clause-does
 unfolding spreading
 returns-in_err-fields-clause-does g c = grind (arith, checks)
-
-pub returns-then-fields-r-n-clause-does : goal.returns-then-fields-r-n-clause-does
-unfolding spreading
-returns-then-fields-r-n-clause-does g c = grind (arith, checks)
