@@ -6,6 +6,7 @@ import re
 import struct
 import zlib
 
+from .ending import write_whole
 from .image import integer, is_of_store, is_small
 
 # The two pixels of a character, the upper one first, and the character.
@@ -95,7 +96,7 @@ def write_png(file, width, rows):
         raise Missing(f"{file} is a file of a store, and stays")
     if not width or not rows:
         raise Missing("a PNG file has at least one pixel, and this Form has none")
-    pathlib.Path(file).write_bytes(png_of(width, rows))
+    write_whole(file, png_of(width, rows))
 
 
 def read_png(file):
