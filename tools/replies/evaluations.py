@@ -65,11 +65,18 @@ def assigned_names(text):
     return [(it[1], it.start()) for it in ASSIGNED.finditer(text) if it.start() in places]
 
 
+def name_refused(reply, source):
+    """The name that a text is refused for, if the text assigns to it."""
+    refused = NAME_REFUSED.match(reply)
+    named = dict((place, name) for name, place in assigned_names(source))
+    return named.get(int(refused[1]) - 1) if refused else None
+
+
 class Evaluations:
     """The expressions of a session of the kernel, each of which is defined as `doIt`."""
 
     def __init__(self, session):
-        self.session, self.declared = session, set()
+        self.session = session
 
     def why_not(self, text):
         """Why an expression isn't to be defined, if it isn't."""
@@ -82,22 +89,15 @@ class Evaluations:
     def define(self, text):
         """The reply to the definition of an expression, and the text that was defined; names that it is the first to assign to are declared."""
         source = source_of(with_numbers(text))
-        reply = self.session.define(HEADER, source)
-        while name := self.undeclared(reply, source):
+        reply, declared = self.session.define(HEADER, source), set()
+        while (name := name_refused(reply, source)) and name not in declared:
+            declared.add(name)
             self.declare(name)
             reply = self.session.define(HEADER, source)
         return reply, source
 
-    def undeclared(self, reply, source):
-        """The name that a text is refused for, if the text assigns to it and it wasn't declared before."""
-        refused = NAME_REFUSED.match(reply)
-        named = dict((place, name) for name, place in assigned_names(source))
-        name = named.get(int(refused[1]) - 1) if refused else None
-        return None if name in self.declared else name
-
     def declare(self, name):
         """Has a global of this name, which is nil."""
-        self.declared.add(name)
         if self.session.define(HEADER, source_of(f"Smalltalk at: #{name} put: nil")).startswith("accepted"):
             self.session.ask(f"input {BEGIN}")
             while list(self.session.run(CYCLES))[-1].startswith("ran"):
@@ -128,10 +128,14 @@ class Clocks:
         pool = field_of(self.live, pointer, CLASS_POOL) if pointer else NIL
         return members_of(self.live, pool).get(name, NIL)
 
+    def is_evaluating(self):
+        """Whether an evaluation hasn't ended yet."""
+        self.live.forget()
+        return self.variable("Workspace", "Evaluation") != NIL
+
     def first_end(self):
         """What the millisecond clock shows when the evaluation's first delay ends; none if none waits."""
-        self.live.forget()
-        if self.variable("Workspace", "Evaluation") == NIL:
+        if not self.is_evaluating():
             return None
         waiting = self.variable("Delay", "Waiting")
         fields = self.live.elements_of(waiting)

@@ -33,7 +33,7 @@ SYNTAX = {
     4: "a number with a bad radix or digit, or too large a number",
     5: "a number with a fraction or an exponent, which this Smalltalk has not",
     6: "a bracket within 200 open ones",
-    7: "a token behind the whole method",
+    7: "a token after what is a whole method: a period or a message is missing before it, or a bracket is one too many",
 }
 CODE = {
     1: "a name that means nothing",

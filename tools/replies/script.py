@@ -11,6 +11,8 @@ SELECTOR = r"[^\x00-\x20\x7f]+"
 # A header: at least one blank stands between its parts.
 HEADER = re.compile(rf"({NAME})(?:[{BLANKS}]+(class))?[{BLANKS}]+methodsFor:[{BLANKS}]+'((?:[^']|'')*)'")
 
+END_OF_GROUP = re.compile(rf"![{BLANKS}]+![{BLANKS}]*\Z")
+
 # The forms of lines: a word, what stands behind it, and the least and the greatest number of each place that has one.
 FORMS = {
     "run": (r"([0-9]{1,10})", [(0, 10**9)]),
@@ -62,7 +64,7 @@ def why_no_line(text):
     """Why a text isn't a line of a script; nothing where it is one."""
     word, _, rest = text.partition(" ")
     if word not in FORMS:
-        return f"no line begins with `{word[:40]}`"
+        return f"no line begins with `{word[:40]}`, but with {', '.join(sorted(FORMS))}"
     if len(text) > LONGEST:
         return f"a line has at most {LONGEST} bytes"
     if wide_in(text):
@@ -96,6 +98,11 @@ def header_of(of_class, meta, category):
     """The chunk before the methods of a class's side in a category."""
     quoted = category.replace("'", "''")
     return f"{of_class}{' class' if meta else ''} methodsFor: '{quoted}'"
+
+
+def is_open_group(text):
+    """Whether the empty chunk at the end of a group is missing."""
+    return not END_OF_GROUP.search(text)
 
 
 class Reader:
