@@ -8,6 +8,7 @@ _st80() {
   elif [[ $command == import && $word == -* ]]; then
     mapfile -t COMPREPLY < <(compgen -W '--globals --symbols --entries --words' -- "$word")
   elif [[ $COMP_CWORD == 2 && $command =~ ^(export|clean|condense|session)$ ]]; then
+    compopt -o filenames 2>/dev/null # (blanks in names are quoted)
     mapfile -t COMPREPLY < <(compgen -f -X '!*.roots' -- "$word" | sed 's/\.roots$//') # the stores, by their roots files
   fi
 }
