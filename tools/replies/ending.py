@@ -9,6 +9,13 @@ import tempfile
 STOPPED = 2  # the exit status
 
 
+def told(reason):
+    """What stopped a tool as a sentence: of a fault of the system the file and what is wrong with it."""
+    if not isinstance(reason, OSError) or not reason.strerror:
+        return str(reason)
+    return f"{reason.filename}: {reason.strerror}" if reason.filename else reason.strerror
+
+
 def end(main):
     """Ends a tool with the status that `main` answers for its words; with 2 and a line if it is stopped, or its output fails."""
     status, reason = outcome_of(main)
@@ -16,7 +23,7 @@ def end(main):
     if fault and status != STOPPED:
         status, reason = STOPPED, fault
     if reason:
-        print(f"{pathlib.Path(sys.argv[0]).name}: {reason}", file=sys.stderr)
+        print(f"{pathlib.Path(sys.argv[0]).name}: {told(reason)}", file=sys.stderr)
     sys.exit(status)
 
 
