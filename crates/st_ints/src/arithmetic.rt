@@ -1,11 +1,29 @@
-ghost use Rattle.std.specs.Prelude.{◌≡◌, IfSome, ◌≤◌, ◌≤ℤ◌, pos, negsuc};
+ghost use Rattle.std.specs.Prelude.{◌≡◌, Some, IfSome, ◌≤◌, ◌≤ℤ◌, pos, negsuc};
 ghost use Rattle.st_model.specs.Integers.{binary};
+ghost use Rattle.st_model.specs.declared.integers.IntAnswer.TheVariants.{Truth};
 ghost use Rattle.st_ints.specs.Answers.{IsOfSmall};
 
 use crate::division::{exact_quotient, modulo, quotient, quotient_down};
 use crate::small_shift::small_shift;
 use crate::sums::{difference, product, sum, within_range};
 use st_model::IntAnswer;
+
+/// What comparison n answers of a and b: of the primitives 3 to 8.
+#[tactic(auto, unfolding(st_model::specs::Integers::binary))]
+fn comparison(n: u8, a: i16, b: i16) -> bool
+    requires first { 3 ≤ n }
+    requires last { n ≤ 8 }
+    ensures { Some (Truth result) ≡ binary n a b }
+{
+    match n {
+        3 => a < b,
+        4 => b < a,
+        5 => a <= b,
+        6 => b <= a,
+        7 => a == b,
+        _ => a != b,
+    }
+}
 
 /// Primitive n of a and b, which are SmallIntegers, or none where it fails: where a quotient isn't exact or its divisor is 0,
 /// and where the answer is no SmallInteger.
@@ -23,12 +41,7 @@ pub fn binary(n: u8, a: i16, b: i16) -> Option<IntAnswer>
     match n {
         1 => sum(a, b),
         2 => difference(a, b),
-        3 => Some(IntAnswer::Truth(a < b)),
-        4 => Some(IntAnswer::Truth(b < a)),
-        5 => Some(IntAnswer::Truth(a <= b)),
-        6 => Some(IntAnswer::Truth(b <= a)),
-        7 => Some(IntAnswer::Truth(a == b)),
-        8 => Some(IntAnswer::Truth(a != b)),
+        3..=8 => Some(IntAnswer::Truth(comparison(n, a, b))),
         9 => product(a, b),
         10 => exact_quotient(a, b),
         11 => modulo(a, b),

@@ -1,4 +1,5 @@
 pub mod Words
+pub mod Tables
 pub mod Parts
 pub mod Forms
 pub mod Known

@@ -10,6 +10,7 @@ use crate::keyword::Keyword;
 use crate::part::{Class, Part, Pool, Side, Start};
 use crate::place::Place;
 use crate::shape::Shape;
+use crate::table::value_named;
 use crate::words::{first_word, is_name, names_in};
 use st_chunk::{Buffer, is_empty, read_heading, trimmed};
 use std::alloc::{AllocError, Global};
@@ -17,42 +18,34 @@ use std::alloc::{AllocError, Global};
 /// The most bytes of a chunk.
 const MOST: usize = 65_536;
 
+/// The words of shapes.
+const SHAPES: [(&[u8], Shape); 4] = [
+    (b"fixed", Shape::Fixed),
+    (b"indexed", Shape::Indexed),
+    (b"words", Shape::Words),
+    (b"bytes", Shape::Bytes),
+];
+
 /// The shape that a word names.
 fn shape_named(word: &[u8]) -> Option<Shape>
     ensures { result ≡ shape_named word.now }
 {
-    if word == b"fixed".as_slice() {
-        return Some(Shape::Fixed);
-    }
-    if word == b"indexed".as_slice() {
-        return Some(Shape::Indexed);
-    }
-    if word == b"words".as_slice() {
-        return Some(Shape::Words);
-    }
-    if word == b"bytes".as_slice() {
-        return Some(Shape::Bytes);
-    }
-    None
+    value_named(&SHAPES, word)
 }
+
+/// The words with which declarations, and the start, begin.
+const KEYWORDS: [(&[u8], Keyword); 4] = [
+    (b"class", Keyword::Class),
+    (b"pool", Keyword::Pool),
+    (b"global", Keyword::Global),
+    (b"start", Keyword::Start),
+];
 
 /// With which word a declaration, or the start, begins, if this is one.
 fn keyword_named(word: &[u8]) -> Option<Keyword>
     ensures { result ≡ keyword_named word.now }
 {
-    if word == b"class".as_slice() {
-        return Some(Keyword::Class);
-    }
-    if word == b"pool".as_slice() {
-        return Some(Keyword::Pool);
-    }
-    if word == b"global".as_slice() {
-        return Some(Keyword::Global);
-    }
-    if word == b"start".as_slice() {
-        return Some(Keyword::Start);
-    }
-    None
+    value_named(&KEYWORDS, word)
 }
 
 /// The words of a class up to those that name variables, and the text behind them.

@@ -11,6 +11,7 @@ mod part;
 mod place;
 mod reading;
 mod shape;
+mod table;
 mod variables;
 mod words;
 

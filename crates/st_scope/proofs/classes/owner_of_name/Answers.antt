@@ -2,7 +2,7 @@ use Rattle.std.proofs.Common.{◌≡◌, false, arith}
 use Rattle.std.specs.Prelude.{◌==◌}
 use Rattle.std.proofs.lemmas.Bool.Decides.{nat_tests}
 use Rattle.st_model.specs.Values.{value_of}
-use Rattle.st_scope.proofs.ClassesOf.{globals_if, named-died, named-found}
+use Rattle.st_scope.proofs.ClassesOf.{globals_if, named-died, named-found, named}
 use Rattle.st_scope.proofs.classes.owner_of_name.Goals as goal
 
 pub returns-in-Err-clause-refused : goal.returns-in-Err-clause-refused
@@ -28,3 +28,6 @@ returns-in-Ok-clause-found g c =
       known = c.in-Ok.ensures.known;
       side = c.in-Ok.ensures.side;
     }
+
+pub returns-then-globals-eq0-clause-refused : goal.returns-then-globals-eq0-clause-refused
+returns-then-globals-eq0-clause-refused g c = grind (arith, named)

@@ -1,11 +1,12 @@
 use Rattle.std.proofs.Common.{◌≡◌, true, ap, sym, ◌∙◌, subst, arith}
-use Rattle.st_model.specs.Values.{Value, value}
+use Rattle.st_model.specs.Values.{Value, value, word}
 use Rattle.st_model.specs.Objects.{is_pointers}
 use Rattle.st_model.specs.Machine.{is_there}
 use Rattle.st_model.specs.Table.{bounded_table}
-use Rattle.st_model.specs.Values.{word}
-use Rattle.st_memory.proofs.Wide.{there_live}
+use Rattle.st_memory.proofs.Wide.{there_live, bounded}
 use Rattle.st_memory.proofs.AtOneLook.{field_read, known_is_there}
+use Rattle.st_model.proofs.Runs.{runs}
+use Rattle.st_model.specs.Steps.{fetch_field, count_fields}
 use Rattle.st_memory.proofs.live.AnyObjects.context_fields.Goals as goal
 
 pub returns-clause-stack_pointer : goal.returns-clause-stack_pointer
@@ -35,3 +36,15 @@ pub returns-clause-receiver_there : goal.returns-clause-receiver_there
 returns-clause-receiver_there g c =
     let t = (g.M.Memory.view c.args.self.now).objects in
     subst (λ (v : Value). is_there bounded_table t v ≡ true) (sym c.from-4.ensures) (known_is_there t c.placed_pointer-4.result.0 (omega arith) c.placed_pointer-4.ensures.known)
+
+pub returns-clause-instruction_pointer : goal.returns-clause-instruction_pointer
+unfolding fetch_field count_fields
+returns-clause-instruction_pointer g c = grind (arith, runs, bounded)
+
+pub returns-clause-receiver : goal.returns-clause-receiver
+unfolding fetch_field count_fields
+returns-clause-receiver g c = grind (arith, runs, bounded)
+
+pub returns-clause-count : goal.returns-clause-count
+unfolding fetch_field count_fields
+returns-clause-count g c = grind (arith, runs, bounded)

@@ -1,0 +1,9 @@
+use Rattle.std.proofs.Common.{arith}
+use Rattle.st_memory.proofs.Bodies.{bodies}
+use Rattle.st_memory.proofs.body.first_unit.Goals as goal
+
+pub returns-in-Pointers : goal.returns-in-Pointers
+returns-in-Pointers g c = grind (arith, bodies)
+
+pub returns-in-Method : goal.returns-in-Method
+returns-in-Method g c = grind (arith, bodies)
