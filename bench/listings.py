@@ -8,7 +8,7 @@ NIL, SMALL_INTEGER, STRING, ARRAY, CONTEXT, POINT, METHOD, SYMBOL = 2, 12, 14, 1
 ASSOCIATION, SELECTORS, SCHEDULER, PROCESS, ACTIVE, LOOP = 8, 48, 58, 60, 62, 64
 METACLASS, ROOT, RECEIVER = 98, 100, 110
 FIRST = 200  # the least pointer of what has none of its own
-# The instance specifications of the page's classes.
+# Instance specifications; those of the page's classes (24 is BlockContext, 28 LargePositiveInteger, 32 Message, 40 Character).
 FIELDS, BYTES = -16384, 4096
 INDEXED = FIELDS + 4096
 PAGE_CLASSES = {SMALL_INTEGER: FIELDS, STRING: BYTES, ARRAY: INDEXED, CONTEXT: INDEXED + 6, 24: INDEXED + 6, POINT: FIELDS + 2,
