@@ -10,9 +10,10 @@ ghost use Rattle.st_recover.specs.{Commits.{Commit, all_of}, Condensed.IsCondens
 ghost use Rattle.st_browse.specs.Decompiling.{IsShown};
 ghost use Rattle.st_session.specs.declared.making.Origin.TheVariants.{Image as FromImage, Kernel as FromKernel};
 ghost use Rattle.st_session.specs.{Builds.{Builds, IsWrongKernel}, Imports.{ReadsAs, IsWrongImage}};
-ghost use Rattle.st_session.specs.Joining.{RestJoins, SessionJoins, ExportJoins, CondenseJoins, MakingJoins};
+ghost use Rattle.st_session.specs.Joining.{RestJoins, ReadyJoins, SessionJoins, FollowedJoins, RefusedJoins};
+ghost use Rattle.st_session.specs.Joining.{ExportJoins, CondenseJoins, MakingJoins, BegunJoins};
 ghost use Rattle.st_session.specs.OneOpening.{OneAnswer, OpensGives, RefusedIs, FollowedIs, StaysIs};
-ghost use Rattle.st_session.specs.{Keeping.in_a_store, Points.Point};
+ghost use Rattle.st_session.specs.{Keeping.in_a_store, Points.Point, ScriptGroups.GroupsByBytes};
 ghost use Rattle.st_session.specs.Sessions.{session as session_over};
 ghost use Rattle.st_session.specs.{Reports.RunIsSaid, Sources.shown_text, Traces.TraceIsRun};
 
@@ -28,6 +29,12 @@ pub fn run_is_said()
 /// lines say, in order, the contexts and the bytecodes of the run's cycles.
 pub fn trace_is_run()
     ensures { TraceIsRun }
+{}
+
+/// In a script a group of methods asks for a definition of each, in order, below the group's header, and behind the chunk of blanks that
+/// closes it a line begins. What is asked for is that of the chunks, wherever their bytes end.
+pub fn groups_by_bytes()
+    ensures { GroupsByBytes }
 {}
 
 /// A session acknowledges each commit by the line that it replies next, and no other line acknowledges one.
@@ -49,17 +56,24 @@ pub fn condensing_keeps_texts()
         → shown_text v (all_of d) side selector ≡ shown_text v (all_of c) side selector }
 {}
 
-/// What a call leaves meets what the next call asks for as it begins: where it left the store at rest, and no stop came; and after a
-/// stop at any moment of it, over whatever host: behind a session that kept its promise, behind an export or a condense, and behind the
-/// making of a store, once it was said that it is made.
+/// What a call leaves meets what the next call asks for as it begins: if it left the store at rest, and no stop came; and after a stop
+/// at any moment of it, over whatever host. The call is a session that kept its promise, or one over a store that wasn't at rest, from
+/// its opening on; a refused opening; an export or a condense; or the making of a store, whole once it was said that it is made.
 pub fn calls_join<H: Host, N: Host>()
     ensures rest { RestJoins H.Host.own }
+    ensures ready { ReadyJoins H.Host.own }
     ensures session { SessionJoins H.Host.own N.Host.own }
+    ensures followed { FollowedJoins H.Host.own N.Host.own }
+    ensures refused { RefusedJoins H.Host.own N.Host.own }
     ensures export { ExportJoins H.Host.own N.Host.own }
     ensures condense { CondenseJoins H.Host.own N.Host.own }
     ensures import { (over : HeadValues) (image : List ℕ) → MakingJoins H.Host.own N.Host.own FromImage
         (ReadsAs over image) (IsWrongImage (IsTrue H.is_told) over image) }
     ensures build { (text : List ℕ) → MakingJoins H.Host.own N.Host.own FromKernel
+        (Builds text) (IsWrongKernel (IsTrue H.is_told) text) }
+    ensures import_begun { (over : HeadValues) (image : List ℕ) → BegunJoins H.Host.own N.Host.own FromImage
+        (ReadsAs over image) (IsWrongImage (IsTrue H.is_told) over image) }
+    ensures build_begun { (text : List ℕ) → BegunJoins H.Host.own N.Host.own FromKernel
         (Builds text) (IsWrongKernel (IsTrue H.is_told) text) }
 {}
 
