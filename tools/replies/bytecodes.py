@@ -1,9 +1,9 @@
-"""The bytecodes by their names, and what docs/DEFINITIONS.md says that each does."""
+"""The bytecodes by their names, and what each does by docs/TEACHING.md."""
 
 import pathlib
 import re
 
-DEFINITIONS = pathlib.Path(__file__).resolve().parent.parent.parent / "docs/DEFINITIONS.md"
+RULES = pathlib.Path(__file__).resolve().parent.parent.parent / "docs/TEACHING.md"
 CONSTANTS = ("true", "false", "nil", "-1", "0", "1", "2")
 SPECIAL = ("+", "-", "<", ">", "<=", ">=", "=", "~=", "*", "/", "\\\\", "@", "bitShift:", "//", "bitAnd:", "bitOr:", "at:", "at:put:", "size",
            "next", "nextPut:", "atEnd", "==", "class", "blockCopy:", "value", "value:", "do:", "new", "new:", "x", "y")
@@ -75,8 +75,8 @@ class Codes:
 
 
 def rules():
-    """For each code what the table of the bytecodes in docs/DEFINITIONS.md says: the definition, and what it does."""
-    text = DEFINITIONS.read_text()
+    """For each code its line in the table of docs/TEACHING.md: the definition, and what it does."""
+    text = RULES.read_text()
     table = text[text.index("The bytecodes in `Bytecodes.antt`") :].split("\n\n")[1]
     found = {}
     for line in table.splitlines()[2:]:
@@ -88,8 +88,8 @@ def rules():
 
 
 def primitives():
-    """The numbers of the primitives that docs/DEFINITIONS.md has; all others fail always."""
-    text = DEFINITIONS.read_text()
+    """The numbers of the primitives that docs/TEACHING.md has; all others fail always."""
+    text = RULES.read_text()
     table = text[text.index("\n## Primitives") :].split("```")[1]
     columns = " ".join(line.partition("  ")[0] for line in table.splitlines())
     ranges = re.findall(r"(\d+)(?: to (\d+))?", columns)

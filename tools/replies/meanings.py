@@ -29,11 +29,11 @@ IMAGE = {
 SYNTAX = {
     1: "a byte that begins no token",
     2: "a string or comment without an end",
-    3: "a token that can't stand there",
+    3: "a token that can't stand there: a receiver, an argument or a bracket may be missing before it",
     4: "a number with a bad radix or digit, or too large a number",
     5: "a number with a fraction or an exponent, which this Smalltalk has not",
     6: "a bracket within 200 open ones",
-    7: "a token after what is a whole method: a period or a message is missing before it, or a bracket is one too many",
+    7: "a token after what is a whole method: a period, a message or the colon of one is missing before it, or a bracket is one too many",
 }
 CODE = {
     1: "a name that means nothing",
