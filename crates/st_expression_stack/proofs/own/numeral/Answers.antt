@@ -2,7 +2,7 @@ use Rattle.std.proofs.Common.{◌≡◌, arith, sym, ap, ◌∙◌, subst}
 use Rattle.std.specs.Prelude.{IfOk}
 use Rattle.std.specs.Fmt.{decimal}
 use Rattle.st_expression_stack.proofs.NameTurns.{numeral_small}
-use Rattle.st_expression_stack.proofs.naming.numeral.Goals as goal
+use Rattle.st_expression_stack.proofs.own.numeral.Goals as goal
 
 pub returns : goal.returns
 returns c =
