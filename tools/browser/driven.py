@@ -141,7 +141,7 @@ def an_edit(window, _):
     window.wait("document.querySelectorAll('#codes tbody tr').length > 5")
     reader.fill("sent", "digitSum")
     window.do("document.getElementById('senders-form').requestSubmit()")
-    window.wait("document.getElementById('senders').textContent.includes('Workspace class doIt')")
+    window.wait("document.getElementById('senders').textContent.includes('Workspace doIt')")
     reader.fill("method-text", "digitSum ^0")
     reader.click("define")
     window.wait("document.getElementById('origin').textContent.includes('2 times')")

@@ -4,7 +4,7 @@ import re
 
 from .chunks import BLANKS
 
-HEADER = "Workspace class methodsFor: 'evaluating'"
+HEADER = "Workspace methodsFor: 'evaluating'"
 FRONT = "doIt\n\t"
 BEGIN = 1  # the word of input that begins an evaluation
 INTERRUPT = 3  # the word of input that ends an evaluation
