@@ -1,9 +1,9 @@
-"""The bytecodes by their names, and what each does by docs/TEACHING.md."""
+"""The bytecodes by their names, and what bytecodes and primitives do by tools/replies/codes.txt."""
 
 import pathlib
 import re
 
-RULES = pathlib.Path(__file__).resolve().parent.parent.parent / "docs/TEACHING.md"
+TABLES = pathlib.Path(__file__).resolve().parent / "codes.txt"
 CONSTANTS = ("true", "false", "nil", "-1", "0", "1", "2")
 SPECIAL = ("+", "-", "<", ">", "<=", ">=", "=", "~=", "*", "/", "\\\\", "@", "bitShift:", "//", "bitAnd:", "bitOr:", "at:", "at:put:", "size",
            "next", "nextPut:", "atEnd", "==", "class", "blockCopy:", "value", "value:", "do:", "new", "new:", "x", "y")
@@ -74,26 +74,36 @@ class Codes:
         return f"jump on {'true' if code < 172 else 'false'} to {place + 2 + code % 4 * 256 + low}"
 
 
+def rows(title):
+    """The lines of the table of that title, `bytecodes` or `primitives`, each as its cells."""
+    table = TABLES.read_text().partition(f"= {title}\n")[2].partition("\n= ")[0]
+    return [line.split(" | ") for line in table.splitlines()]
+
+
+def ranges_in(cell):
+    """The first and last number of each range in a cell."""
+    return [(int(first), int(last or first)) for first, last in re.findall(r"(\d+)(?: to (\d+))?", cell)]
+
+
 def rules():
-    """For each code its line in the table of docs/TEACHING.md: the definition, and what it does."""
-    text = RULES.read_text()
-    table = text[text.index("The bytecodes in `Bytecodes.antt`") :].split("\n\n")[1]
-    found = {}
-    for line in table.splitlines()[2:]:
-        codes, definition, does = (it.strip() for it in line.strip("|").split(" | "))
-        for first, last in re.findall(r"(\d+)(?: to (\d+))?", codes):
-            for code in range(int(first), int(last or first) + 1):
-                found[code] = f"{definition.replace('`', '')}: {does}" if does else definition.replace("`", "")
-    return found
+    """For each code its definitions, and what it does."""
+    return {code: f"{definitions}: {does}" for codes, definitions, does in rows("bytecodes") for first, last in ranges_in(codes)
+            for code in range(first, last + 1)}
+
+
+def definition_of(code):
+    """The definition of a bytecode, or none if there is no such code."""
+    for codes, definitions, _ in rows("bytecodes"):
+        ranges, names = ranges_in(codes), definitions.split(", ")
+        places = [at for at, (first, last) in enumerate(ranges) if first <= code <= last]
+        if places:
+            return names[places[0] if len(names) == len(ranges) else 0]
+    return None
 
 
 def primitives():
-    """The numbers of the primitives that docs/TEACHING.md has; all others fail always."""
-    text = RULES.read_text()
-    table = text[text.index("\n## Primitives") :].split("```")[1]
-    columns = " ".join(line.partition("  ")[0] for line in table.splitlines())
-    ranges = re.findall(r"(\d+)(?: to (\d+))?", columns)
-    return {number for first, last in ranges for number in range(int(first), int(last or first) + 1)}
+    """The numbers of the primitives that may succeed; all others fail always."""
+    return {number for numbers, _ in rows("primitives") for first, last in ranges_in(numbers) for number in range(first, last + 1)}
 
 
 def length_of(code):

@@ -16,6 +16,7 @@ NAME_REFUSED = re.compile(r"refused code (\d+) 1$")
 ASSIGNED = re.compile(r"(?<![A-Za-z0-9])([A-Za-z][A-Za-z0-9]*+)\s*+(?::=|_)")
 BEFORE_1970 = 2177452800  # seconds from 1901 on
 MOST = 4294967295  # of either clock
+NEEDED = {"Processor", "Sensor", "Transcript"}  # the globals without which the kernel can't go on
 
 NUMBER = r"\d+r-?[0-9A-Z]+(?:\.[0-9A-Z]+(?:e-?\d+)?(?![A-Za-z0-9:])|e-?\d+)?|\d+(?:\.\d+)?(?:e-?\d+)?"
 OTHERS = r"\"[^\"]*\"?|'(?:[^']|'')*'?|\$.|\#\(|\#?[A-Za-z][A-Za-z0-9:]*|\s+|."
@@ -84,6 +85,8 @@ class Evaluations:
         classes = {line.split()[1] for line in self.session.ask("classes")[1:]} if names else set()
         if lost := min(names & classes, default=None):
             return f"{lost} is a class, which would be lost; `=` compares"
+        if lost := min(names & NEEDED, default=None):
+            return f"{lost} is what the kernel works with, which would be lost; `=` compares"
         return why_no_method(HEADER, source_of(text))
 
     def define(self, text):

@@ -5,7 +5,7 @@ use Rattle.std.proofs.lemmas.List.{append_cancel_left}
 use Rattle.st_host.specs.Counts.{Rose}
 use Rattle.st_host.specs.Files.{Files}
 use Rattle.st_host.specs.Runs.{LeavesOnly, NarrowsBut, Elsewhere, ReadsAlike, ReadsAndSays, Spares, IsAtRest}
-use Rattle.st_host.specs.Stops.{SaidPart, WhileSaying}
+use Rattle.st_host.specs.Stops.{Here, SaidPart, WhileSaying}
 use Rattle.st_host.specs.declared.host.Host.{Ghosts}
 use Rattle.st_host.proofs.Joining.{weaker, moments_join}
 use Rattle.st_host.proofs.Rising.{rose_first, rose_second}
@@ -15,11 +15,12 @@ use Rattle.st_model.specs.View.{View}
 use Rattle.st_chunk.specs.Definitions.{entries}
 use Rattle.st_store.specs.Names.{roots_file, IsNoFileOf}
 use Rattle.st_store.specs.Faults.{Settles}
-use Rattle.st_store.specs.Stored.{Stored, Opens, IsKept, IsOpening, IsReady}
+use Rattle.st_store.specs.Stored.{Stored, Opens, IsChosen, IsKept, IsOpening, IsReady}
 use Rattle.st_store.specs.declared.root.Root.{Root}
 use Rattle.st_store.specs.declared.fault.StoreFault.TheVariants as unmade
 use Rattle.st_store.specs.declared.fault.StorePlace.TheVariants.{Roots, Changes}
 use Rattle.st_store.proofs.Determined.{none_opens, opens_there}
+use Rattle.st_store.proofs.Turning.{rests}
 use Rattle.st_changes.specs.Lists.{Lists, RefusesChanges}
 use Rattle.st_changes.proofs.Determined.{none_wrong, lists_back}
 use Rattle.st_protocol.specs.declared.status.Status.{Status}
@@ -45,7 +46,7 @@ use Rattle.st_call.specs.LastLines.{last_line, SaysLastLine}
 use Rattle.st_session.specs.Commands.{opening_status}
 use Rattle.st_session.specs.Ends.{IsCalm, SessionEnds}
 use Rattle.st_call.specs.Telling.{IsOfServing}
-use Rattle.st_session.specs.Resting.{GateFailed, RestsBroken, RestsAcknowledged}
+use Rattle.st_session.specs.Resting.{GateFailed, OpensFrom, RestsBroken, RestsAcknowledged}
 use Rattle.st_session.specs.StoreSessions.{course_over, IsOfSession, IsRefused, KeepsPromise}
 use Rattle.st_session.specs.Opening.{IsOpen, session_over, session_so_far_over}
 use Rattle.st_session.proofs.LastLines.{quiet_line}
@@ -69,6 +70,37 @@ module _ {D : Type 0} (host : Ghosts D) (name : List ℕ) where
   opens_still old c rest reads f (inl can) = rest.opens_as f can
   opens_still old c rest reads f (inr as_read) =
       opens_as_read name c as_read.is f (host.files old) (rest.opens_as (host.files old) reads) as_read.read as_read.now
+
+  -- they could be left before, or open as the commit that was read
+  pub opened_so : (old : D) (c : Commit) → OpensAs name c (host.files old) → (f : Files) → IsOpening host old name f → ((n : List ℕ) → host.may_leave old n (f n)) ⊎ OpensAs name c f
+  opened_so old c opened f (inl can) = inl can
+  opened_so old c opened f (inr as_read) = inr (opens_as_read name c as_read.is f (host.files old) opened as_read.read as_read.now)
+
+  -- from the first good sync of the roots file on they open as the commit that is kept behind the opening
+  pub settled_from : (c : Commit) (k slot : ℕ) (old mid : D) → ((f : Files) (s : List ℕ) → host.left_since mid (host.moment mid) f s → Here (host.may_leave mid) (host.said mid) f s)
+      → ((n : List ℕ) → host.may_leave mid n (host.files mid n)) → OpensAs name c (host.files old) → IsChosen host mid name k (stored_of slot c) → Settles host name old mid → OpensFrom host (OpensAs name) name c old mid
+  settled_from c k slot old mid only_now reads opened chosen settles = by settles
+    where
+      as_commit : (f : Files) → Opens name (stored_of slot c) f → OpensAs name c f
+      as_commit f opens = record { slot = slot; opens = opens; readable = opened.readable; good = opened.good }
+
+      here : (f : Files) → ((n : List ℕ) → host.may_leave mid n (f n)) → Opens name (stored_of slot c) f
+      here f can = rests host name mid k (stored_of slot c) f chosen can
+
+      by : Settles host name old mid → OpensFrom host (OpensAs name) name c old mid
+      by (inl first) = record {
+        synced = mid;
+        first = first;
+        moments = record { later = omega arith; each = λ f s left. as_commit f (here f (only_now f s left).0); before = λ t f s le left. inl left };
+      }
+      by (inr at) =
+          let since = at.1 in
+          let same : at.0 ≡ stored_of slot c = one_stored name at.0 (stored_of slot c) (host.files mid) (since.rest.opens_as (host.files mid) reads) (here (host.files mid) reads) in
+          record {
+            synced = since.synced;
+            first = since.first;
+            moments = weaker host since.synced mid (λ f s. OpensAs name c f) (λ f s. Opens name at.0 f) since.moments (λ f s opens. as_commit f (subst (λ (x : Stored). Opens name x f) same opens));
+          }
 
   -- nothing is acknowledged by a part of a last line
   promised_none : (c : Commit) (cs : List Commit) (e : Status) (said s : List ℕ) (f : Files) → SaidPart said (last_line e) s → OpensAs name c f → Promised (OpensAs name) (c ∷ cs) said f s

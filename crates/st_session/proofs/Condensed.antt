@@ -24,7 +24,7 @@ use Rattle.st_call.specs.Telling.{Tells}
 use Rattle.st_session.specs.Ends.{status_in}
 use Rattle.st_session.specs.Exports.{IsOfExporting}
 use Rattle.st_session.specs.Condensings.{IsKeptAs, ResultHas, DoesCondense, CondenseHas}
-use Rattle.st_session.proofs.Commanded.{opens_still}
+use Rattle.st_session.proofs.Commanded.{opens_still, opened_so}
 use Rattle.st_session.proofs.Exported.{none_more, line_behind}
 
 -- what an answer gives
@@ -136,27 +136,41 @@ module _ {D : Type 0} (host : Ghosts D) (store : List ℕ) where
   abbrev Whole : Commit → Status → D → Files → List ℕ → Type 0
   Whole c e old f s = OpensCondensed store c f ⊎ (OpensAs store c f × SaidPart (host.said old) (last_line e) s)
 
-  -- at each moment it is whole or not done
-  pub condensing_whole : (k c : Commit) (e : Status) (old mid closed new : D) → IsTrue host.is_told → k ≡ c → IsAtRest host (OpensAs store) c old → ((n : List ℕ) → host.may_leave old n (host.files old n))
-      → LeavesOnly host old mid (λ f s. (s ≡ host.said old) × IsOpening host old store f) → host.said mid ≡ host.said old
-      → LeavesOnly host mid closed (λ f s. OpensCondensed store k f ⊎ (OpensAs store k f × (s ≡ host.said mid)))
+  -- behind the opening it is at each moment whole or not done
+  pub condensing_since : (c : Commit) (e : Status) (old mid closed new : D) → IsTrue host.is_told → host.said mid ≡ host.said old
+      → LeavesOnly host mid closed (λ f s. OpensCondensed store c f ⊎ (OpensAs store c f × (s ≡ host.said mid)))
       → ((f : Files) → ((n : List ℕ) → host.may_leave closed n (f n)) → host.left_since closed (host.moment mid) f (host.said closed))
       → ReadsAndSays host (last_line e) closed new
-      → LeavesOnly host old new (λ f s. OpensCondensed store c f ⊎ (OpensAs store c f × SaidPart (host.said old) (last_line e) s))
-  condensing_whole k c e old mid closed new told same rest reads opening quiet moments now line =
-      moments_join host old closed new (Whole c e old) (WhileSaying (host.may_leave closed) (host.said closed) (last_line e))
-      (moments_join host old mid closed (Whole c e old) (Unsaid k mid)
-      (weaker host old mid (Whole c e old) (λ f s. (s ≡ host.said old) × IsOpening host old store f) opening (λ f s so. inr (opens_still host store old c rest reads f so.1, nothing_of (host.said old) (last_line e) s so.0)))
-      moments (λ f s so. first f s so))
+      → LeavesOnly host mid new (λ f s. OpensCondensed store c f ⊎ (OpensAs store c f × SaidPart (host.said old) (last_line e) s))
+  condensing_since c e old mid closed new told quiet moments now line =
+      moments_join host mid closed new (Whole c e old) (WhileSaying (host.may_leave closed) (host.said closed) (last_line e))
+      (weaker host mid closed (Whole c e old) (Unsaid c mid) moments (λ f s so. first f s so))
       (line.moments told) (λ f s w. last f s w.1 (moments.each f (host.said closed) (now f w.0)))
     where
-      first : (f : Files) (s : List ℕ) → Unsaid k mid f s → Whole c e old f s
-      first f s (inl is) = inl (subst (λ (x : Commit). OpensCondensed store x f) same is)
-      first f s (inr was) = inr (subst (λ (x : Commit). OpensAs store x f) same was.0, nothing_of (host.said old) (last_line e) s (was.1 ∙ quiet))
+      first : (f : Files) (s : List ℕ) → Unsaid c mid f s → Whole c e old f s
+      first f s (inl is) = inl is
+      first f s (inr was) = inr (was.0, nothing_of (host.said old) (last_line e) s (was.1 ∙ quiet))
 
-      last : (f : Files) (s : List ℕ) → SaidPart (host.said closed) (last_line e) s → Unsaid k mid f (host.said closed) → Whole c e old f s
-      last f s said (inl is) = inl (subst (λ (x : Commit). OpensCondensed store x f) same is)
-      last f s said (inr was) = inr (subst (λ (x : Commit). OpensAs store x f) same was.0, subst (λ (t : List ℕ). SaidPart t (last_line e) s) (was.1 ∙ quiet) said)
+      last : (f : Files) (s : List ℕ) → SaidPart (host.said closed) (last_line e) s → Unsaid c mid f (host.said closed) → Whole c e old f s
+      last f s said (inl is) = inl is
+      last f s said (inr was) = inr (was.0, subst (λ (t : List ℕ). SaidPart t (last_line e) s) (was.1 ∙ quiet) said)
+
+  -- so it is from the beginning on, where each state that a stop could leave opened as one commit
+  pub condensing_whole : (k c : Commit) (e : Status) (old mid new : D) → k ≡ c → IsAtRest host (OpensAs store) c old → ((n : List ℕ) → host.may_leave old n (host.files old n))
+      → LeavesOnly host old mid (λ f s. (s ≡ host.said old) × IsOpening host old store f)
+      → LeavesOnly host mid new (λ f s. OpensCondensed store k f ⊎ (OpensAs store k f × SaidPart (host.said old) (last_line e) s))
+      → LeavesOnly host old new (λ f s. OpensCondensed store c f ⊎ (OpensAs store c f × SaidPart (host.said old) (last_line e) s))
+  condensing_whole k c e old mid new same rest reads opening since =
+      moments_join host old mid new (Whole c e old) (Whole k e old)
+      (weaker host old mid (Whole c e old) (λ f s. (s ≡ host.said old) × IsOpening host old store f) opening (λ f s so. inr (opens_still host store old c rest reads f so.1, nothing_of (host.said old) (last_line e) s so.0)))
+      since (λ f s so. subst (λ (x : Commit). Whole x e old f s) same so)
+
+  -- what an opening leaves
+  pub opening_so : (c : Commit) (old mid : D) → OpensAs store c (host.files old) → LeavesOnly host old mid (λ f s. (s ≡ host.said old) × IsOpening host old store f)
+      → LeavesOnly host old mid (λ f s. (s ≡ host.said old) × (((n : List ℕ) → host.may_leave old n (f n)) ⊎ OpensAs store c f))
+  opening_so c old mid opened moments =
+      weaker host old mid (λ f s. (s ≡ host.said old) × (((n : List ℕ) → host.may_leave old n (f n)) ⊎ OpensAs store c f)) (λ f s. (s ≡ host.said old) × IsOpening host old store f) moments
+      (λ f s so. (so.0, opened_so host store old c opened f so.1))
 
   -- a refused opening leaves it as it was
   pub refused_whole_moments : (c : Commit) (e : Status) (old new : D) → IsAtRest host (OpensAs store) c old → ((n : List ℕ) → host.may_leave old n (host.files old n))

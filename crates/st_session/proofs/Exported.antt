@@ -36,7 +36,8 @@ use Rattle.st_session.specs.Ends.{IsCalm, status_in}
 use Rattle.st_call.specs.Telling.{Tells}
 use Rattle.st_session.specs.Exports.{Export, ExportsImage, ExportsSaved, IsOfExporting, IsOfExport, LeavesOthers, HasExported, HasImage, ExportHas, Stays, DoesExport}
 use Rattle.st_session.specs.declared.extent.Extent.{Extent}
-use Rattle.st_session.proofs.Commanded.{cause_between, opens_still}
+use Rattle.st_session.specs.Resting.{OpensFrom}
+use Rattle.st_session.proofs.Commanded.{cause_between, opens_still, opened_so}
 
 -- WHAT SAVING COMES TO
 
@@ -271,20 +272,43 @@ module _ {D : Type 0} (host : Ghosts D) (store image : List ℕ) where
     good = opened.good;
   })
 
+  module _ (d : Commit) (s : StoreState) (slot : ℕ) (text : List ℕ) (old mid closed new : D) (apart : IsNoFileOf store image) (opened : OpensAs store d (host.files old)) (named : s.name ≡ store)
+      (kept : IsKept host mid s (stored_of slot d)) (told : IsTrue host.is_told) (others : LeavesOthers host image mid closed) (line : ReadsAndSays host text closed new) where
+    still : (f : Files) → ((n : List ℕ) → n ≢ image → host.may_leave mid n (f n)) → OpensAs store d f
+    still f can = kept_opens mid s slot d named opened kept apart f can
+
+    -- what holds until the image is written, and of all that opens as the commit, holds at each moment
+    moments_on : (P : Files → List ℕ → Type 0) (start : D) → LeavesOnly host start mid P → ((f : Files) (t : List ℕ) → OpensAs store d f → P f t) → LeavesOnly host start new P
+    moments_on P start first holds =
+        moments_join host start closed new P (WhileSaying (host.may_leave closed) (host.said closed) text)
+        (moments_join host start mid closed P (Others host image mid) first (others.moments told) (λ f t so. holds f t (still f so)))
+        (line.moments told) (λ f t w. holds f t (still f (λ n is. others.spares.fewer told n (f n) is (w.0 n))))
+
+    pub exported_rests : IsAtRest host (OpensAs store) d new
+    exported_rests = record { opens_as = λ f can. still f (λ n is. others.spares.fewer told n (f n) is ((line.stops told).fewer n (f n) (can n))) }
+
+    pub exported_meanwhile : LeavesOnly host old mid (λ f t. (t ≡ host.said old) × IsOpening host old store f) → LeavesOnly host old new (λ f t. ((n : List ℕ) → host.may_leave old n (f n)) ⊎ OpensAs store d f)
+    exported_meanwhile moments =
+        let P : Files → List ℕ → Type 0 = λ f t. ((n : List ℕ) → host.may_leave old n (f n)) ⊎ OpensAs store d f in
+        moments_on P old (weaker host old mid P (λ f t. (t ≡ host.said old) × IsOpening host old store f) moments (λ f t so. opened_so host store old d opened f so.1)) (λ f t opens. inr opens)
+
+    pub exported_settled : OpensFrom host (OpensAs store) store d old mid → OpensFrom host (OpensAs store) store d old new
+    exported_settled since = record {
+      synced = since.synced;
+      first = since.first;
+      moments = moments_on (λ f t. OpensAs store d f) since.synced since.moments (λ f t opens. opens);
+    }
+
   pub exported_stays : (c d : Commit) (s : StoreState) (slot : ℕ) (text : List ℕ) (old mid closed new : D) → IsNoFileOf store image → IsAtRest host (OpensAs store) c old
       → ((n : List ℕ) → host.may_leave old n (host.files old n)) → OpensAs store d (host.files old) → s.name ≡ store → IsKept host mid s (stored_of slot d)
       → IsTrue host.is_told → LeavesOnly host old mid (λ f t. (t ≡ host.said old) × IsOpening host old store f) → LeavesOthers host image mid closed → ReadsAndSays host text closed new → Stays host store c old new
   exported_stays c d s slot text old mid closed new apart rest reads opened named kept told moments others line =
       let one = same_commit store d c (host.files old) opened (rest.opens_as (host.files old) reads) in
-      let at : (f : Files) → ((n : List ℕ) → n ≢ image → host.may_leave mid n (f n)) → OpensAs store c f = λ f can. subst (λ (x : Commit). OpensAs store x f) one (kept_opens mid s slot d named opened kept apart f can) in
       record {
-        moments = moments_join host old closed new (λ f t. OpensAs store c f) (WhileSaying (host.may_leave closed) (host.said closed) text)
-            (moments_join host old mid closed (λ f t. OpensAs store c f) (Others host image mid)
+        moments = moments_on d s slot text old mid closed new apart opened named kept told others line (λ f t. OpensAs store c f) old
             (weaker host old mid (λ f t. OpensAs store c f) (λ f t. (t ≡ host.said old) × IsOpening host old store f) moments (λ f t so. opens_still host store old c rest reads f so.1))
-            (others.moments told) (λ f t so. at f so))
-            (line.moments told)
-            (λ f t w. at f (λ n is. others.spares.fewer told n (f n) is (w.0 n)));
-        rest = record { opens_as = λ f can. at f (λ n is. others.spares.fewer told n (f n) is ((line.stops told).fewer n (f n) (can n))) };
+            (λ f t opens. subst (λ (x : Commit). OpensAs store x f) one opens);
+        rest = subst (λ (x : Commit). IsAtRest host (OpensAs store) x new) one (exported_rests d s slot text old mid closed new apart opened named kept told others line);
       }
 
   pub refused_stays : (c : Commit) (text : List ℕ) (old closed new : D) → IsAtRest host (OpensAs store) c old → ((n : List ℕ) → host.may_leave old n (host.files old n))

@@ -1,8 +1,10 @@
 -- How one call joins the next.
-use Rattle.std.proofs.Common.{◌≡◌, ◌⊎◌, inl, inr, ℕ, List, length, IsTrue, refl, sym, subst}
+use Rattle.std.proofs.Common.{◌≡◌, ◌⊎◌, inl, inr, ⊎_elim, ℕ, List, length, IsTrue, refl, sym, subst}
 use Rattle.st_host.specs.Files.{Files}
 use Rattle.st_host.specs.Runs.{IsAtRest}
 use Rattle.st_host.specs.declared.host.Host.{Ghosts}
+use Rattle.st_store.specs.Founding.{IsNoStore}
+use Rattle.st_store.specs.Names.{roots_file}
 use Rattle.st_model.specs.Image.{image_head}
 use Rattle.st_image.proofs.Begun.{begun}
 use Rattle.st_install.specs.Defining.{installed}
@@ -12,8 +14,10 @@ use Rattle.st_recover.specs.Replays.{replay}
 use Rattle.st_protocol.specs.declared.status.Status.{Status}
 use Rattle.st_session.specs.declared.making.Origin.{Origin}
 use Rattle.st_session.specs.Condensings.{IsWhole}
-use Rattle.st_session.specs.Makings.{Contents, commit_of}
-use Rattle.st_session.specs.Joining.{BeginsWith, MayBegin, RestJoins, SessionJoins, ExportJoins, CondenseJoins, MakingJoins}
+use Rattle.st_session.specs.Makings.{Contents, commit_of, IsBeingMade}
+use Rattle.st_session.specs.Joining.{BeginsWith, MayBegin, RestJoins, ReadyJoins, SessionJoins, FollowedJoins, RefusedJoins, ExportJoins, CondenseJoins, MakingJoins, BegunJoins}
+use Rattle.st_session.proofs.Commanded.{opens_still}
+use Rattle.st_session.proofs.Readied.{rest_ready}
 
 -- what some files open as can be begun with, where the store rests as it
 rest_begins : {E : Type 0} (after : Ghosts E) (name : List ℕ) (c : Commit) (f : Files) (h : E) → OpensAs name c f → IsAtRest after (OpensAs name) c h → MayBegin after name c h
@@ -34,11 +38,23 @@ opened_begins after name c f h opens begins =
 pub rest_joins : {D : Type 0} (host : Ghosts D) → ((h : D) (n : List ℕ) → IsTrue host.is_told → host.may_leave h n (host.files h n)) → RestJoins host
 rest_joins host reads name c h told rest = rest_begins host name c (host.files h) h (rest.opens_as (host.files h) (λ n. reads h n told)) rest
 
+pub ready_joins : {D : Type 0} (host : Ghosts D) → ((h : D) (n : List ℕ) → IsTrue host.is_told → host.may_leave h n (host.files h n)) → ReadyJoins host
+ready_joins host reads name c h told rest = rest_ready host h name c (λ n. reads h n told) rest
+
 module _ {D E : Type 0} (host : Ghosts D) (after : Ghosts E) where
   pub session_joins : SessionJoins host after
   session_joins name commits old new status promise f s left h begins =
       let p = promise.moments.each f s left in
       (p, opened_begins after name p.commit f h p.opens_as begins)
+
+  pub followed_joins : FollowedJoins host after
+  followed_joins name script left old new status told at f s left_files h begins =
+      let p = (at.ends.moments told).each f s left_files in
+      (p, opened_begins after name p.commit f h p.opens_as begins)
+
+  pub refused_joins : ((h : D) (n : List ℕ) → IsTrue host.is_told → host.may_leave h n (host.files h n)) → RefusedJoins host after
+  refused_joins reads name c old new status told rest at f s left h begins =
+      opened_begins after name c f h (opens_still host name old c rest (λ n. reads old n told) f (at.moments.each f s left).1) begins
 
   pub export_joins : ExportJoins host after
   export_joins name c old new stays f s left h begins = opened_begins after name c f h (stays.moments.each f s left) begins
@@ -53,3 +69,11 @@ module _ {D E : Type 0} (host : Ghosts D) (after : Ghosts E) where
   pub making_joins : (origin : Origin) (right : Contents → Type 0) (wrong : Status → Type 0) → MakingJoins host after origin right wrong
   making_joins origin right wrong name c old new moments is f s left said h begins =
       opened_begins after name (commit_of c) f h ((moments.each f s left).said c is said) begins
+
+  pub begun_joins : (origin : Origin) (right : Contents → Type 0) (wrong : Status → Type 0) → BegunJoins host after origin right wrong
+  begun_joins origin right wrong name old new moments f s left h begins = by (moments.each f s left).files
+    where
+      by : ((n : List ℕ) → host.may_leave old n (f n)) ⊎ IsBeingMade host origin right wrong name old f
+          → ((n : List ℕ) → host.may_leave old n (f n)) ⊎ (IsNoStore (f (roots_file name)) ⊎ ((c : Contents) × right c × MayBegin after name (commit_of c) h))
+      by (inl could) = inl could
+      by (inr made) = inr (⊎_elim (λ none. inl none) (λ opens. inr (made.0, made.1, opened_begins after name (commit_of made.0) f h opens begins)) made.3)

@@ -9,6 +9,7 @@ pub mod Drilled
 pub mod Ending
 pub mod Exported
 pub mod Following
+pub mod Grouping
 pub mod Holding
 pub mod Joining
 pub mod LastLines
@@ -17,6 +18,7 @@ pub mod Lines
 pub mod Looking
 pub mod Made
 pub mod Points
+pub mod Readied
 pub mod Reported
 pub mod Requests
 pub mod Responding

@@ -1,5 +1,5 @@
 -- Worked sessions.
-use Rattle.std.proofs.Common.{◌≡◌, List, [], ◌∷◌, ℕ, true, refl}
+use Rattle.std.proofs.Common.{◌≡◌, List, [], ◌∷◌, ℕ, true, false, refl}
 use Rattle.std.specs.Prelude.{codes}
 use Rattle.st_model.specs.declared.dead.Dead.TheVariants.{Sp}
 use Rattle.st_model.specs.declared.kind.Kind.TheVariants.{Bytes}
@@ -9,6 +9,7 @@ use Rattle.st_model.specs.Machine.{State, Went}
 use Rattle.st_model.specs.Births.{Births}
 use Rattle.st_chunk.specs.Lines.{with_arguments, alone, ask_with, ask_alone, number, line_ask, line_request}
 use Rattle.st_chunk.specs.Reading.{read, end_read}
+use Rattle.st_chunk.specs.Scripts.{Asked, Defines, asked}
 use Rattle.st_protocol.specs.declared.refusal.Refusal.TheVariants.{NoClass}
 use Rattle.st_protocol.specs.declared.status.Status.TheVariants.{Done, Script}
 use Rattle.st_protocol.specs.Courses.{Course, Reply, Goes, Ends, replies}
@@ -46,6 +47,14 @@ cut_off : over_the_dead (codes "used\n!Point methodsFor: 'a'!\nx ^x!")
     ≡ Ends (Reply (opening_text 0 []) ∷ Reply (dead_text 0 Sp) ∷ Reply (dead_text 0 Sp) ∷ []) (Script 3)
 unfolding session read end_read line_request line_ask alone with_arguments ask_alone ask_with number
 cut_off = refl
+
+-- a method that begins at the mark of the one before it has all of its bytes
+abbrev method : List ℕ → Asked
+method text = Defines (record { class = codes "Point"; meta = false; category = codes "a"; text = text })
+
+methods_without_blanks : asked (codes "!Point methodsFor: 'a'!x ^x!y ^y! !") ≡ method (codes "x ^x") ∷ method (codes "y ^y") ∷ []
+unfolding read end_read line_request line_ask alone with_arguments ask_alone ask_with number
+methods_without_blanks = refl
 
 -- the book's machine with one object, a String of the letter H
 abbrev with_a_letter : State Births → State Births

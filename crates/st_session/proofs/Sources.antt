@@ -1,5 +1,5 @@
 -- The text that is defined as a method's last one is that of the last definition.
-use Rattle.std.proofs.Common.{◌≡◌, ℕ, Bool, true, false, true≢false, List, [], ◌∷◌, refl, sym, ap, ◌∙◌}
+use Rattle.std.proofs.Common.{◌≡◌, ℕ, Bool, true, false, true≢false, List, [], ◌∷◌, ◌++◌, get_or, drop, refl, sym, ap, subst, ◌∙◌}
 use Rattle.std.specs.Prelude.{◌&&◌, bytes_eq, Option, Some, None, MatchOption, Result, Ok, Err, if◌then◌else◌}
 use Rattle.std.specs.Bool.{beq}
 use Rattle.std.specs.Option.{option_or}
@@ -17,8 +17,12 @@ use Rattle.st_browse.specs.Decompiling.{IsKeptOrMade, IsShown}
 use Rattle.st_session.specs.Decompiled.{made_text}
 use Rattle.st_session.proofs.Written.{made_is}
 use Rattle.st_grammar.specs.Syntax.{syntax}
+use Rattle.st_recover.specs.Commits.{Commit, all_of}
+use Rattle.st_recover.specs.Condensed.{IsCondensed}
+use Rattle.st_recover.proofs.Condensing.{same_last, same_nowhere}
 use Rattle.st_session.specs.Sources.{is_named, is_of, last_text, shown_text, text_for}
-use Rattle.st_changes.proofs.KeptLast.{all_cons}
+use Rattle.st_chunk.proofs.Cases.{by_test}
+use Rattle.st_changes.proofs.KeptLast.{all_head, all_tail, all_cons}
 use Rattle.st_changes.proofs.Lasts.{none_of}
 
 -- THE SELECTOR
@@ -70,6 +74,35 @@ module _ (side : Side) (selector : List ℕ) where
   last_is [] = none_of (λ x. IsOf side.class side.meta selector x → ⊥)
   last_is (d ∷ ds) = with_one d ds (last_text ds side selector) (is_of side selector d) refl (last_is ds)
 
+  nothing_there : (before behind : List Definition) (d : Definition) → [] ≡ before ++ d ∷ behind → ⊥
+  nothing_there [] behind d is = cc
+  nothing_there (x ∷ before) behind d is = cc
+
+  -- there is one such text, or none
+  last_only : (ds : List Definition) (o : Option (List ℕ)) → IsText ds o → last_text ds side selector ≡ o
+  last_only [] None h = refl
+  last_only [] (Some text) h = absurd (nothing_there h.before h.behind h.last h.is)
+  last_only (d ∷ ds) None h =
+      let other = all_head (λ x. IsOf side.class side.meta selector x → ⊥) d ds h in
+      let is : is_of side selector d ≡ false = by_test (is_of side selector d) (λ e. absurd (other (meets side selector d e))) (λ e. e) in
+      ap (λ (o : Option (List ℕ)). option_or o (if is_of side selector d then Some d.text else None)) (last_only ds None (all_tail (λ x. IsOf side.class side.meta selector x → ⊥) d ds h))
+      ∙ ap (λ (t : Bool). if t then Some d.text else None) is
+  last_only (d ∷ ds) (Some text) h = by (λ o rest. last_only ds o rest) h.before h.last h.behind h.is h.of h.none h.text_is
+    where
+      by : ((o : Option (List ℕ)) → IsText ds o → last_text ds side selector ≡ o) → (before : List Definition) (e : Definition) (behind : List Definition) → d ∷ ds ≡ before ++ e ∷ behind
+          → IsOf side.class side.meta selector e → IsNowhere behind side.class side.meta selector → text ≡ e.text → last_text (d ∷ ds) side selector ≡ Some text
+      by only [] e behind is of none same =
+          let its : d ≡ e = ap (λ (xs : List Definition). get_or xs 0 d) is in
+          let others : ds ≡ behind = ap (λ (xs : List Definition). drop 1 xs) is in
+          let here : is_of side selector d ≡ true =
+          by_test (is_of side selector d) (λ t. t) (λ f. absurd (fails side selector d f (subst (IsOf side.class side.meta selector) (sym its) of))) in
+          ap (λ (o : Option (List ℕ)). option_or o (if is_of side selector d then Some d.text else None)) (only None (subst (λ (xs : List Definition). IsNowhere xs side.class side.meta selector) (sym others) none))
+          ∙ ap (λ (t : Bool). if t then Some d.text else None) here
+          ∙ ap Some (ap (λ (x : Definition). x.text) its ∙ sym same)
+      by only (y ∷ before) e behind is of none same =
+          ap (λ (o : Option (List ℕ)). option_or o (if is_of side selector d then Some d.text else None))
+          (only (Some text) (record { before = before; last = e; behind = behind; is = ap (λ (xs : List Definition). drop 1 xs) is; of = of; none = none; text_is = same }))
+
 pub text_is : (ds : List Definition) (ask : Ask) → IsTextFor ds ask (text_for (last_text ds) ask)
 text_is ds (Object pointer) = tt
 text_is ds Display = tt
@@ -87,3 +120,13 @@ shown_is v ds side selector = record { kept = last_text ds side selector; is_kep
     by : (kept : Option (List ℕ)) → IsKeptOrMade v side selector kept (option_or kept (made_text v side selector))
     by (Some text) = refl
     by None = made_is v side selector
+
+-- a condensed store shows the same
+pub condensed_shows : (v : View) (c d : Commit) (side : Side) (selector : List ℕ) → IsCondensed c d → shown_text v (all_of d) side selector ≡ shown_text v (all_of c) side selector
+condensed_shows v c d side selector is =
+    ap (λ (o : Option (List ℕ)). option_or o (made_text v side selector))
+    (last_only side selector (all_of d) (last_text (all_of c) side selector) (still (last_text (all_of c) side selector) (last_is side selector (all_of c))))
+  where
+    still : (o : Option (List ℕ)) → IsText side selector (all_of c) o → IsText side selector (all_of d) o
+    still None none = same_nowhere c d is side.class side.meta selector none
+    still (Some text) last = same_last c d is side.class side.meta selector text last

@@ -7,7 +7,7 @@ use Rattle.st_host.specs.declared.host.Host.{Ghosts}
 use Rattle.st_chunk.specs.Definitions.{Definition}
 use Rattle.st_store.specs.Faults.{RestsUnlessGate}
 use Rattle.st_store.specs.Names.{IsNoFileOf}
-use Rattle.st_store.specs.Stored.{StoreState, IsKept}
+use Rattle.st_store.specs.Stored.{StoreState, IsKept, IsReady}
 use Rattle.st_protocol.specs.declared.status.Status.{Status}
 use Rattle.st_protocol.specs.declared.status.Status.TheVariants.{Done, SayFault, DiskFault, OutOfMemory}
 use Rattle.st_recover.specs.Commits.{Commit, OpensAs, all_of, stored_of}
@@ -18,7 +18,7 @@ use Rattle.st_call.specs.LastLines.{last_line, SaysLastLine}
 use Rattle.st_call.specs.Replies.{condensed_text}
 use Rattle.st_session.specs.Ends.{IsCalm}
 use Rattle.st_session.specs.Exports.{AllSaid, PartSaid, IsOfExport, OpensWhole}
-use Rattle.st_session.specs.Resting.{GateFailed}
+use Rattle.st_session.specs.Resting.{GateFailed, OpensFrom}
 use Rattle.st_session.specs.StoreSessions.{IsRefused}
 
 module _ {D : Type 0} (host : Ghosts D) where
@@ -67,6 +67,13 @@ module _ {D : Type 0} (host : Ghosts D) where
       pub commit : Commit
       pub opens : OpensAs name commit (host.files old)
       pub has : CondenseHas name commit old new status
+      -- at each moment of the opening a stop leaves what it could leave before, or files that open as the commit
+      pub opened : D
+      pub meanwhile : LeavesOnly host old opened (λ f s. (s ≡ host.said old) × (((n : List ℕ) → host.may_leave old n (f n)) ⊎ OpensAs name commit f))
+      -- these from the first good sync of the roots file on, if each root that could be chosen names what is firm
+      pub settled : IsReady host old name → OpensFrom host (OpensAs name) name commit old opened
+      -- after the opening they open as the commit condensed, or as it was
+      pub moments : LeavesOnly host opened new (IsWhole commit old status)
 
     -- How the command condense ends.
     pub record CondenseEnds (old new : D) (status : Status) : Type 0 where

@@ -13,6 +13,7 @@ use Rattle.st_model.specs.Show.{show}
 use Rattle.st_model.specs.Table.{Table}
 use Rattle.st_model.specs.Text.{dead_text}
 use Rattle.st_store.specs.Names.{IsNoFileOf}
+use Rattle.st_store.specs.Stored.{IsReady}
 use Rattle.st_protocol.specs.declared.status.Status.{Status}
 use Rattle.st_protocol.specs.Statuses.{Counts}
 use Rattle.st_protocol.specs.declared.status.Status.TheVariants.{Done, Script, ReadFault, SayFault, DiskFault, OutOfMemory}
@@ -26,6 +27,7 @@ use Rattle.st_call.specs.Replies.{exported_text, cleaned_text}
 use Rattle.st_session.specs.Ends.{IsCalm}
 use Rattle.st_session.specs.declared.extent.Extent.{Extent}
 use Rattle.st_session.specs.declared.extent.Extent.TheVariants.{Kept, Reachable}
+use Rattle.st_session.specs.Resting.{OpensFrom}
 use Rattle.st_session.specs.StoreSessions.{IsRefused, IsOfSession}
 
 -- WHAT IS EXPORTED
@@ -149,12 +151,19 @@ module _ {D : Type 0} (host : Ghosts D) (store image : List ℕ) where
   ExportHas exports old new _ = ⊥
 
 module _ {D : Type 0} (host : Ghosts D) (extent : Extent) (store image : List ℕ) where
-  -- The store is opened as the commit that its files hold, and the state that this opens as is saved and exported.
+  -- The store is opened as the commit that its files hold, and the state that this opens as is saved and exported. IMAGE is no file of
+  -- the store in what is said of stops.
   pub record IsExported (old new : D) (status : Status) : Type 0 where
     pub commit : Commit
     pub replayed : Replayed
     pub opened : OpensWhole store (host.files old) commit replayed
     pub has : ExportHas host store image (ExportsState extent replayed.state) old new status
+    -- at each moment a stop leaves what it could leave before, or files that open as this commit
+    pub meanwhile : IsNoFileOf store image → LeavesOnly host old new (λ f s. ((n : List ℕ) → host.may_leave old n (f n)) ⊎ OpensAs store commit f)
+    -- after the call they open so, whatever a stop could leave before
+    pub rests : IsNoFileOf store image → IsAtRest host (OpensAs store) commit new
+    -- and from the first good sync of the roots file on, if each root that could be chosen names what is firm
+    pub settled : IsNoFileOf store image → IsReady host old store → OpensFrom host (OpensAs store) store commit old new
 
   -- How the command export ends, or for what can be reached the command clean.
   pub record ExportEnds (old new : D) (status : Status) : Type 0 where

@@ -3,6 +3,9 @@ use Rattle.std.specs.Prelude.{◌≡◌, ◌⊎◌, ◌++◌, ℕ, List, Option,
 use Rattle.st_host.specs.Files.{Files}
 use Rattle.st_host.specs.Runs.{LeavesOnly, IsAtRest}
 use Rattle.st_host.specs.declared.host.Host.{Ghosts}
+use Rattle.st_store.specs.Founding.{IsNoStore}
+use Rattle.st_store.specs.Names.{roots_file}
+use Rattle.st_store.specs.Stored.{IsReady}
 use Rattle.st_protocol.specs.declared.status.Status.{Status}
 use Rattle.st_protocol.specs.Acknowledged.{Promised}
 use Rattle.st_install.specs.Defining.{installed}
@@ -14,7 +17,7 @@ use Rattle.st_session.specs.declared.making.Origin.{Origin}
 use Rattle.st_session.specs.Condensings.{IsWhole}
 use Rattle.st_session.specs.Exports.{Stays}
 use Rattle.st_session.specs.Makings.{Contents, commit_of, made_text, IsMaking}
-use Rattle.st_session.specs.StoreSessions.{KeepsPromise}
+use Rattle.st_session.specs.StoreSessions.{IsRefused, IsFollowed, KeepsPromise, commits_over}
 
 -- A host begins with these files, as after a stop that left them: a stop now leaves just these.
 abbrev pub BeginsWith : {D : Type 0} → Ghosts D → D → Files → Type 0
@@ -31,6 +34,10 @@ pub record MayBegin {D : Type 0} (host : Ghosts D) (name : List ℕ) (c : Commit
 abbrev pub RestJoins : {D : Type 0} → Ghosts D → Type 0
 RestJoins {D = D} host = (name : List ℕ) (c : Commit) (h : D) → IsTrue host.is_told → IsAtRest host (OpensAs name) c h → MayBegin host name c h
 
+-- Each root that a stop may leave chosen names what is firm: what an opening asks for from which on there is one answer.
+abbrev pub ReadyJoins : {D : Type 0} → Ghosts D → Type 0
+ReadyJoins {D = D} host = (name : List ℕ) (c : Commit) (h : D) → IsTrue host.is_told → IsAtRest host (OpensAs name) c h → IsReady host h name
+
 module _ {D E : Type 0} (host : Ghosts D) (after : Ghosts E) where
   -- Behind a session that a stop ended, at any moment: with the commit whose number is that of those acknowledged by then, or with the
   -- next.
@@ -38,6 +45,17 @@ module _ {D E : Type 0} (host : Ghosts D) (after : Ghosts E) where
   SessionJoins = (name : List ℕ) (commits : List Commit) (old new : D) (status : Status) → KeepsPromise host name commits old new status
       → (f : Files) (s : List ℕ) → host.left_since new (host.moment old) f s → (h : E) → BeginsWith after h f
       → (p : Promised (OpensAs name) commits (host.said old) f s) × MayBegin after name p.commit h
+
+  -- The same where the store wasn't at rest as the session began, at any moment from the opening's end on.
+  abbrev pub FollowedJoins : Type 0
+  FollowedJoins = (name script left : List ℕ) (old new : D) (status : Status) → IsTrue host.is_told → (at : IsFollowed host name script left old new status)
+      → (f : Files) (s : List ℕ) → host.left_since at.closed (host.moment at.opened) f s → (h : E) → BeginsWith after h f
+      → (p : Promised (OpensAs name) (commits_over at.commit at.replayed script) (host.said at.opened) f s) × MayBegin after name p.commit h
+
+  -- after an opening that was refused for want of memory or by a fault of the disk, of a store that was at rest, at any moment
+  abbrev pub RefusedJoins : Type 0
+  RefusedJoins = (name : List ℕ) (c : Commit) (old new : D) (status : Status) → IsTrue host.is_told → IsAtRest host (OpensAs name) c old → IsRefused host name old new status
+      → (f : Files) (s : List ℕ) → host.left_since new (host.moment old) f s → (h : E) → BeginsWith after h f → MayBegin after name c h
 
   -- behind an export that a stop ended, at any moment
   abbrev pub ExportJoins : Type 0
@@ -56,3 +74,9 @@ module _ {D E : Type 0} (host : Ghosts D) (after : Ghosts E) where
       → LeavesOnly host old new (IsMaking host origin right wrong name old) → right c
       → (f : Files) (s : List ℕ) → host.left_since new (host.moment old) f s → s ≡ host.said old ++ made_text origin c
       → (h : E) → BeginsWith after h f → MayBegin after name (commit_of c) h
+
+  -- At any moment of a making that a stop ended: nothing was changed, or there is no store, or there is the new one.
+  abbrev pub BegunJoins : Origin → (Contents → Type 0) → (Status → Type 0) → Type 0
+  BegunJoins origin right wrong = (name : List ℕ) (old new : D) → LeavesOnly host old new (IsMaking host origin right wrong name old)
+      → (f : Files) (s : List ℕ) → host.left_since new (host.moment old) f s → (h : E) → BeginsWith after h f
+      → ((n : List ℕ) → host.may_leave old n (f n)) ⊎ (IsNoStore (f (roots_file name)) ⊎ ((c : Contents) × right c × MayBegin after name (commit_of c) h))

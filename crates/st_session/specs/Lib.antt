@@ -10,6 +10,7 @@ pub mod Asking
 pub mod Watching
 pub mod Answers
 pub mod Traces
+pub mod ScriptGroups
 pub mod Sessions
 pub mod Resting
 pub mod Ends

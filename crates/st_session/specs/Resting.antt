@@ -1,14 +1,21 @@
 -- What a stop may leave of a store behind a session, by the commits that this made.
 use Rattle.std.specs.Prelude.{◌≡◌, ◌⊎◌, ℕ, suc, List, ◌++◌, slice_get, Some}
 use Rattle.st_host.specs.Files.{Files}
-use Rattle.st_host.specs.Runs.{IsAtRest}
+use Rattle.st_host.specs.Runs.{LeavesOnly, Syncs, IsAtRest}
 use Rattle.st_host.specs.Stops.{SameStops}
 use Rattle.st_host.specs.declared.host.Host.{Ghosts}
 use Rattle.st_store.specs.Faults.{FailsAt}
+use Rattle.st_store.specs.Names.{roots_file}
 use Rattle.st_protocol.specs.Acknowledged.{acknowledged}
 use Rattle.st_protocol.specs.Done.{RestsAsOne}
 
 module _ {D : Type 0} (host : Ghosts D) {C : Type 0} (opens : C → Files → Type 0) where
+  -- From a sync of the roots file on a stop leaves files that open as this.
+  pub record OpensFrom (name : List ℕ) (c : C) (old new : D) : Type 0 where
+    pub synced : D
+    pub first : Syncs host (roots_file name) old synced
+    pub moments : LeavesOnly host synced new (λ f s. opens c f)
+
   -- A write of n bytes at a place of the roots file failed, or its sync, where files opened as this, and behind that no file was
   -- touched.
   pub record HasFailed (at n : ℕ) (name : List ℕ) (c : C) (new : D) : Type 0 where

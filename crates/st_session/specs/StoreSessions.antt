@@ -65,8 +65,9 @@ module _ {D : Type 0} (host : Ghosts D) (name : List ℕ) where
     pub elsewhere : LeavesOnly host old new (λ f s. (n : List ℕ) → n ≢ roots_file name → host.may_leave old n (f n))
     -- where the image or the changes are refused, each state that a stop may leave behind it opens as what was read
     pub rests : IsOfNamed fault → (c : Stored) → Opens name c (host.files old) → IsAtRest host (Opens name) c new
-    -- Where all that a root names which could be chosen is firm: no more than the first sync of the roots file was tried, or from that
-    -- sync on there is one answer. Behind the opening nothing is done but that the last line is said.
+    -- Where all that a root names which could be chosen is firm: a stop leaves of the roots file no more than it could leave, and of every
+    -- other file just what it could; or from a sync of the roots file on there is one answer. Behind the opening nothing is done but that
+    -- the last line is said.
     pub opened : D
     pub settles : IsReady host old name → Settles host name old opened
     pub behind : ReadsAndSays host (last_line status) opened new

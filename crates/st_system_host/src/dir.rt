@@ -1,7 +1,7 @@
 // The host of the real program. It tells nothing of what files and output hold.
 ghost use Rattle.std.specs.Prelude.{◌≡◌, ◌≤◌, false, None, [], length, IfOk};
 ghost use Rattle.st_host.specs.Counts.{HasCause};
-ghost use Rattle.st_system_host.specs.Untold.{untold, CountsOnce};
+ghost use Rattle.st_system_host.specs.{Refusing.StaysRefused, Untold.{untold, CountsOnce}};
 
 use crate::guard::{Guard, Place, Refusal};
 use st_host::{Host, HostFault, SayFault};
@@ -52,14 +52,17 @@ impl<R: Files<File = File> + Print + Drop> DirHost<R> {
     }
 
     /// Why calls on files fail that the files themselves would allow.
-    pub fn refusal(&self) -> Option<Refusal> {
+    pub fn refusal(&self) -> Option<Refusal>
+        ensures { result ≡ self.now.guard.refusal }
+    {
         self.guard.refusal()
     }
 
     // None where there is no such file.
     fn open(&mut self, name: &str) -> io::Result<Option<File>>
-        ensures { KeepsCounts self.old.disk_faults self.old.say_faults
+        ensures counts { KeepsCounts self.old.disk_faults self.old.say_faults
             self.new.disk_faults self.new.say_faults }
+        ensures refused { StaysRefused self.old.guard.refusal self.new.guard.refusal result }
     {
         match self.guard.admit(&self.rt, name)? {
             Place::Absent => Ok(None),
@@ -68,8 +71,9 @@ impl<R: Files<File = File> + Print + Drop> DirHost<R> {
     }
 
     fn file_length(&mut self, name: &str) -> io::Result<Option<u64>>
-        ensures { KeepsCounts self.old.disk_faults self.old.say_faults
+        ensures counts { KeepsCounts self.old.disk_faults self.old.say_faults
             self.new.disk_faults self.new.say_faults }
+        ensures refused { StaysRefused self.old.guard.refusal self.new.guard.refusal result }
     {
         match self.open(name)? {
             Some(file) => Ok(Some(file.metadata()?.len())),
@@ -81,6 +85,7 @@ impl<R: Files<File = File> + Print + Drop> DirHost<R> {
         ensures within { IfOk result (λ k. k ≤ length into.old) }
         ensures counts { KeepsCounts self.old.disk_faults self.old.say_faults
             self.new.disk_faults self.new.say_faults }
+        ensures refused { StaysRefused self.old.guard.refusal self.new.guard.refusal result }
     {
         match self.open(name)? {
             Some(mut file) => {
@@ -93,8 +98,9 @@ impl<R: Files<File = File> + Print + Drop> DirHost<R> {
     }
 
     fn write(&mut self, name: &str, at: u64, bytes: &[u8]) -> io::Result<()>
-        ensures { KeepsCounts self.old.disk_faults self.old.say_faults
+        ensures counts { KeepsCounts self.old.disk_faults self.old.say_faults
             self.new.disk_faults self.new.say_faults }
+        ensures refused { StaysRefused self.old.guard.refusal self.new.guard.refusal result }
     {
         let mut file = self.open_to_write(name)?;
         file.seek(SeekFrom::Start(at))?;
@@ -102,8 +108,9 @@ impl<R: Files<File = File> + Print + Drop> DirHost<R> {
     }
 
     fn set_length(&mut self, name: &str, len: u64) -> io::Result<()>
-        ensures { KeepsCounts self.old.disk_faults self.old.say_faults
+        ensures counts { KeepsCounts self.old.disk_faults self.old.say_faults
             self.new.disk_faults self.new.say_faults }
+        ensures refused { StaysRefused self.old.guard.refusal self.new.guard.refusal result }
     {
         let file = self.open_to_write(name)?;
         file.set_len(len)
@@ -111,8 +118,9 @@ impl<R: Files<File = File> + Print + Drop> DirHost<R> {
 
     // The file is made where there is none.
     fn open_to_write(&mut self, name: &str) -> io::Result<File>
-        ensures { KeepsCounts self.old.disk_faults self.old.say_faults
+        ensures counts { KeepsCounts self.old.disk_faults self.old.say_faults
             self.new.disk_faults self.new.say_faults }
+        ensures refused { StaysRefused self.old.guard.refusal self.new.guard.refusal result }
     {
         match self.guard.admit(&self.rt, name)? {
             Place::Held => {}
@@ -145,8 +153,9 @@ impl<R: Files<File = File> + Print + Drop> DirHost<R> {
 
     // The folder of a file that this host has made since is synced behind it. No clause says so.
     fn sync_file(&mut self, name: &str) -> io::Result<()>
-        ensures { KeepsCounts self.old.disk_faults self.old.say_faults
+        ensures counts { KeepsCounts self.old.disk_faults self.old.say_faults
             self.new.disk_faults self.new.say_faults }
+        ensures refused { StaysRefused self.old.guard.refusal self.new.guard.refusal result }
     {
         match self.open(name)? {
             Some(file) => file.sync_all()?,
@@ -210,6 +219,7 @@ impl<R: Files<File = File> + Print + Drop> Host for DirHost<R> {
     ghost only_now = { λ _ _ _ told _. untold told };
 
     fn length(&mut self, name: &str) -> Result<Option<u64>, HostFault>
+        ensures refused { StaysRefused self.old.guard.refusal self.new.guard.refusal result }
         ensures once { CountsOnce self.old.disk_faults self.new.disk_faults result }
         ensures cause { HasCause self.old.disk_faults self.new.disk_faults result }
         ensures say_count { self.new.say_faults ≡ self.old.say_faults }
@@ -225,6 +235,7 @@ impl<R: Files<File = File> + Print + Drop> Host for DirHost<R> {
 
     fn read_at(&mut self, name: &str, at: u64, into: &mut [u8]) -> Result<usize, HostFault>
         ensures within { IfOk result (λ k. k ≤ length into.old) }
+        ensures refused { StaysRefused self.old.guard.refusal self.new.guard.refusal result }
         ensures once { CountsOnce self.old.disk_faults self.new.disk_faults result }
         ensures cause { HasCause self.old.disk_faults self.new.disk_faults result }
         ensures say_count { self.new.say_faults ≡ self.old.say_faults }
@@ -239,6 +250,7 @@ impl<R: Files<File = File> + Print + Drop> Host for DirHost<R> {
     }
 
     fn write_at(&mut self, name: &str, at: u64, bytes: &[u8]) -> Result<(), HostFault>
+        ensures refused { StaysRefused self.old.guard.refusal self.new.guard.refusal result }
         ensures once { CountsOnce self.old.disk_faults self.new.disk_faults result }
         ensures cause { HasCause self.old.disk_faults self.new.disk_faults result }
         ensures say_count { self.new.say_faults ≡ self.old.say_faults }
@@ -253,6 +265,7 @@ impl<R: Files<File = File> + Print + Drop> Host for DirHost<R> {
     }
 
     fn cut(&mut self, name: &str, len: u64) -> Result<(), HostFault>
+        ensures refused { StaysRefused self.old.guard.refusal self.new.guard.refusal result }
         ensures once { CountsOnce self.old.disk_faults self.new.disk_faults result }
         ensures cause { HasCause self.old.disk_faults self.new.disk_faults result }
         ensures say_count { self.new.say_faults ≡ self.old.say_faults }
@@ -267,6 +280,7 @@ impl<R: Files<File = File> + Print + Drop> Host for DirHost<R> {
     }
 
     fn sync(&mut self, name: &str) -> Result<(), HostFault>
+        ensures refused { StaysRefused self.old.guard.refusal self.new.guard.refusal result }
         ensures once { CountsOnce self.old.disk_faults self.new.disk_faults result }
         ensures cause { HasCause self.old.disk_faults self.new.disk_faults result }
         ensures say_count { self.new.say_faults ≡ self.old.say_faults }

@@ -1,4 +1,7 @@
 // That no store is lost by a mistake: one process at a time has its files, and none is written over that is there.
+ghost use Rattle.std.specs.Prelude.{◌≡◌};
+ghost use Rattle.st_system_host.specs.Refusing.{StaysRefused};
+
 use arrayvec::ArrayString;
 use std::fmt::{self, Display, Formatter};
 use std::fs::{self, File, Metadata, OpenOptions, TryLockError};
@@ -78,12 +81,16 @@ impl Guard {
         }
     }
 
-    pub(crate) fn refusal(&self) -> Option<Refusal> {
+    pub(crate) fn refusal(&self) -> Option<Refusal>
+        ensures { result ≡ self.now.refusal }
+    {
         self.refusal
     }
 
     /// Locks a roots file that is there, before anything else is done with it. A call on a file comes behind this.
-    pub(crate) fn admit<R: Files<File = File>>(&mut self, rt: &R, name: &str) -> io::Result<Place> {
+    pub(crate) fn admit<R: Files<File = File>>(&mut self, rt: &R, name: &str) -> io::Result<Place>
+        ensures { StaysRefused self.old.refusal self.new.refusal result }
+    {
         if self.refusal.is_some() {
             return Err(refused());
         }

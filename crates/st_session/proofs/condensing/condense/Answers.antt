@@ -1,16 +1,18 @@
 use Rattle.std.proofs.Common.{ℕ, List, IsTrue, inl, inr, refl, sym, subst, arith}
 use Rattle.st_host.proofs.Touching.{spares_join}
 use Rattle.st_store.specs.Names.{IsNoFileOf}
+use Rattle.st_store.specs.Stored.{IsChosen}
 use Rattle.st_protocol.specs.declared.status.Status.{Status}
 use Rattle.st_protocol.specs.Statuses.{StatusHasCause}
+use Rattle.st_recover.specs.Commits.{stored_of}
 use Rattle.st_recover.proofs.Determined.{same_commit}
 use Rattle.st_call.specs.LastLines.{last_line, SaysLastLine}
 use Rattle.st_host.specs.Runs.{ReadsAndSays, Spares}
 use Rattle.st_session.specs.Ends.{status_in}
 use Rattle.st_session.specs.Exports.{IsOfExport}
 use Rattle.st_session.specs.Condensings.{DoesCondense, CondenseEnds}
-use Rattle.st_session.proofs.Commanded.{refused_so, refused_cause, refused_complete}
-use Rattle.st_session.proofs.Condensed.{condense_has, condensing_whole, refused_whole_moments}
+use Rattle.st_session.proofs.Commanded.{refused_so, refused_cause, refused_complete, settled_from}
+use Rattle.st_session.proofs.Condensed.{condense_has, condensing_since, condensing_whole, opening_so, refused_whole_moments}
 use Rattle.st_session.proofs.Exported.{cause_done, done_or_full, kind_in, kind_unopened, names_said}
 use Rattle.st_session.proofs.condensing.condense.Goals as goal
 
@@ -38,18 +40,25 @@ returns-in-Ok-clause-ends g c =
     let does : (told : IsTrue host.is_told) → DoesCondense host store (opened.opened told).0 mid closed r = λ told.
     let at = (opened.opened told).1 in
     subst (λ n. DoesCondense host n (opened.opened told).0 mid closed r) opened.named (did.does (opened.opened told).0 told (record { listed_is = at.listed; kept = at.kept; readable = at.opens.readable })) in
+    let since = λ (told : IsTrue host.is_told).
+    condensing_since host store (opened.opened told).0 (status_in r) old mid closed new told (opened.only.quiet told) (does told).moments
+    (λ f can. g.met.H.Host.counts_now closed (host.moment mid) f (host.said closed) told (does told).moments.later (can, refl)) reads in
     subst (λ (x : Status). CondenseEnds host store old new x) (sym is) (record {
-      over = λ told. inr (record {
+      over = λ told. let at = (opened.opened told).1 in inr (record {
         commit = (opened.opened told).0;
-        opens = (opened.opened told).1.opens;
+        opens = at.opens;
+        opened = mid;
+        meanwhile = opening_so host store (opened.opened told).0 old mid at.opens (opened.moments told);
+        settled = λ ready. settled_from host store (opened.opened told).0 o.store.chosen o.store.root.slot old mid (λ f s left. g.met.H.Host.only_now mid f s told left) (λ n. g.met.H.Host.read_counts mid n told) at.opens
+            (subst (λ n. IsChosen host mid n o.store.chosen (stored_of o.store.root.slot (opened.opened told).0)) opened.named at.kept.is) (opened.settles told ready);
+        moments = since told;
         has = condense_has host store (opened.opened told).0 r old mid closed new told did.kind (does told).has (opened.only.quiet told) (omega (arith, opened.only.say, did.counts.say)) reads said;
       });
       whole = λ told k rest.
           let at = (opened.opened told).1 in
           let here : (n : List ℕ) → host.may_leave old n (host.files old n) = λ n. g.met.H.Host.read_counts old n told in
           let same = same_commit store (opened.opened told).0 k (host.files old) at.opens (rest.opens_as (host.files old) here) in
-          condensing_whole host store (opened.opened told).0 k (status_in r) old mid closed new told same rest here (opened.moments told) (opened.only.quiet told) (does told).moments
-          (λ f can. g.met.H.Host.counts_now closed (host.moment mid) f (host.said closed) told (does told).moments.later (can, refl)) reads;
+          condensing_whole host store (opened.opened told).0 k (status_in r) old mid new same rest here (opened.moments told) (since told);
       complete = λ told k q whole calm. done_or_full host old new r did.kind cause calm;
       kind = kind_in (IsTrue host.is_told) store (host.files old) r did.kind;
       spares = names_said host store store (IsNoFileOf store) _ old closed new

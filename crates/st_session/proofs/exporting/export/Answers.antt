@@ -1,12 +1,14 @@
 use Rattle.std.proofs.Common.{◌≢◌, IsTrue, inl, inr, sym, subst, arith}
 use Rattle.st_host.proofs.Touching.{spares_join, spares_fewer}
 use Rattle.st_store.specs.Names.{IsNoFileOf}
+use Rattle.st_store.specs.Stored.{IsChosen}
+use Rattle.st_recover.specs.Commits.{stored_of}
 use Rattle.st_protocol.specs.declared.status.Status.{Status}
 use Rattle.st_protocol.specs.Statuses.{StatusHasCause}
 use Rattle.st_call.specs.LastLines.{SaysLastLine}
 use Rattle.st_session.specs.Exports.{ExportsState, IsOfExport, ExportEnds}
-use Rattle.st_session.proofs.Commanded.{refused_so, refused_cause, refused_complete}
-use Rattle.st_session.proofs.Exported.{cause_done, done_or_full, kind_in, kind_unopened, export_has, exported_stays, refused_stays, names_said}
+use Rattle.st_session.proofs.Commanded.{refused_so, refused_cause, refused_complete, settled_from}
+use Rattle.st_session.proofs.Exported.{cause_done, done_or_full, kind_in, kind_unopened, export_has, exported_meanwhile, exported_rests, exported_settled, exported_stays, refused_stays, names_said}
 use Rattle.st_session.proofs.exporting.export.Goals as goal
 
 pub returns-in-Ok-clause-cause : goal.returns-in-Ok-clause-cause
@@ -31,12 +33,17 @@ returns-in-Ok-clause-ends g c =
     let said = subst (λ (x : Status). SaysLastLine host x closed new) is line.line in
     let cause = subst (StatusHasCause host ⊥ old new) is (returns-in-Ok-clause-cause g c) in
     subst (λ (x : Status). ExportEnds host c.args.extent store image old new x) (sym is) (record {
-      over = λ told. let at = (opened.opened told).1 in inr (record {
-        commit = (opened.opened told).0;
+      over = λ told. let at = (opened.opened told).1 in let d = (opened.opened told).0 in inr (record {
+        commit = d;
         replayed = at.replayed;
         opened = record { opens = at.opens; reopens = at.reopens };
         has = export_has host store image (ExportsState c.args.extent at.replayed.state) r old mid closed new told did.kind (did.has at.replayed.state at.shows told)
             (λ apart. opened.spares.files told image apart) (opened.only.quiet told) (omega (arith, opened.only.say, did.counts.say)) line.alike said;
+        meanwhile = λ apart. exported_meanwhile host store image d o.store o.store.root.slot _ old mid closed new apart at.opens opened.named at.kept told did.others line.reads (opened.moments told);
+        rests = λ apart. exported_rests host store image d o.store o.store.root.slot _ old mid closed new apart at.opens opened.named at.kept told did.others line.reads;
+        settled = λ apart ready. exported_settled host store image d o.store o.store.root.slot _ old mid closed new apart at.opens opened.named at.kept told did.others line.reads
+            (settled_from host store d o.store.chosen o.store.root.slot old mid (λ f s left. g.met.H.Host.only_now mid f s told left) (λ n. g.met.H.Host.read_counts mid n told) at.opens
+            (subst (λ n. IsChosen host mid n o.store.chosen (stored_of o.store.root.slot d)) opened.named at.kept.is) (opened.settles told ready));
       });
       stays = λ told apart k rest.
           let at = (opened.opened told).1 in
