@@ -10,7 +10,7 @@ use Rattle.st_scope.specs.Texts.{text_at}
 use Rattle.st_browse.specs.Fields.{field_at, fields_in, named}
 use Rattle.st_browse.specs.Classes.{member, global_at, globals_in, is_class, classes, on_side}
 use Rattle.st_browse.specs.Methods.{formed, dictionary_of, if_method, method_at, methods_in, method_named, methods}
-use Rattle.st_browse.specs.Cutting.{codes_of}
+use Rattle.st_parts.specs.Cutting.{codes_of}
 use Rattle.st_browse.specs.Senders.{is_symbol, is_sent, sends, senders}
 use Rattle.st_browse.specs.Sources.{source_text}
 use Rattle.st_browse.specs.Asked.{source_in}

@@ -2,7 +2,6 @@ pub mod Naming
 pub mod Fields
 pub mod Classes
 pub mod Methods
-pub mod Cutting
 pub mod Senders
 pub mod Replies
 pub mod Display

@@ -11,7 +11,7 @@ use Rattle.st_chunk.specs.Groups.{side_text}
 use Rattle.st_browse.specs.Naming.{Named}
 use Rattle.st_browse.specs.Classes.{classes, on_side}
 use Rattle.st_browse.specs.Methods.{methods}
-use Rattle.st_browse.specs.Cutting.{codes_of}
+use Rattle.st_parts.specs.Cutting.{codes_of}
 use Rattle.st_browse.specs.Senders.{senders}
 
 -- a word and a number

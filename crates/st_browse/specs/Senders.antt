@@ -11,7 +11,7 @@ use Rattle.st_scope.specs.Texts.{text_at}
 use Rattle.st_emit.specs.Resolving.{special_selector, first_special}
 use Rattle.st_browse.specs.Naming.{Named}
 use Rattle.st_browse.specs.Methods.{methods, has_method}
-use Rattle.st_browse.specs.Cutting.{codes_of}
+use Rattle.st_parts.specs.Cutting.{codes_of}
 
 -- a Symbol of this text
 unfoldable pub is_symbol : Table → List ℕ → Value → Bool

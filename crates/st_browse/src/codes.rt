@@ -4,13 +4,15 @@ ghost use Rattle.std.specs.Prelude.{◌≡◌, ◌<◌, ◌≤◌, ◌+◌, ◌*
 ghost use Rattle.std.specs.List.{list_any};
 ghost use Rattle.st_model.specs.{Values.value, Text.numbers_text, View.object_of};
 ghost use Rattle.st_call.specs.Saying.{Pushes};
-ghost use Rattle.st_browse.specs.{Cutting.{code_length, codes_of}, Methods.has_method};
+ghost use Rattle.st_parts.specs.Cutting.{codes_of};
+ghost use Rattle.st_browse.specs.Methods.{has_method};
 ghost use Rattle.st_browse.specs.{Replies.{code_line, codes_text}, Senders.is_special, Entries.IsBody};
 
 use st_call::{Output, Pushed, push_number};
 use st_host::Host;
 use st_memory::{Memory, count_fields, count_units, unit_at};
 use st_model::{Kind, Oop};
+use st_parts::code_length;
 
 /// The code of the first special send.
 const FIRST_SPECIAL: u32 = 176;
@@ -48,19 +50,6 @@ pub fn body_of<M: Memory>(m: &M, method: Oop) -> Option<Body>
             })
         }
         Kind::Pointers | Kind::Words | Kind::Bytes => None,
-    }
-}
-
-/// How many bytes a bytecode with this first byte has.
-fn code_length(first: u32) -> u32
-    ensures length { result ≡ code_length first }
-    ensures some { 1 ≤ result }
-    ensures few { result ≤ 3 }
-{
-    match first {
-        132 | 134 => 3,
-        128..=133 | 160..=175 => 2,
-        _ => 1,
     }
 }
 

@@ -1,12 +1,14 @@
 -- Names that tell no text apart call variables alike, where each association has one name.
-use Rattle.std.proofs.Common.{◌≡◌, ◌≤◌, ◌⊎◌, inl, inr, ℕ, suc, max, Bool, true, false, List, [], ◌∷◌, map, Option, Some, None, refl, sym, ap, ap₂, ◌∙◌, subst, arith}
-use Rattle.std.specs.Prelude.{is_some, option_map, find, bytes_eq, if◌then◌else◌, ◌&&◌, ◌==◌}
+use Rattle.std.proofs.Common.{◌≡◌, ◌⊎◌, inl, inr, ℕ, Bool, true, false, ◌||◌, List, [], ◌∷◌, map, Option, Some, None, refl, sym, ap, ap₂, ◌∙◌, arith}
+use Rattle.std.specs.Prelude.{is_some, option_map, find, bytes_eq, if◌then◌else◌, ◌&&◌}
 use Rattle.std.proofs.lemmas.Slice.Eq.{bytes_eq-Decides}
 use Rattle.std.proofs.lemmas.Bool.Decides.{nat_tests}
 use Rattle.st_emit.specs.Names.{NamesView, SharedName, Variable, shared, field, field_named, shared_named, variable_named, or_else}
 use Rattle.st_emit.specs.Literals.{LiteralView, number, character, bytes, symbol, array, named, owner}
-use Rattle.st_expression_stack.specs.Names.{usable_or, marks, most_marks, texts_of, names_value, is_value, is_usable, shared_text, literal_text, unused, calling_of}
-use Rattle.st_decompile.specs.Alike.{HasOneName, TellAlike, CallAlike}
+use Rattle.st_expression_stack.specs.Names.{usable_or, texts_of, texts_in, is_among, names_value, is_value, is_usable, shared_text, literal_text, unused, calling_of}
+use Rattle.st_expression_stack.proofs.Kept.{append_among}
+use Rattle.st_expression_stack.proofs.OwnNames.{own_alike}
+use Rattle.st_decompile.specs.Alike.{HasOneName, TellAlike}
 
 -- LISTED
 
@@ -48,22 +50,13 @@ is_found names text = by (find (λ s. bytes_eq s.text text) names.shared)
     by None = refl
     by (Some s) = refl
 
--- MARKS
-
-marks_listed : (ss : List SharedName) (text : List ℕ) → Listed ss text → marks text ≤ most_marks (texts_of ss)
-marks_listed [] text h = absurd (none_listed text h)
-marks_listed (s ∷ ss) text h = by (λ k. marks_listed ss text k) (listed_parts s ss text h)
+among_listed : (ss : List SharedName) (text : List ℕ) → is_among (texts_of ss) text ≡ is_some (find (λ s. bytes_eq s.text text) ss)
+among_listed [] text = refl
+among_listed (s ∷ ss) text = by (bytes_eq s.text text) (among_listed ss text)
   where
-    by : (Listed ss text → marks text ≤ most_marks (texts_of ss)) → (s.text ≡ text) ⊎ Listed ss text → marks text ≤ max (marks s.text) (most_marks (texts_of ss))
-    by others (inl e) = let m = ap marks e in omega (arith, m)
-    by others (inr k) = let m = others k in omega (arith, m)
-
-marks_below : (ss : List SharedName) (n : ℕ) → ((text : List ℕ) → Listed ss text → marks text ≤ n) → most_marks (texts_of ss) ≤ n
-marks_below [] n h = omega arith
-marks_below (s ∷ ss) n h =
-    let one = h s.text (first_listed s ss) in
-    let others = marks_below ss n (λ text k. h text (more_listed s ss text k)) in
-    omega (arith, one, others)
+    by : (b : Bool) → is_among (texts_of ss) text ≡ is_some (find (λ x. bytes_eq x.text text) ss) → (b || is_among (texts_of ss) text) ≡ is_some (if b then Some s else find (λ x. bytes_eq x.text text) ss)
+    by true h = refl
+    by false h = h
 
 -- THE NAME OF AN ASSOCIATION
 
@@ -115,11 +108,15 @@ module _ (a b : NamesView) (alike : TellAlike a b) (one : HasOneName a) where
   back : (text : List ℕ) → Listed b.shared text → Listed a.shared text
   back text h = sym (is_found a text) ∙ (ap is_some (alike.shared text) ∙ (is_found b text ∙ h))
 
-  shared_marks : most_marks (texts_of a.shared) ≡ most_marks (texts_of b.shared)
-  shared_marks =
-      let below = marks_below a.shared (most_marks (texts_of b.shared)) (λ text h. marks_listed b.shared text (there text h)) in
-      let above = marks_below b.shared (most_marks (texts_of a.shared)) (λ text h. marks_listed a.shared text (back text h)) in
-      omega (arith, below, above)
+  same_shared : (text : List ℕ) → is_among (texts_of a.shared) text ≡ is_among (texts_of b.shared) text
+  same_shared text =
+      among_listed a.shared text ∙ sym (is_found a text) ∙ ap is_some (alike.shared text) ∙ is_found b text ∙ sym (among_listed b.shared text)
+
+  same_texts : (text : List ℕ) → is_among (texts_in a) text ≡ is_among (texts_in b) text
+  same_texts text =
+      append_among a.fields (texts_of a.shared) text
+      ∙ ap₂ (λ (fs : List (List ℕ)) (c : Bool). is_among fs text || c) alike.fields (same_shared text)
+      ∙ sym (append_among b.fields (texts_of b.shared) text)
 
   same_field : (text : List ℕ) → field_named a text ≡ field_named b text
   same_field text = ap (λ (fs : List (List ℕ)). field_named (record { fields = fs; shared = []; symbols = true }) text) alike.fields
@@ -178,6 +175,8 @@ module _ (a b : NamesView) (alike : TellAlike a b) (one : HasOneName a) where
   literals_same (l ∷ ls) = ap₂ (λ (x : List ℕ) (xs : List (List ℕ)). x ∷ xs) (literal_same l) (literals_same ls)
 
   pub calls_alike : (literals : List LiteralView) → calling_of a literals ≡ calling_of b literals
-  calls_alike literals =
-      ap₂ (λ (fs : List (List ℕ)) (m : ℕ). record { fields = map usable_or fs; shared = map (literal_text a) literals; marks = suc (max (most_marks fs) m) }) alike.fields shared_marks
-      ∙ ap (λ (ts : List (List ℕ)). record { fields = map usable_or b.fields; shared = ts; marks = suc (max (most_marks b.fields) (most_marks (texts_of b.shared))) }) (literals_same literals)
+  calls_alike literals = λ i. record {
+    fields = map usable_or (alike.fields i);
+    shared = literals_same literals i;
+    own = own_alike (texts_in a) (texts_in b) same_texts i;
+  }

@@ -1,26 +1,21 @@
 -- What variables are called in the tree that is read serves: the method's own are apart, and whatever a text can use is
 -- called so that it is meant.
-use Rattle.std.proofs.Common.{◌≡◌, ◌<◌, ◌≤◌, ℕ, zero, suc, ◌+◌, ◌==◌, ◌^◌, max, Bool, true, false, not, ◌&&◌, ◌||◌, cond, List, [], ◌∷◌, map, length, get_or, drop, Option, Some, None, refl, sym, ap, ap₂, ◌∙◌, subst, arith}
-use Rattle.std.proofs.lemmas.Bool.{and_parts, ltb-true, ltb-false, eqb-true, le-leb}
+use Rattle.std.proofs.Common.{◌≡◌, ℕ, zero, suc, ◌+◌, ◌==◌, Bool, true, false, not, ◌&&◌, ◌||◌, cond, List, [], ◌∷◌, ◌++◌, map, length, get_or, Option, Some, None, refl, sym, ap, ap₂, ◌∙◌, subst, arith}
+use Rattle.std.proofs.lemmas.Bool.{and_parts, eqb-true}
 use Rattle.std.proofs.lemmas.Bool.Decides.{nat_tests}
-use Rattle.std.proofs.lemmas.Fmt.{decimal_is_IsNumeral, decimal_injective, first_decimal}
 use Rattle.std.proofs.lemmas.Option.{slice_get-map}
 use Rattle.std.proofs.lemmas.Slice.Eq.{bytes_eq-Decides}
-use Rattle.std.proofs.lemmas.Str.Parse.{digit_from_value}
-use Rattle.std.specs.Char.{digit_value, is_ascii_digit, is_ascii_alphabetic, is_ascii_alphanumeric}
-use Rattle.std.specs.Fmt.{decimal}
-use Rattle.std.specs.Int.{is_in_range}
-use Rattle.std.specs.List.{list_all}
+use Rattle.std.specs.Char.{is_ascii_digit}
 use Rattle.std.specs.Prelude.{if◌then◌else◌, is_some, option_map, nat_lt, find, slice_get, bytes_eq, codes}
-use Rattle.std.specs.Str.Parse.{AllDigits}
-use Rattle.st_scan.specs.Pieces.{is_name, begins}
+use Rattle.st_scan.specs.Pieces.{is_name}
 use Rattle.st_emit.specs.declared.step.Constant.{Constant}
 use Rattle.st_emit.specs.declared.step.Place.{Place}
 use Rattle.st_emit.specs.declared.step.Place.TheVariants.{Field, Temporary, Literal, Shared}
-use Rattle.st_emit.specs.Names.{NamesView, SharedName, Variable, field, shared, constant_named, field_from, if_named, field_named, shared_named, variable_named, or_else}
+use Rattle.st_emit.specs.Names.{NamesView, SharedName, field, shared, constant_named, field_from, if_named, field_named, shared_named, variable_named, or_else}
 use Rattle.st_emit.specs.Literals.{LiteralView, named}
 use Rattle.st_decompile.specs.Calling.{IsOutside, IsFieldName, IsSharedName, AreNames}
-use Rattle.st_expression_stack.specs.Names.{is_usable, unused, usable_or, usable_shared, usable, marks_from, marks, most_marks, texts_of, marks_of, marked, zeros, numeral, own_name, is_value, names_value, shared_text, literal_text, CallingView, calling_of, or_unused, name_in}
+use Rattle.st_expression_stack.specs.Names.{is_usable, unused, usable_or, usable_shared, usable, numbered, own_number, texts_of, texts_in, is_among, is_value, names_value, shared_text, literal_text, calling_of, or_unused, name_in}
+use Rattle.st_expression_stack.proofs.OwnNames.{numeral_digits, own_free, own_apart}
 use Rattle.st_decompile.proofs.Words.{Agree}
 use Rattle.st_decompile.proofs.ReadTrees.{AreWords}
 
@@ -105,121 +100,20 @@ usable_agree names = record {
 
 -- OWN NAMES
 
-record IsDigits (ds : List ℕ) : Type 0 where
-  pub first : ℕ
-  pub others : List ℕ
-  pub is : ds ≡ first ∷ others
-  pub digit : is_ascii_digit first ≡ true
-  pub letter : (first == 116) ≡ false
-  pub all : list_all is_ascii_alphanumeric ds ≡ true
+-- t and a digit, which none of super, self and the others has
+second_digit : (n : ℕ) → is_ascii_digit (get_or (numbered n) 1 0) ≡ true
+second_digit n = let d = numeral_digits n in ap (λ (ds : List ℕ). is_ascii_digit (get_or (116 ∷ ds) 1 0)) d.is ∙ d.digit
 
-digit_is : (c : ℕ) → (48 ≤ c) × (c ≤ 57) → is_ascii_digit c ≡ true
-digit_is c r = grind (arith, nat_tests, r.0, r.1)
+numbered_other : (n : ℕ) (other : List ℕ) → is_ascii_digit (get_or other 1 0) ≡ false → bytes_eq (numbered n) other ≡ false
+numbered_other n other f = differs (λ (t : List ℕ). is_ascii_digit (get_or t 1 0)) (numbered n) other (λ e. let no : true ≡ false = sym (second_digit n) ∙ (e ∙ f) in absurd cc)
 
-digit_alphanumeric : (c : ℕ) → is_ascii_digit c ≡ true → is_ascii_alphanumeric c ≡ true
-digit_alphanumeric c e = rw e refl
+numbered_constant : (n : ℕ) → constant_named (numbered n) ≡ None
+numbered_constant n =
+    rw (numbered_other n (codes "self") refl) (rw (numbered_other n (codes "super") refl) (rw (numbered_other n (codes "true") refl)
+    (rw (numbered_other n (codes "false") refl) (rw (numbered_other n (codes "nil") refl) (rw (numbered_other n (codes "thisContext") refl) refl)))))
 
-digits_alphanumeric : (ds : List ℕ) → AllDigits 10 ds → list_all is_ascii_alphanumeric ds ≡ true
-digits_alphanumeric [] h = refl
-digits_alphanumeric (c ∷ cs) h =
-    ap₂ (λ (a b : Bool). a && b) (digit_alphanumeric c (digit_is c (digit_from_value c h.0))) (digits_alphanumeric cs h.1)
-
-digits_of : (ds : List ℕ) → 0 < length ds → AllDigits 10 ds → IsDigits ds
-digits_of [] l h = absurd (omega (arith, l))
-digits_of (c ∷ cs) l h =
-    let r = digit_from_value c h.0 in
-    record {
-      first = c;
-      others = cs;
-      is = refl;
-      digit = digit_is c r;
-      letter = grind (arith, nat_tests, r.1);
-      all = digits_alphanumeric (c ∷ cs) h;
-    }
-
-zeros_alphanumeric : (n : ℕ) → list_all is_ascii_alphanumeric (zeros n) ≡ true
-zeros_alphanumeric zero = refl
-zeros_alphanumeric (suc n) = zeros_alphanumeric n
-
-zeros_digits : (n : ℕ) → IsDigits (zeros n)
-zeros_digits zero = record { first = 48; others = []; is = refl; digit = refl; letter = refl; all = refl }
-zeros_digits (suc n) = record { first = 48; others = zeros n; is = refl; digit = refl; letter = refl; all = zeros_alphanumeric (suc n) }
-
-numeral_digits : (k : ℕ) → IsDigits (numeral k)
-numeral_digits k = by_test (nat_lt k 18446744073709551615) refl
-  where
-    by_test : (b : Bool) → nat_lt k 18446744073709551615 ≡ b → IsDigits (if b then decimal (k + 1) else zeros k)
-    by_test true e =
-        let low = ltb-true k 18446744073709551615 e in
-        let d = decimal_is_IsNumeral (k + 1) (omega (arith, low)) in
-        digits_of (decimal (k + 1)) d.0.0 d.0.1
-    by_test false e = zeros_digits k
-
-marks_marked : (m n : ℕ) (ds : List ℕ) → IsDigits ds → marks_from n (marked m ds) ≡ n + m
-marks_marked zero n ds d =
-    ap (marks_from n) d.is
-    ∙ ap₂ (λ (a b : Bool). if a then marks_from (suc n) d.others else (if b then n else 0)) d.letter d.digit
-    ∙ omega arith
-marks_marked (suc m) n ds d = omega (arith, marks_marked m (suc n) ds d)
-
-marked_alphanumeric : (m : ℕ) (ds : List ℕ) → list_all is_ascii_alphanumeric ds ≡ true → list_all is_ascii_alphanumeric (marked m ds) ≡ true
-marked_alphanumeric zero ds h = h
-marked_alphanumeric (suc m) ds h = marked_alphanumeric m ds h
-
-marked_injective : (m : ℕ) (a b : List ℕ) → marked m a ≡ marked m b → a ≡ b
-marked_injective zero a b e = e
-marked_injective (suc m) a b e = marked_injective m a b (ap (drop 1) e)
-
-pub own_marks : (m k : ℕ) → marks (own_name m k) ≡ m
-own_marks m k = let e = marks_marked m 0 (numeral k) (numeral_digits k) in omega (arith, e)
-
-zeros_length : (n : ℕ) → length (zeros n) ≡ n + 1
-zeros_length zero = refl
-zeros_length (suc n) = omega (arith, zeros_length n)
-
-zeros_first : (n : ℕ) → get_or (zeros n) 0 0 ≡ 48
-zeros_first zero = refl
-zeros_first (suc n) = refl
-
-numeral_injective : (j k : ℕ) → numeral j ≡ numeral k → j ≡ k
-numeral_injective j k e = by_tests (nat_lt j 18446744073709551615) (nat_lt k 18446744073709551615) refl refl e
-  where
-    by_tests : (a b : Bool) → nat_lt j 18446744073709551615 ≡ a → nat_lt k 18446744073709551615 ≡ b
-        → (if a then decimal (j + 1) else zeros j) ≡ (if b then decimal (k + 1) else zeros k) → j ≡ k
-    by_tests true true x y h =
-        let low = ltb-true j 18446744073709551615 x in
-        let high = ltb-true k 18446744073709551615 y in
-        let same = decimal_injective (j + 1) (k + 1) (omega (arith, low)) (omega (arith, high)) h in
-        omega (arith, same)
-    by_tests true false x y h =
-        let low = ltb-true j 18446744073709551615 x in
-        let first = first_decimal (j + 1) (omega arith) (omega (arith, low)) in
-        let zero_first = ap (λ (l : List ℕ). get_or l 0 0) h ∙ zeros_first k in
-        absurd (omega (arith, first, zero_first))
-    by_tests false true x y h =
-        let high = ltb-true k 18446744073709551615 y in
-        let first = first_decimal (k + 1) (omega arith) (omega (arith, high)) in
-        let zero_first = ap (λ (l : List ℕ). get_or l 0 0) (sym h) ∙ zeros_first j in
-        absurd (omega (arith, first, zero_first))
-    by_tests false false x y h = let same = ap (λ (l : List ℕ). length l) h in omega (arith, same, zeros_length j, zeros_length k)
-
-own_injective : (m j k : ℕ) → own_name m j ≡ own_name m k → j ≡ k
-own_injective m j k e = numeral_injective j k (marked_injective m (numeral j) (numeral k) e)
-
--- what has letters t before a digit is no pseudo variable
-marked_other : (text other : List ℕ) → 0 < marks text → marks other ≡ 0 → bytes_eq text other ≡ false
-marked_other text other p e = differs marks text other (λ h. let z : marks text ≡ 0 = h ∙ e in omega (arith, p, z))
-
-marked_constant : (text : List ℕ) → 0 < marks text → constant_named text ≡ None
-marked_constant text p =
-    rw (marked_other text (codes "self") p refl) (rw (marked_other text (codes "super") p refl) (rw (marked_other text (codes "true") p refl)
-    (rw (marked_other text (codes "false") p refl) (rw (marked_other text (codes "nil") p refl) (rw (marked_other text (codes "thisContext") p refl) refl)))))
-
-own_word : (m k : ℕ) → IsWord (own_name (suc m) k)
-own_word m k = record {
-  name = marked_alphanumeric (suc m) (numeral k) (numeral_digits k).all;
-  other = marked_other (own_name (suc m) k) (codes "super") (let e = own_marks (suc m) k in omega (arith, e)) refl;
-}
+numbered_word : (n : ℕ) → IsWord (numbered n)
+numbered_word n = record { name = (numeral_digits n).all; other = numbered_other n (codes "super") refl }
 
 -- FIELDS
 
@@ -246,27 +140,49 @@ named_is (Some k) n e = by_test (nat_lt k 64) refl e
     by_test true t h = h
     by_test false t h = absurd cc
 
-marks_or : (text : List ℕ) → marks (usable_or text) ≤ marks text
-marks_or text = by_test (is_usable text)
-  where
-    by_test : (b : Bool) → marks (if b then text else unused) ≤ marks text
-    by_test true = omega arith
-    by_test false = omega arith
+among_self : (text : List ℕ) (ts : List (List ℕ)) → is_among (text ∷ ts) text ≡ true
+among_self text ts = ap (λ (b : Bool). b || is_among ts text) (bytes_same text text refl)
 
-marks_field : (fs : List (List ℕ)) (j : ℕ) (text : List ℕ) → slice_get (map usable_or fs) j ≡ Some text → marks text ≤ most_marks fs
-marks_field [] j text e = absurd cc
-marks_field (f ∷ fs) zero text e = let is : usable_or f ≡ text = cc in omega (arith, marks_or f, ap marks is)
-marks_field (f ∷ fs) (suc j) text e = omega (arith, marks_field fs j text e)
+among_more : (t text : List ℕ) (ts : List (List ℕ)) → is_among ts text ≡ true → is_among (t ∷ ts) text ≡ true
+among_more t text ts h = by_test (bytes_eq t text)
+  where
+    by_test : (b : Bool) → (b || is_among ts text) ≡ true
+    by_test true = refl
+    by_test false = h
+
+among_first : (xs ys : List (List ℕ)) (text : List ℕ) → is_among xs text ≡ true → is_among (xs ++ ys) text ≡ true
+among_first [] ys text h = absurd cc
+among_first (x ∷ xs) ys text h = by_test (bytes_eq x text) h (λ k. among_first xs ys text k)
+  where
+    by_test : (b : Bool) → (b || is_among xs text) ≡ true → (is_among xs text ≡ true → is_among (xs ++ ys) text ≡ true) → (b || is_among (xs ++ ys) text) ≡ true
+    by_test true h k = refl
+    by_test false h k = k h
+
+among_second : (xs ys : List (List ℕ)) (text : List ℕ) → is_among ys text ≡ true → is_among (xs ++ ys) text ≡ true
+among_second [] ys text h = h
+among_second (x ∷ xs) ys text h = among_more x text (xs ++ ys) (among_second xs ys text h)
+
+-- what a field is called is its name, unless no text can use that
+field_among : (fs : List (List ℕ)) (j : ℕ) (text : List ℕ) → constant_named text ≡ None → slice_get (map usable_or fs) j ≡ Some text → is_among fs text ≡ true
+field_among [] j text c e = absurd cc
+field_among (f ∷ fs) zero text c e = by_test (is_usable f) (let is : usable_or f ≡ text = cc in is)
+  where
+    by_test : (b : Bool) → (if b then f else unused) ≡ text → is_among (f ∷ fs) text ≡ true
+    by_test true h = subst (λ (t : List ℕ). is_among (f ∷ fs) t ≡ true) h (among_self f fs)
+    by_test false h = let no : constant_named unused ≡ None = ap constant_named h ∙ c in absurd cc
+field_among (f ∷ fs) (suc j) text c e = among_more f text fs (field_among fs j text c e)
 
 -- SHARED NAMES
 
-marks_shared : (names : NamesView) (a : ℕ) (ts : List (List ℕ)) → marks (shared_text names a ts) ≤ most_marks ts
-marks_shared names a [] = omega arith
-marks_shared names a (t ∷ ts) = by_test (marks_shared names a ts) (names_value names t a)
+-- what names an association is one of the texts
+shared_among : (names : NamesView) (a : ℕ) (ts : List (List ℕ)) → is_usable (shared_text names a ts) ≡ true → is_among ts (shared_text names a ts) ≡ true
+shared_among names a [] u = let no : false ≡ true = u in absurd cc
+shared_among names a (t ∷ ts) u = by_test (names_value names t a) u (λ k. shared_among names a ts k)
   where
-    by_test : marks (shared_text names a ts) ≤ most_marks ts → (b : Bool) → marks (if b then t else shared_text names a ts) ≤ max (marks t) (most_marks ts)
-    by_test later true = omega arith
-    by_test later false = omega (arith, later)
+    by_test : (b : Bool) → is_usable (if b then t else shared_text names a ts) ≡ true → (is_usable (shared_text names a ts) ≡ true → is_among ts (shared_text names a ts) ≡ true)
+        → is_among (t ∷ ts) (if b then t else shared_text names a ts) ≡ true
+    by_test true u later = among_self t ts
+    by_test false u later = among_more t (shared_text names a ts) ts (later u)
 
 found_shared : (names : NamesView) (a : ℕ) (ss : List SharedName) (text : List ℕ) (s : SharedName) → names_value names text a ≡ true
     → find (λ x. bytes_eq x.text text) ss ≡ Some s → names_value names (shared_text names a (texts_of ss)) a ≡ true
@@ -343,20 +259,26 @@ module _ (names : NamesView) (literals : List LiteralView) where
   abbrev pub called_by : Place → List ℕ
   called_by = name_in (calling_of names literals)
 
+  abbrev taken : List ℕ → Bool
+  taken = is_among (texts_in names)
+
+  abbrev count : ℕ
+  count = length (texts_in names)
+
   called_word : (p : Place) → IsWord (called_by p)
   called_word (Field n) = word_field names.fields n
-  called_word (Temporary k) = own_word (max (most_marks names.fields) (most_marks (texts_of names.shared))) k
+  called_word (Temporary k) = numbered_word (own_number taken count k)
   called_word (Literal n) = word_unused
   called_word (Shared p) = word_literals names literals p
 
   pub are_words : AreWords called_by
   are_words = record { are_names = λ p. (called_word p).name; none_super = λ p. (called_word p).other }
 
-  own_other : (text : List ℕ) → marks text < marks_of names → (k : ℕ) → bytes_eq (called_by (Temporary k)) text ≡ false
-  own_other text less k = differs marks (called_by (Temporary k)) text (λ e. let o = own_marks (marks_of names) k in omega (arith, less, o, e))
+  own_other : (text : List ℕ) → taken text ≡ true → (k : ℕ) → bytes_eq (called_by (Temporary k)) text ≡ false
+  own_other text there k = differs taken (called_by (Temporary k)) text (λ e. let no : false ≡ true = sym (own_free (texts_in names) k) ∙ (e ∙ there) in absurd cc)
 
-  outside : (text : List ℕ) → constant_named text ≡ None → marks text < marks_of names → IsOutside called_by text
-  outside text c less = record { no_constant = c; not_own = own_other text less }
+  outside : (text : List ℕ) → constant_named text ≡ None → taken text ≡ true → IsOutside called_by text
+  outside text c there = record { no_constant = c; not_own = own_other text there }
 
   field_name : (text : List ℕ) (n : ℕ) → constant_named text ≡ None → field_named (usable names) text ≡ Some n → IsFieldName called_by (usable names) n (called_by (Field n))
   field_name text n c e =
@@ -364,14 +286,14 @@ module _ (names : NamesView) (literals : List LiteralView) where
       let same : n ≡ r.at = omega (arith, r.same) in
       let is : slice_get (map usable_or names.fields) n ≡ Some text = ap (slice_get (map usable_or names.fields)) same ∙ r.is in
       subst (λ (t : List ℕ). IsFieldName called_by (usable names) n t) (sym (ap or_unused is))
-      (record { outside = outside text c (let m = marks_field names.fields n text is in omega (arith, m)); field = e })
+      (record { outside = outside text c (among_first names.fields (texts_of names.shared) text (field_among names.fields n text c is)); field = e })
 
   shared_name : (text : List ℕ) (a p : ℕ) → constant_named text ≡ None → field_named (usable names) text ≡ None → shared_named (usable names) text ≡ Some a
       → slice_get literals p ≡ Some (named a) → IsSharedName called_by (usable names) a (called_by (Shared p))
   shared_name text a p c f e l =
       subst (λ (t : List ℕ). IsSharedName called_by (usable names) a t) (sym is)
       (record {
-        outside = outside found (no_constant found value.usable) (let m = marks_shared names a (texts_of names.shared) in omega (arith, m));
+        outside = outside found (no_constant found value.usable) (among_second names.fields (texts_of names.shared) found (shared_among names a (texts_of names.shared) value.usable));
         no_field = sym (agree.fields found value.usable) ∙ value.no_field;
         shared = sym (agree.shared found value.usable) ∙ value.shared;
       })
@@ -397,8 +319,8 @@ module _ (names : NamesView) (literals : List LiteralView) where
 
   pub are_names : AreNames called_by (usable names) literals
   are_names = record {
-    own_constant = λ k. marked_constant (called_by (Temporary k)) (let e = own_marks (marks_of names) k in omega (arith, e));
-    own_apart = λ j k e. own_injective (marks_of names) j k (same_bytes (called_by (Temporary j)) (called_by (Temporary k)) e);
+    own_constant = λ k. numbered_constant (own_number taken count k);
+    own_apart = λ j k e. own_apart taken count j k (same_bytes (called_by (Temporary j)) (called_by (Temporary k)) e);
     fields = field_name;
     shared = shared_name;
   }

@@ -10,7 +10,7 @@ use crate::comparing::same_parts;
 use crate::whole::candidate;
 use st_code::{CodeFault, MethodParts, compile};
 use st_emit::Names;
-use st_expression_stack::calling_of;
+use st_expression_stack::{NO_ARGUMENTS, arity, calling_of};
 use st_parse::parse;
 use st_print::print;
 use st_scan::{MethodTree, SyntaxFault, Text};
@@ -87,7 +87,8 @@ fn candidate_of(
     ensures { IfOk result (λ m.
         IsCandidate (names_view names.now) (parts_view parts.now) (option_map method_view m)) }
 {
-    let calling = calling_of(alloc, names, &parts.literals)?;
+    let variables = arity(&parts.selector)?.max(NO_ARGUMENTS);
+    let calling = calling_of(alloc, names, &parts.literals, variables)?;
     candidate(alloc, &calling, parts)
 }
 

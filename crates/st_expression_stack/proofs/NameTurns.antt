@@ -1,9 +1,8 @@
 -- The turns of the loops that collect what variables are called.
-use Rattle.std.proofs.Common.{◌≡◌, ◌<◌, ℕ, zero, suc, ◌+◌, ◌^◌, max, Bool, true, false, List, [], ◌∷◌, ◌++◌, map, drop, length, get_or, refl, sym, ap, ◌∙◌, arith, drop-cons, add-one}
+use Rattle.std.proofs.Common.{◌≡◌, ◌<◌, ℕ, zero, suc, ◌+◌, ◌-◌, ◌^◌, ◌≤◌, Bool, true, false, List, [], ◌∷◌, map, refl, ap, ap₂, ◌∙◌, arith}
 use Rattle.std.proofs.lemmas.Bool.Decides.{nat_tests}
 use Rattle.std.specs.Global.{Vec}
-use Rattle.std.specs.Prelude.{if◌then◌else◌, nat_lt, ◌==◌, ◌&&◌}
-use Rattle.std.specs.Char.{is_ascii_digit}
+use Rattle.std.specs.Prelude.{if◌then◌else◌, nat_lt, ◌&&◌}
 use Rattle.std.specs.Fmt.{decimal}
 use Rattle.st_emit.specs.Names.{NamesView, variable_named}
 use Rattle.st_emit.specs.NameViews.{texts_view, shared_view}
@@ -11,40 +10,40 @@ use Rattle.st_emit.specs.declared.literal.Literal.{Literal}
 use Rattle.st_emit.specs.Literals.{LiteralView}
 use Rattle.st_emit.specs.Views.{literal_view, literals_view}
 use Rattle.st_model.specs.declared.oop.Oop.{Oop}
-use Rattle.st_expression_stack.specs.Choosing.{called}
-use Rattle.st_expression_stack.specs.Names.{marks_from, marks, most_marks, texts_of, marked, zeros, numeral, is_usable, is_value, names_value, shared_text}
+use Rattle.st_expression_stack.specs.Names.{texts_of, zeros, numeral, numbered, first_free, own_number, is_usable, is_value, names_value, shared_text}
 
 pub texts_map : (ts : List (Vec ℕ)) → texts_view ts ≡ map (λ (t : Vec ℕ). t.items) ts
 texts_map [] = refl
 texts_map (t ∷ ts) = ap (λ (x : List (List ℕ)). t.items ∷ x) (texts_map ts)
 
--- MARKS
-
-pub marks_other : (n b : ℕ) (bs : List ℕ) → (b == 116) ≡ false → marks_from n (b ∷ bs) ≡ (if is_ascii_digit b then n else 0)
-marks_other n b bs e = ap (λ (t : Bool). if t then marks_from (suc n) bs else (if is_ascii_digit b then n else 0)) e
-
-pub marks_turn : (n b : ℕ) (bs : List ℕ) → (b == 116) ≡ true → marks_from n (b ∷ bs) ≡ marks_from (n + 1) bs
-marks_turn n b bs e =
-    let more : suc n ≡ n + 1 = omega arith in
-    ap (λ (t : Bool). if t then marks_from (suc n) bs else (if is_ascii_digit b then n else 0)) e ∙ ap (λ (k : ℕ). marks_from k bs) more
-
 -- OWN NAMES
-
-marked_one : (n : ℕ) → marked n [] ++ 116 ∷ [] ≡ marked (suc n) []
-marked_one zero = refl
-marked_one (suc n) = ap (λ (l : List ℕ). 116 ∷ l) (marked_one n)
-
-pub marked_push : (n : ℕ) → marked n [] ++ 116 ∷ [] ≡ marked (n + 1) []
-marked_push n = let more : suc n ≡ n + 1 = omega arith in marked_one n ∙ ap (λ (k : ℕ). marked k []) more
-
-pub marked_append : (n : ℕ) (ds : List ℕ) → marked n [] ++ ds ≡ marked n ds
-marked_append zero ds = refl
-marked_append (suc n) ds = ap (λ (l : List ℕ). 116 ∷ l) (marked_append n ds)
 
 pub numeral_small : (k : ℕ) → k + 1 < 2 ^ 64 → numeral k ≡ decimal (k + 1)
 numeral_small k h = let e : nat_lt k 18446744073709551615 ≡ true = grind (arith, nat_tests, h) in ap (λ (b : Bool). if b then decimal (k + 1) else zeros k) e
 
-pub ruleset letters = (marks_other, marks_turn, marked_push, marked_append)
+module _ (f : List ℕ → Bool) where
+  free_at : (tries n : ℕ) (b : Bool) → 0 < tries → f (numbered n) ≡ b → first_free f tries n ≡ (if b then first_free f (tries - 1) (n + 1) else n)
+  free_at zero n b l e = absurd (omega (arith, l))
+  free_at (suc tries) n b l e =
+      let less : tries ≡ suc tries - 1 = omega arith in
+      ap₂ (λ (c : Bool) (t : ℕ). if c then first_free f t (n + 1) else n) e less
+
+  pub free_begin : (count n : ℕ) → first_free f (count - 0) n ≡ first_free f count n
+  free_begin count n = let same : count - 0 ≡ count = omega arith in ap (λ (t : ℕ). first_free f t n) same
+
+  pub free_here : (count i n : ℕ) → i < count → f (numbered n) ≡ false → first_free f (count - i) n ≡ n
+  free_here count i n l e = free_at (count - i) n false (omega (arith, l)) e
+
+  pub free_next : (count i n : ℕ) → i < count → f (numbered n) ≡ true → first_free f (count - i) n ≡ first_free f (count - (i + 1)) (n + 1)
+  free_next count i n l e =
+      let less : (count - i) - 1 ≡ count - (i + 1) = omega (arith, l) in
+      free_at (count - i) n true (omega (arith, l)) e ∙ ap (λ (t : ℕ). first_free f t (n + 1)) less
+
+  pub free_end : (count i n : ℕ) → count ≤ i → first_free f (count - i) n ≡ n
+  free_end count i n l = let none : count - i ≡ 0 = omega (arith, l) in ap (λ (t : ℕ). first_free f t n) none
+
+  pub own_next : (count i : ℕ) → own_number f count (i + 1) ≡ first_free f count (own_number f count i + 1)
+  own_next count i = let more : i + 1 ≡ suc i = omega arith in ap (own_number f count) more
 
 -- SHARED NAMES
 

@@ -1,9 +1,8 @@
 -- What variables are called in the tree that is read. A text can use the names of a class that are names and no pseudo
--- variables; of the others none. The method's own variables are t1, t2 and so on, with more letters t where the class has
--- such names.
-use Rattle.std.specs.Prelude.{◌≡◌, ℕ, zero, suc, ◌+◌, ◌==◌, nat_lt, max, Bool, true, false, not, ◌&&◌, List, [], ◌∷◌, map, slice_get, Option, Some, None, is_some, if◌then◌else◌, codes}
-use Rattle.std.specs.Char.{is_ascii_digit}
+-- variables; of the others none. The method's own variables are t1, t2 and so on, the names of the class left out.
+use Rattle.std.specs.Prelude.{ℕ, zero, suc, ◌+◌, ◌==◌, nat_lt, Bool, false, not, ◌&&◌, List, [], ◌∷◌, ◌++◌, length, map, slice_get, Option, Some, None, is_some, if◌then◌else◌, codes, bytes_eq}
 use Rattle.std.specs.Fmt.{decimal}
+use Rattle.std.specs.List.{list_any}
 use Rattle.st_scan.specs.Pieces.{is_name}
 use Rattle.st_emit.specs.declared.step.Place.{Place}
 use Rattle.st_emit.specs.declared.step.Place.TheVariants.{Field, Temporary, Literal, Shared}
@@ -32,40 +31,42 @@ usable names = record { fields = map usable_or names.fields; shared = usable_sha
 
 -- OWN VARIABLES
 
--- the letters t before a digit, with n before them; a text without that digit has none
-abbrev pub marks_from : ℕ → List ℕ → ℕ
-marks_from n [] = 0
-marks_from n (b ∷ bs) = if b == 116 then marks_from (suc n) bs else (if is_ascii_digit b then n else 0)
-
-abbrev pub marks : List ℕ → ℕ
-marks text = marks_from 0 text
-
-abbrev pub most_marks : List (List ℕ) → ℕ
-most_marks [] = 0
-most_marks (text ∷ texts) = max (marks text) (most_marks texts)
-
-abbrev pub texts_of : List SharedName → List (List ℕ)
-texts_of ss = map (λ s. s.text) ss
-
--- more than any name of the class has
-abbrev pub marks_of : NamesView → ℕ
-marks_of names = suc (max (most_marks names.fields) (most_marks (texts_of names.shared)))
-
--- letters t before a text
-abbrev pub marked : ℕ → List ℕ → List ℕ
-marked zero text = text
-marked (suc n) text = 116 ∷ marked n text
-
 -- what a number past those of a machine is written as
 abbrev pub zeros : ℕ → List ℕ
 zeros zero = 48 ∷ []
 zeros (suc n) = 48 ∷ zeros n
 
 abbrev pub numeral : ℕ → List ℕ
-numeral k = if nat_lt k 18446744073709551615 then decimal (k + 1) else zeros k
+numeral n = if nat_lt n 18446744073709551615 then decimal (n + 1) else zeros n
 
-abbrev pub own_name : (marks k : ℕ) → List ℕ
-own_name marks k = marked marks (numeral k)
+-- t1, t2 and so on, by their numbers from 0 on
+abbrev pub numbered : ℕ → List ℕ
+numbered n = 116 ∷ numeral n
+
+-- given which texts are names of the class
+module _ (is_taken : List ℕ → Bool) where
+  -- the first number from n on whose text is no name of the class, within so many tries
+  abbrev pub first_free : (tries n : ℕ) → ℕ
+  first_free zero n = n
+  first_free (suc tries) n = if is_taken (numbered n) then first_free tries (n + 1) else n
+
+  -- the first such number, and then each time the next; a class with so many names has one within so many tries
+  abbrev pub own_number : (count k : ℕ) → ℕ
+  own_number count zero = first_free count 0
+  own_number count (suc k) = first_free count (own_number count k + 1)
+
+  abbrev pub own_name : (count k : ℕ) → List ℕ
+  own_name count k = numbered (own_number count k)
+
+abbrev pub texts_of : List SharedName → List (List ℕ)
+texts_of ss = map (λ s. s.text) ss
+
+-- all names of a class
+abbrev pub texts_in : NamesView → List (List ℕ)
+texts_in names = names.fields ++ texts_of names.shared
+
+abbrev pub is_among : List (List ℕ) → List ℕ → Bool
+is_among texts text = list_any (λ t. bytes_eq t text) texts
 
 -- WHAT THE CLASS HAS
 
@@ -86,15 +87,18 @@ abbrev pub literal_text : NamesView → LiteralView → List ℕ
 literal_text names (named a) = shared_text names a (texts_of names.shared)
 literal_text names l = unused
 
--- what variables are called: instance variables by their numbers, shared ones by their literals' places, and how many
--- letters t the method's own have
+-- what variables are called: instance variables and the method's own by their numbers, shared ones by their literals' places
 pub record CallingView : Type 0 where
   pub fields : List (List ℕ)
   pub shared : List (List ℕ)
-  pub marks : ℕ
+  pub own : ℕ → List ℕ
 
 abbrev pub calling_of : NamesView → List LiteralView → CallingView
-calling_of names literals = record { fields = map usable_or names.fields; shared = map (literal_text names) literals; marks = marks_of names }
+calling_of names literals = record {
+  fields = map usable_or names.fields;
+  shared = map (literal_text names) literals;
+  own = own_name (is_among (texts_in names)) (length (texts_in names));
+}
 
 abbrev pub or_unused : Option (List ℕ) → List ℕ
 or_unused None = unused
@@ -102,6 +106,6 @@ or_unused (Some text) = text
 
 abbrev pub name_in : CallingView → Place → List ℕ
 name_in c (Field n) = or_unused (slice_get c.fields n)
-name_in c (Temporary k) = own_name c.marks k
+name_in c (Temporary k) = c.own k
 name_in c (Literal n) = unused
 name_in c (Shared p) = or_unused (slice_get c.shared p)

@@ -4,6 +4,7 @@
 mod item;
 mod make;
 mod naming;
+mod own;
 mod sending;
 
 pub use item::{
@@ -11,5 +12,5 @@ pub use item::{
     statements_from, statements_of,
 };
 pub use make::{choice_tree, constant_tree, literal_tree, loop_tree, small_tree};
-pub use naming::{Calling, calling_of};
+pub use naming::{Calling, calling_of, names_value};
 pub use sending::{Arguments, Received, arity, doubled, popped, sends};

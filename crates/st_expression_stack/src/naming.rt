@@ -1,29 +1,30 @@
-//! What variables are called in the tree that is read: instance variables and shared ones by their names, where a text
-//! can use these, and the method's own `t1`, `t2` and so on, with more letters t where the class has such names.
+//! What variables are called in the tree that is read: instance variables and shared ones by their names, if a text can use
+//! these, and the method's own `t1`, `t2` and so on, the names of the class left out.
 
 ghost use Rattle.std.specs.Prelude.{◌≡◌, map, slice_get, option_map, IfOk};
-ghost use Rattle.std.specs.{Char.{is_ascii_alphabetic, is_ascii_alphanumeric}, Fmt.decimal, List.list_all};
+ghost use Rattle.std.specs.{Char.{is_ascii_alphabetic, is_ascii_alphanumeric}, List.list_all};
 ghost use Rattle.st_scan.specs.{Views.name_view, Pieces.{begins, is_name}};
 ghost use Rattle.st_emit.specs.NameViews.{names_view, texts_view, variable_view};
 ghost use Rattle.st_emit.specs.Views.{literal_view, literals_view};
 ghost use Rattle.st_expression_stack.specs.{Choosing.called, Called.{calling_view, items_now}};
-ghost use Rattle.st_expression_stack.specs.Names.{is_usable, usable_or, marks, most_marks, texts_of, marks_of, marked, numeral};
-ghost use Rattle.st_expression_stack.specs.Names.{own_name, is_value, names_value, shared_text, literal_text, calling_of, name_in, or_unused};
+ghost use Rattle.st_expression_stack.specs.Names.{is_usable, usable_or, texts_of};
+ghost use Rattle.st_expression_stack.specs.Names.{is_value, names_value, shared_text, literal_text, calling_of, name_in, or_unused};
 
 use crate::make;
-use itoa::Buffer;
-use st_emit::{Literal, Names, Place, TextList, Variable, constant_named, sum, variable_named};
+use crate::own::{Taken, first_names, listed_name, taken_of};
+use st_emit::{Literal, Names, Place, TextList, Variable, constant_named, variable_named};
 use st_model::Oop;
 use st_scan::{Name, Text};
 use std::alloc::{AllocError, Global};
 
-/// What variables are called: instance variables by their numbers, shared ones by their literals' places, and how many
-/// letters t stand before the numbers of the method's own.
+/// What variables are called: instance variables by their numbers, shared ones by their literals' places, and the method's own,
+/// of which the first are listed, apart from the names of the class.
 #[derive(Drop)]
 pub struct Calling {
-    pub fields: TextList,
-    pub shared: TextList,
-    pub marks: usize,
+    fields: TextList,
+    shared: TextList,
+    own: TextList,
+    taken: Taken,
 }
 
 /// Whether a text begins with a letter.
@@ -50,7 +51,7 @@ fn is_name(text: &[u8]) -> bool
     begins_with_letter(text) && is_alphanumeric(text)
 }
 
-/// Whether a text of a method can use this for a variable.
+/// Whether a text of a method can use this for a variable: a name that isn't one of the six that are always theirs.
 fn is_usable(text: &[u8]) -> bool
     ensures { result ≡ is_usable text.now }
 {
@@ -79,30 +80,6 @@ fn field_texts(alloc: Global, fields: &[Text]) -> Result<TextList, AllocError>
     Ok(texts)
 }
 
-/// How many letters t stand before a digit.
-#[tactic(auto, using(crate::proofs::NameTurns::letters))]
-fn marks(text: &[u8]) -> usize
-    ensures { result ≡ marks text.now }
-{
-    for (i, b) in text.iter().enumerate() {
-        if *b != 116 {
-            return if b.is_ascii_digit() { i } else { 0 };
-        }
-    }
-    0
-}
-
-/// The most letters t before a digit in texts.
-fn most_marks(texts: &[Text]) -> usize
-    ensures { result ≡ most_marks (texts_view texts.now) }
-{
-    let mut most = 0;
-    for text in texts {
-        most = most.max(marks(text));
-    }
-    most
-}
-
 /// The names that are shared.
 fn shared_texts(alloc: Global, names: &Names) -> Result<TextList, AllocError>
     ensures { IfOk result (λ ts. texts_view ts.items ≡ texts_of (names_view names.now).shared) }
@@ -128,7 +105,7 @@ fn is_value(found: Option<Variable>, association: Oop) -> bool
 
 /// Whether a name means the value of an association, and a text of a method can use it.
 #[tactic(auto, using(crate::proofs::NameTurns::values))]
-fn names_value(names: &Names, text: &[u8], association: Oop) -> Result<bool, AllocError>
+pub fn names_value(names: &Names, text: &[u8], association: Oop) -> Result<bool, AllocError>
     ensures { IfOk result (λ b. b ≡ names_value (names_view names.now) text.now association.0) }
 {
     if !is_usable(text) {
@@ -190,49 +167,28 @@ fn literal_texts(
     Ok(called)
 }
 
-/// What the variables of a method of a class with these names are called, by its literals.
-pub fn calling_of(alloc: Global, names: &Names, literals: &[Literal]) -> Result<Calling, AllocError>
+/// What the variables of a method of a class with these names are called, by its literals. Those of its own are listed up to a
+/// number, so that no name is sought twice.
+pub fn calling_of(
+    alloc: Global,
+    names: &Names,
+    literals: &[Literal],
+    variables: usize,
+) -> Result<Calling, AllocError>
     ensures { IfOk result (λ c.
         calling_view c ≡ calling_of (names_view names.now) (literals_view literals.now)) }
 {
     let texts = shared_texts(alloc, names)?;
-    let most = most_marks(&names.fields).max(most_marks(&texts));
     let fields = field_texts(alloc, &names.fields)?;
     let shared = literal_texts(alloc, names, &texts, literals)?;
+    let taken = taken_of(alloc, &names.fields, &texts)?;
+    let own = first_names(alloc, &taken, variables)?;
     Ok(Calling {
         fields,
         shared,
-        marks: sum(1, most)?,
+        own,
+        taken,
     })
-}
-
-/// A number in decimal.
-fn decimal_text(alloc: Global, number: usize) -> Result<Text, AllocError>
-    ensures { IfOk result (λ t. t.items ≡ decimal number) }
-{
-    let mut buffer = Buffer::new();
-    buffer.format(number).as_bytes().to_vec(alloc)
-}
-
-/// A numeral of its own for each variable, from 1 on.
-fn numeral(alloc: Global, number: usize) -> Result<Text, AllocError>
-    ensures { IfOk result (λ t. t.items ≡ numeral number) }
-{
-    let count = sum(number, 1)?;
-    decimal_text(alloc, count)
-}
-
-/// What one of the method's own variables is called.
-#[tactic(auto, using(crate::proofs::NameTurns::letters))]
-fn own_name(alloc: Global, marks: usize, number: usize) -> Result<Text, AllocError>
-    ensures { IfOk result (λ t. t.items ≡ own_name marks number) }
-{
-    let mut text = Vec::new(alloc);
-    for i in 0..marks {
-        text.push(b't')?;
-    }
-    text.extend_from_slice(&numeral(alloc, number)?)?;
-    Ok(text)
 }
 
 /// A text, or what stands for none.
@@ -259,7 +215,7 @@ impl Calling {
     {
         let text = match place {
             Place::Field(n) => text_at(alloc, &self.fields, n)?,
-            Place::Temporary(k) => own_name(alloc, self.marks, k)?,
+            Place::Temporary(k) => listed_name(alloc, &self.own, &self.taken, k)?,
             Place::Literal(_) => b"self".as_slice().to_vec(alloc)?,
             Place::Shared(p) => text_at(alloc, &self.shared, p)?,
         };

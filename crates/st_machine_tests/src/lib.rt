@@ -5,6 +5,8 @@
 #[cfg(test)]
 mod cached;
 #[cfg(test)]
+mod calls;
+#[cfg(test)]
 mod draft;
 #[cfg(test)]
 mod events;
@@ -14,6 +16,8 @@ mod heap;
 mod image;
 #[cfg(test)]
 mod machines;
+#[cfg(test)]
+mod memories;
 #[cfg(test)]
 mod near;
 #[cfg(test)]

@@ -1,17 +1,16 @@
-//! Machines over both memories, as tables.
+//! Machines, as tables.
 
 ghost use Rattle.std.specs.Prelude.{◌≡◌, IfOk, None};
 ghost use Rattle.st_frames.specs.Shown.{IsReady};
 
-use crate::events::counts_are;
-use crate::image::{B, first_are, make, ready, used, write, write_first};
-use st_counted::CountedLoader;
+use crate::calls::{are_first, are_used, make, write, write_first};
+use crate::events::are_waiting;
+use crate::image::{Image, plan_of, ready};
 use st_frames::{Frame, Loaded};
 use st_input::{World, hold};
 use st_machine::{Machine, RunEnd};
 use st_memory::{Loader, Memory};
 use st_model::{Dead, Device, Event, Kind, Oop};
-use st_plain::PlainLoader;
 use std::alloc::AllocGlobal;
 use std::process::Abort;
 use std::test::Fail;
@@ -28,43 +27,58 @@ fn registers(context: u16, ip: i32, sp: u32) -> Frame {
     }
 }
 
-/// Makes the scheduler's lists, of which 18 is that for priority 4; a process of priority 6, which waits first on the
-/// semaphore 30; and its context.
-fn make_process<M: Memory>(rt: &impl Abort, m: &mut M)
+/// The scheduler's lists, of which 18 is that for priority 4; a process of priority 6, which waits first on the semaphore 30; and
+/// its context: their classes and sizes, and the pointers under which they are made.
+const MADE: &[(u16, u32, u16)] = &[
+    (16, 8, 10),
+    (12, 2, 18),
+    (12, 4, 20),
+    (12, 3, 30),
+    (22, 18, 36),
+];
+
+/// Their first fields, and the scheduler's.
+const FILLED: &[(u16, &[u16])] = &[
+    (58, &[10, 60]),
+    (10, &[2, 2, 2, 18]),
+    (20, &[2, 36, 13, 30]),
+    (30, &[20, 20, 1]),
+    (36, &[2, 7, 3, 64]),
+];
+
+fn make_process<M: Memory>(m: &mut M) -> bool
     ensures { (M.view m.new).held ≡ (M.view m.old).held }
 {
-    assert_eq!(rt; make(rt, m, 16, Kind::Pointers, 8), 10);
-    assert_eq!(rt; make(rt, m, 12, Kind::Pointers, 2), 18);
-    assert_eq!(rt; make(rt, m, 12, Kind::Pointers, 4), 20);
-    assert_eq!(rt; make(rt, m, 12, Kind::Pointers, 3), 30);
-    assert_eq!(rt; make(rt, m, 22, Kind::Pointers, 18), 36);
+    for (class, size, made) in MADE {
+        if make(m, *class, Kind::Pointers, *size) != Some(*made) {
+            return false;
+        }
+    }
+    true
 }
 
-/// Gives what was made, and the scheduler, their fields.
-fn fill_process<M: Memory>(rt: &impl Abort, m: &mut M)
+fn fill_process<M: Memory>(m: &mut M) -> bool
     ensures { (M.view m.new).held ≡ (M.view m.old).held }
 {
-    write_first(rt, m, 58, &[10, 60]);
-    write_first(rt, m, 10, &[2, 2, 2, 18]);
-    write_first(rt, m, 20, &[2, 36, 13, 30]);
-    write_first(rt, m, 30, &[20, 20, 1]);
-    write_first(rt, m, 36, &[2, 7, 3, 64]);
+    for (object, fields) in FILLED {
+        if !write_first(m, *object, fields) {
+            return false;
+        }
+    }
+    true
 }
 
 /// A device holds this from the start.
-fn hold_first<M: Memory>(
-    rt: &impl Abort,
-    loaded: &mut Loaded<M>,
-    w: &mut World,
-    device: Device,
-    object: u16,
-)
+fn hold_first<M: Memory>(loaded: &mut Loaded<M>, w: &mut World, device: Device, object: u16) -> bool
     requires { IsReady (M.view loaded.old.memory) loaded.old.frame w.old }
     ensures { IsReady (M.view loaded.new.memory) loaded.new.frame w.new }
 {
     let object = Oop(object);
-    assert!(rt; loaded.memory.live(object));
+    if !loaded.memory.live(object) {
+        return false;
+    }
     hold(&mut loaded.memory, w, device, object);
+    true
 }
 
 /// How a machine of image B begins.
@@ -76,16 +90,16 @@ enum Start {
     Two(Device, u16),
 }
 
-fn begin<M: Memory>(rt: &impl Abort, loaded: &mut Loaded<M>, w: &mut World, start: Start)
+fn begin<M: Memory>(loaded: &mut Loaded<M>, w: &mut World, start: Start) -> bool
     requires { IsReady (M.view loaded.old.memory) loaded.old.frame w.old }
     ensures { IsReady (M.view loaded.new.memory) loaded.new.frame w.new }
 {
     match start {
-        Start::Active(process) => write(rt, &mut loaded.memory, 58, 1, process),
+        Start::Active(process) => write(&mut loaded.memory, 58, 1, process),
         Start::Two(device, object) => {
-            make_process(rt, &mut loaded.memory);
-            fill_process(rt, &mut loaded.memory);
-            hold_first(rt, loaded, w, device, object);
+            make_process(&mut loaded.memory)
+                && fill_process(&mut loaded.memory)
+                && hold_first(loaded, w, device, object)
         }
     }
 }
@@ -97,8 +111,8 @@ fn machine_of<L: Loader>(
     ensures { IfOk result (λ m. m.death ≡ None
         → IsReady (L.Done.view m.memory) m.frame m.world) }
 {
-    let (mut loaded, mut world) = ready::<L>(rt.alloc(), &B)?;
-    begin(rt, &mut loaded, &mut world, start);
+    let (mut loaded, mut world) = ready::<L>(rt.alloc(), plan_of(Image::B))?;
+    assert!(rt; begin(&mut loaded, &mut world, start));
     Ok(Machine::boot(loaded, world))
 }
 
@@ -205,43 +219,66 @@ const DEAD_OF_SAVING: &[Call] = &[
     Call::Death(Some(Dead::Small)),
 ];
 
-/// Objects have these first fields.
-fn all_first_are<M: Memory>(rt: &impl Abort, m: &M, objects: &[(u16, &[u16])]) {
+/// Whether objects have these first fields.
+fn are_all_first<M: Memory>(m: &M, objects: &[(u16, &[u16])]) -> bool {
     for (object, fields) in objects {
-        first_are(rt, m, *object, fields);
+        if !are_first(m, *object, fields) {
+            return false;
+        }
     }
+    true
 }
 
 /// An input word comes to a machine that is alive.
-fn word_comes<M: Memory>(rt: &impl Abort, machine: &mut Machine<M>, word: u16)
+fn word_comes<M: Memory>(machine: &mut Machine<M>, word: u16) -> bool
     requires { machine.old.death ≡ None
         → IsReady (M.view machine.old.memory) machine.old.frame machine.old.world }
     ensures { machine.new.death ≡ None
         → IsReady (M.view machine.new.memory) machine.new.frame machine.new.world }
 {
-    assert!(rt; machine.death().is_none());
-    assert_eq!(rt; machine.event(Event::Word(word)), Ok(()));
+    machine.death().is_none() && machine.event(Event::Word(word)) == Ok(())
 }
 
-/// Calls a machine, and compares what it answers with what is wanted.
-fn carry_out<M: Memory>(rt: &impl Abort, machine: &mut Machine<M>, call: Call)
+/// Calls a machine; whether it is called, and answers what is wanted.
+fn does<M: Memory>(machine: &mut Machine<M>, call: &Call) -> bool
     requires { machine.old.death ≡ None
         → IsReady (M.view machine.old.memory) machine.old.frame machine.old.world }
     ensures { machine.new.death ≡ None
         → IsReady (M.view machine.new.memory) machine.new.frame machine.new.world }
 {
-    match call {
-        Call::Word(word) => word_comes(rt, machine, word),
-        Call::Run(count, end) => assert_eq!(rt; machine.run(count), end),
-        Call::Save(saved) => assert_eq!(rt; machine.save(), saved),
-        Call::Death(cause) => assert_eq!(rt; machine.death(), cause),
-        Call::Frame(context, ip, sp) => assert_eq!(rt; machine.frame(), registers(context, ip, sp)),
-        Call::Counts(words, signals) => counts_are(rt, machine.world(), words, signals),
-        Call::Oldest(word) => assert_eq!(rt; machine.world().oldest_word(), word),
-        Call::Free(device) => assert!(rt; !machine.world().holds(device)),
-        Call::Used(entries, words) => used(rt, machine.memory(), entries, words),
-        Call::First(object, fields) => first_are(rt, machine.memory(), object, fields),
-        Call::AllFirst(objects) => all_first_are(rt, machine.memory(), objects),
+    match *call {
+        Call::Word(word) => word_comes(machine, word),
+        Call::Run(count, end) => machine.run(count) == end,
+        Call::Save(saved) => machine.save() == saved,
+        _ => false,
+    }
+}
+
+/// Whether a machine, which stays as it is, its world and its memory answer what is wanted.
+fn is_so<M: Memory>(machine: &Machine<M>, call: &Call) -> bool {
+    match *call {
+        Call::Death(cause) => machine.death() == cause,
+        Call::Frame(context, ip, sp) => machine.frame() == registers(context, ip, sp),
+        Call::Counts(words, signals) => are_waiting(machine.world(), words, signals),
+        Call::Oldest(word) => machine.world().oldest_word() == word,
+        Call::Free(device) => !machine.world().holds(device),
+        Call::Used(entries, words) => are_used(machine.memory(), entries, words),
+        Call::First(object, fields) => are_first(machine.memory(), object, fields),
+        Call::AllFirst(objects) => are_all_first(machine.memory(), objects),
+        _ => false,
+    }
+}
+
+/// Calls a machine, which answers what is wanted.
+fn check_calls<M: Memory>(rt: &impl Abort, machine: &mut Machine<M>, calls: &[Call])
+    requires { machine.old.death ≡ None
+        → IsReady (M.view machine.old.memory) machine.old.frame machine.old.world }
+{
+    for (number, call) in calls.iter().enumerate() {
+        assert!(rt;
+            is_so(machine, call) || does(machine, call),
+            "call {number}"
+        );
     }
 }
 
@@ -256,18 +293,10 @@ const ROWS: &[(Start, &[Call])] = &[
     (Start::Active(58), DEAD_OF_SAVING),
 ];
 
-fn machines_are_called<L: Loader>(rt: &(impl Abort + AllocGlobal)) -> Result<(), Fail> {
+pub fn check_machines<L: Loader>(rt: &(impl Abort + AllocGlobal)) -> Result<(), Fail> {
     for (start, calls) in ROWS {
         let mut machine = machine_of::<L>(rt, *start)?;
-        for next in *calls {
-            carry_out(rt, &mut machine, *next);
-        }
+        check_calls(rt, &mut machine, calls);
     }
     Ok(())
-}
-
-#[test]
-fn machines_are_called_over_both_memories(rt: HostRuntime) -> Result<(), Fail> {
-    machines_are_called::<PlainLoader>(&rt)?;
-    machines_are_called::<CountedLoader>(&rt)
 }

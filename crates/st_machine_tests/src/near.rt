@@ -1,13 +1,13 @@
+ghost use Rattle.std.specs.Prelude.{◌≤◌};
 ghost use Rattle.st_frames.specs.Shown.{IsFrame};
 
-use crate::image::{B, first_are, ready};
-use crate::reads::{bytes_are, counts_are, fields_are};
+use crate::calls::are_first;
+use crate::image::{Image, plan_of, ready};
+use crate::reads::{are_bytes, are_counts, are_fields};
 use st_at_once::Near;
-use st_counted::CountedLoader;
 use st_frames::Frame;
 use st_memory::{Loader, Memory, Objects};
 use st_model::{Dead, Word};
-use st_plain::PlainLoader;
 use std::alloc::AllocGlobal;
 use std::process::Abort;
 use std::test::Fail;
@@ -17,15 +17,18 @@ const CONTEXT: Word = Word(62);
 
 const METHOD: Word = Word(64);
 
+/// The process.
+const PROCESS: Word = Word(60);
+
 /// What is read of context and method, and no more than they have.
-const FIELDS: [(Word, u32, Result<Word, Dead>); 4] = [
+const FIELDS: &[(Word, u32, Result<Word, Dead>)] = &[
     (CONTEXT, 3, Ok(METHOD)),
     (CONTEXT, 17, Ok(Word::NIL)),
     (CONTEXT, 18, Err(Dead::Field)),
     (METHOD, 0, Err(Dead::Kind)),
 ];
 
-const BYTES: [(Word, i32, Result<u8, Dead>); 5] = [
+const BYTES: &[(Word, i32, Result<u8, Dead>)] = &[
     (METHOD, 1, Err(Dead::Ip)),
     (METHOD, 2, Ok(118)),
     (METHOD, 6, Ok(251)),
@@ -33,45 +36,53 @@ const BYTES: [(Word, i32, Result<u8, Dead>); 5] = [
     (METHOD, -1, Err(Dead::Ip)),
 ];
 
-/// Of context and method the same is read near at hand as by a memory.
-fn reads_near<O: Objects>(rt: &impl Abort, m: &O) {
-    fields_are(rt, m, &FIELDS);
-    bytes_are(rt, m, &BYTES);
-    counts_are(rt, m, &[(CONTEXT, Ok(18))]);
-    assert_eq!(rt; m.literal(METHOD, 0), Err(Dead::Field));
+/// What is read of a field of the context once it was stored, and of it and the process once they were exchanged.
+const STORED: &[(Word, u32, Result<Word, Dead>)] = &[(CONTEXT, 17, Ok(Word(7)))];
+
+const EXCHANGED: &[(Word, u32, Result<Word, Dead>)] = &[
+    (CONTEXT, 17, Err(Dead::Field)),
+    (PROCESS, 17, Ok(Word(7))),
+];
+
+/// Whether of context and method the same is read near at hand as by a memory.
+fn reads_near<O: Objects>(m: &O) -> bool {
+    are_fields(m, FIELDS)
+        && are_bytes(m, BYTES)
+        && are_counts(m, &[(CONTEXT, Ok(18))])
+        && m.literal(METHOD, 0) == Err(Dead::Field)
 }
 
-/// A field of the context is stored, and after an exchange each of two words reads what the other had.
-fn changes_near<M: Memory>(rt: &impl Abort, m: &mut M, f: &Frame)
+/// Whether a field of the context can be stored.
+fn stores<O: Objects>(o: &mut O) -> bool
+    requires { 1 ≤ O.room o.old }
+{
+    reads_near(o) && o.store_field(CONTEXT, 17, Word(7)) == Ok(()) && are_fields(o, STORED)
+}
+
+/// Whether after an exchange each of two words reads what the other had.
+fn exchanges<O: Objects>(o: &mut O) -> bool
+    requires { 1 ≤ O.room o.old }
+{
+    are_fields(o, STORED)
+        && o.exchange(CONTEXT, PROCESS) == Ok(())
+        && are_counts(o, &[(CONTEXT, Ok(4))])
+        && are_fields(o, EXCHANGED)
+}
+
+/// A field of the context is stored near at hand, and stays as it is where that is settled.
+fn changes_near<M: Memory>(m: &mut M, f: &Frame) -> bool
     requires { IsFrame (M.view m.old) f.now }
 {
     let mut near = Near::new(m, f);
-    let other = Word(60);
-    reads_near(rt, &near);
-    assert_eq!(rt; near.store_field(CONTEXT, 17, Word(7)), Ok(()));
-    fields_are(rt, &near, &[(CONTEXT, 17, Ok(Word(7)))]);
+    let is_stored = stores(&mut near);
     near.settle();
-    fields_are(rt, &near, &[(CONTEXT, 17, Ok(Word(7)))]);
-    assert_eq!(rt; near.exchange(CONTEXT, other), Ok(()));
-    counts_are(rt, &near, &[(CONTEXT, Ok(4))]);
-    fields_are(
-        rt,
-        &near,
-        &[(CONTEXT, 17, Err(Dead::Field)), (other, 17, Ok(Word(7)))],
-    );
+    is_stored && exchanges(&mut near)
 }
 
 /// What was stored near at hand stands in the memory.
-fn is_near_in_image_b<L: Loader>(rt: &(impl Abort + AllocGlobal)) -> Result<(), Fail> {
-    let (mut loaded, _world) = ready::<L>(rt.alloc(), &B)?;
-    reads_near(rt, &loaded.memory);
-    changes_near(rt, &mut loaded.memory, &loaded.frame);
-    first_are(rt, &loaded.memory, 62, &[2, 62, 9, 2]);
+pub fn check_near<L: Loader>(rt: &(impl Abort + AllocGlobal)) -> Result<(), Fail> {
+    let (mut loaded, _world) = ready::<L>(rt.alloc(), plan_of(Image::B))?;
+    let is_near = reads_near(&loaded.memory) && changes_near(&mut loaded.memory, &loaded.frame);
+    assert!(rt; is_near && are_first(&loaded.memory, 62, &[2, 62, 9, 2]));
     Ok(())
-}
-
-#[test]
-fn is_near_in_both_memories(rt: HostRuntime) -> Result<(), Fail> {
-    is_near_in_image_b::<PlainLoader>(&rt)?;
-    is_near_in_image_b::<CountedLoader>(&rt)
 }

@@ -2,29 +2,33 @@
 
 use st_memory::Objects;
 use st_model::{Dead, Word};
-use std::process::Abort;
 
-/// What stands in fields, or why there is nothing.
-pub fn fields_are<O: Objects>(rt: &impl Abort, o: &O, rows: &[(Word, u32, Result<Word, Dead>)]) {
+/// Whether this stands in fields, or there is nothing for such causes.
+pub fn are_fields<O: Objects>(o: &O, rows: &[(Word, u32, Result<Word, Dead>)]) -> bool {
     for (object, at, found) in rows {
-        assert_eq!(rt;
-            o.fetch_field(*object, *at),
-            *found,
-            "field {at} of {object:?}"
-        );
+        if o.fetch_field(*object, *at) != *found {
+            return false;
+        }
     }
+    true
 }
 
-/// How many fields objects have.
-pub fn counts_are<O: Objects>(rt: &impl Abort, o: &O, rows: &[(Word, Result<u32, Dead>)]) {
+/// Whether objects have so many fields.
+pub fn are_counts<O: Objects>(o: &O, rows: &[(Word, Result<u32, Dead>)]) -> bool {
     for (object, count) in rows {
-        assert_eq!(rt; o.count_fields(*object), *count, "of {object:?}");
+        if o.count_fields(*object) != *count {
+            return false;
+        }
     }
+    true
 }
 
-/// What stands in a method's bytes.
-pub fn bytes_are<O: Objects>(rt: &impl Abort, o: &O, rows: &[(Word, i32, Result<u8, Dead>)]) {
+/// Whether this stands in a method's bytes.
+pub fn are_bytes<O: Objects>(o: &O, rows: &[(Word, i32, Result<u8, Dead>)]) -> bool {
     for (method, at, byte) in rows {
-        assert_eq!(rt; o.byte_at(*method, *at), *byte, "byte {at} of {method:?}");
+        if o.byte_at(*method, *at) != *byte {
+            return false;
+        }
     }
+    true
 }

@@ -1,16 +1,17 @@
 //! Calls of a memory and what comes of them, as tables.
 
-use crate::image::{B, C, Plan, UNNAMED, WORDS, hold, image, make, used, write};
-use st_counted::CountedLoader;
+use crate::calls::{
+    are_first, are_used, exchange, find_and_remember, hold, is_field, make, remembered, write,
+};
+use crate::image::{Image, memory_of};
 use st_memory::{Loader, Memory, count_fields};
-use st_model::{Demand, Kind, Oop, RootPlace};
-use st_plain::PlainLoader;
+use st_model::{Dead, Demand, Kind, Oop, RootPlace};
 use std::alloc::AllocGlobal;
 use std::process::Abort;
 
 /// A call of a memory, or what it answers then.
 #[derive(Clone, Copy)]
-enum Call {
+pub enum Call {
     /// So many objects of a class, a kind and a size are made, the last one under this pointer.
     Make(u32, u16, Kind, u32, u16),
     /// So many objects are made of which each but the first has the one before in its second field; the last one is held.
@@ -39,10 +40,14 @@ enum Call {
     Byte(u16, u32, u8),
     /// The next instance of a class above a pointer.
     Next(u16, u32, Option<Oop>),
+    /// A selector is searched in a class, and what is found is remembered.
+    Find(u16, u16, Result<Option<Oop>, Dead>),
+    /// What is remembered for a selector in a class.
+    Remembered(u16, u16, Option<Oop>),
 }
 
 /// An image with its capacities, and calls of its memory.
-type Row = (Plan<'static>, u32, u32, &'static [Call]);
+pub type Row = (Image, u32, u32, &'static [Call]);
 
 /// Five objects up to the last word. Two of them are held, and the words of the others are free again, though no hole
 /// has as many as the last object wants.
@@ -178,76 +183,88 @@ const NEW_FIELDS: &[Call] = &[
     Call::Field(60, 3, 2),
 ];
 
-const ROWS: &[Row] = &[
-    (B, 32767, 108, FILLED_WORDS),
-    (B, 32767, 186, MOVED_WORDS),
-    (B, 32767, 1048576, FILLED_TABLE),
-    (B, 32767, 1048576, CYCLE),
-    (B, 32767, 1048576, CHAIN),
-    (UNNAMED, 32767, 1048576, UNNAMED_GOES),
-    (B, 32767, 1048576, HELD_TWICE),
-    (C, 32767, 1048576, EXCHANGED),
-    (WORDS, 32767, 1048576, STORED_WORD),
-    (B, 40, 100, NEW_FIELDS),
+pub const ROWS: &[Row] = &[
+    (Image::B, 32767, 108, FILLED_WORDS),
+    (Image::B, 32767, 186, MOVED_WORDS),
+    (Image::B, 32767, 1048576, FILLED_TABLE),
+    (Image::B, 32767, 1048576, CYCLE),
+    (Image::B, 32767, 1048576, CHAIN),
+    (Image::Unnamed, 32767, 1048576, UNNAMED_GOES),
+    (Image::B, 32767, 1048576, HELD_TWICE),
+    (Image::C, 32767, 1048576, EXCHANGED),
+    (Image::Words, 32767, 1048576, STORED_WORD),
+    (Image::B, 40, 100, NEW_FIELDS),
 ];
 
-/// Makes so many objects, and answers the last one's pointer.
+/// Makes so many objects, the last one under this pointer.
 fn make_many<M: Memory>(
-    rt: &impl Abort,
     m: &mut M,
     count: u32,
     (class, kind, size): (u16, Kind, u32),
-) -> u16 {
-    let mut made = 0;
+    last: u16,
+) -> bool {
+    let mut made = None;
     for _ in 0..count {
-        made = make(rt, m, class, kind, size);
+        made = make(m, class, kind, size);
+        if made.is_none() {
+            return false;
+        }
     }
-    made
+    made == Some(last)
 }
 
-fn make_chain<M: Memory>(rt: &impl Abort, m: &mut M, count: u32) {
+fn make_chain<M: Memory>(m: &mut M, count: u32) -> bool {
     let mut last = 2;
     for _ in 0..count {
-        let object = make(rt, m, 16, Kind::Pointers, 2);
-        write(rt, m, object, 1, last);
+        let Some(object) = make(m, 16, Kind::Pointers, 2) else {
+            return false;
+        };
+        if !write(m, object, 1, last) {
+            return false;
+        }
         last = object;
     }
-    hold(rt, m, RootPlace::Timer, last);
+    hold(m, RootPlace::Timer, last)
+}
+
+/// Makes an object with this in a field.
+fn make_with<M: Memory>(m: &mut M, size: u32, at: u32, field: u16) -> Option<u16> {
+    let made = make(m, 12, Kind::Pointers, size)?;
+    if write(m, made, at, field) {
+        Some(made)
+    } else {
+        None
+    }
 }
 
 /// One object is kept until the next turn, and one is lost in this one. Another is made where that was, or below.
-fn make_in_turn<M: Memory>(rt: &impl Abort, m: &mut M, turn: u32) {
-    let kept = make(rt, m, 12, Kind::Pointers, 3);
-    write(rt, m, kept, 2, 6);
-    hold(rt, m, RootPlace::Cursor, kept);
-    let lost = make(rt, m, 12, Kind::Pointers, 2);
-    write(rt, m, lost, 0, 4);
+fn make_in_turn<M: Memory>(m: &mut M) -> Option<bool> {
+    let kept = make_with(m, 3, 2, 6)?;
+    let is_held = hold(m, RootPlace::Cursor, kept);
+    let lost = make_with(m, 2, 0, 4)?;
     m.settle();
-    used(rt, m, 25, 83);
-    let made = make(rt, m, 12, Kind::Pointers, 4);
-    let is_new = made != kept && made <= lost && is_field(m, made, 0, 2) && is_field(m, made, 3, 2);
-    assert!(rt;
-        is_new && is_field(m, kept, 0, 2) && is_field(m, kept, 2, 6),
-        "in turn {turn}"
-    );
+    let is_settled = are_used(m, 25, 83);
+    let made = make(m, 12, Kind::Pointers, 4)?;
+    let is_new = made != kept && made <= lost && are_first(m, made, &[]);
+    Some(is_held && is_settled && is_new && are_first(m, kept, &[2, 2, 6]))
 }
 
-fn make_in_turns<M: Memory>(rt: &impl Abort, m: &mut M, count: u32) {
-    for turn in 0..count {
-        make_in_turn(rt, m, turn);
+fn make_in_turns<M: Memory>(m: &mut M, count: u32) -> bool {
+    for _ in 0..count {
+        if make_in_turn(m) != Some(true) {
+            return false;
+        }
     }
+    true
 }
 
-fn exchange<M: Memory>(rt: &impl Abort, m: &mut M, a: u16, b: u16) {
-    assert!(rt; m.live(Oop(a)) && m.live(Oop(b)));
-    m.swap(Oop(a), Oop(b));
-}
-
-fn store_word<M: Memory>(rt: &impl Abort, m: &mut M, o: u16, at: u32, word: u16) {
+fn store_word<M: Memory>(m: &mut M, o: u16, at: u32, word: u16) -> bool {
     let object = Oop(o);
-    assert!(rt; m.live(object));
-    assert!(rt; m.kind(object).is_words() && at < m.size(object));
-    m.set_word(object, at, word);
+    if m.live(object) && m.kind(object).is_words() && at < m.size(object) {
+        m.set_word(object, at, word);
+        return true;
+    }
+    false
 }
 
 fn is_object<M: Memory>(m: &M, o: u16, class: u16, kind: &str) -> bool {
@@ -262,14 +279,6 @@ fn is_object<M: Memory>(m: &M, o: u16, class: u16, kind: &str) -> bool {
         Kind::Method => "method",
     };
     m.class_of(object).0 == class && name == kind
-}
-
-fn is_field<M: Memory>(m: &M, o: u16, at: u32, field: u16) -> bool {
-    let object = Oop(o);
-    m.live(object)
-        && m.kind(object).is_pointers()
-        && at < m.size(object)
-        && m.pointer(object, at).0 == field
 }
 
 fn is_word<M: Memory>(m: &M, o: u16, at: u32, word: u16) -> bool {
@@ -287,31 +296,35 @@ fn is_byte<M: Memory>(m: &M, o: u16, at: u32, byte: u8) -> bool {
         && m.byte(object, at) == byte
 }
 
-/// Makes a call that changes a memory; whether it is such a one, and answers what is wanted.
-fn does<M: Memory>(rt: &impl Abort, m: &mut M, call: Call) -> bool {
-    match call {
-        Call::Make(count, class, kind, size, last) => return make_many(
-            rt,
+/// Makes a call that may change a memory; whether it is such a one, and answers what is wanted.
+pub fn does<M: Memory>(m: &mut M, call: &Call) -> bool {
+    match *call {
+        Call::Make(count, class, kind, size, last) => make_many(
             m,
             count,
             (class, kind, size),
-        ) == last,
-        Call::MakeChain(count) => make_chain(rt, m, count),
-        Call::MakeInTurns(count) => make_in_turns(rt, m, count),
-        Call::Hold(place, o) => hold(rt, m, place, o),
-        Call::Settle => m.settle(),
-        Call::Exchange(a, b) => exchange(rt, m, a, b),
-        Call::Store(o, at, field) => write(rt, m, o, at, field),
-        Call::StoreWord(o, at, word) => store_word(rt, m, o, at, word),
-        _ => return false,
+            last,
+        ),
+        Call::MakeChain(count) => make_chain(m, count),
+        Call::MakeInTurns(count) => make_in_turns(m, count),
+        Call::Hold(place, o) => hold(m, place, o),
+        Call::Exchange(a, b) => exchange(m, a, b),
+        Call::Store(o, at, field) => write(m, o, at, field),
+        Call::StoreWord(o, at, word) => store_word(m, o, at, word),
+        Call::Find(class, selector, found) => find_and_remember(m, Oop(class), Oop(selector))
+            == found,
+        Call::Settle => {
+            m.settle();
+            true
+        }
+        _ => false,
     }
-    true
 }
 
 /// Whether a memory, which stays as it is, answers what is wanted.
-fn is_so<M: Memory>(m: &M, call: Call) -> bool {
-    match call {
-        Call::Used(entries, words) => m.used() == Demand { entries, words },
+fn is_so<M: Memory>(m: &M, call: &Call) -> bool {
+    match *call {
+        Call::Used(entries, words) => are_used(m, entries, words),
         Call::Room(entries, words, fits) => m.room(Demand { entries, words }) == fits,
         Call::Object(o, class, kind) => is_object(m, o, class, kind),
         Call::Gone(o) => !m.live(Oop(o)),
@@ -319,26 +332,23 @@ fn is_so<M: Memory>(m: &M, call: Call) -> bool {
         Call::Word(o, at, word) => is_word(m, o, at, word),
         Call::Byte(o, at, byte) => is_byte(m, o, at, byte),
         Call::Next(class, after, next) => m.next_of(Oop(class), after) == next,
+        Call::Remembered(class, selector, method) => remembered(m, Oop(class), Oop(selector))
+            == method,
         _ => false,
     }
 }
 
 /// Calls a memory, which answers what is wanted.
-fn check_calls<M: Memory>(rt: &impl Abort, m: &mut M, calls: &[Call]) {
+pub fn check_calls<M: Memory>(rt: &impl Abort, m: &mut M, calls: &[Call]) {
     for (number, call) in calls.iter().enumerate() {
-        assert!(rt; is_so(m, *call) || does(rt, m, *call), "call {number}");
+        assert!(rt; is_so(m, call) || does(m, call), "call {number}");
     }
 }
 
-fn rows_hold<L: Loader>(rt: &(impl Abort + AllocGlobal)) {
-    for (plan, entries, words, calls) in ROWS {
-        let mut m = image::<L>(rt.alloc(), plan, *entries, *words).expect(rt, "an image");
+/// Calls the memory of each row.
+pub fn check_rows<L: Loader>(rt: &(impl Abort + AllocGlobal), rows: &[Row]) {
+    for (of, entries, words, calls) in rows {
+        let mut m = memory_of::<L>(rt.alloc(), *of, *entries, *words).expect(rt, "an image");
         check_calls(rt, &mut m, calls);
     }
-}
-
-#[test]
-fn rows_hold_over_both_memories(rt: HostRuntime) {
-    rows_hold::<PlainLoader>(&rt);
-    rows_hold::<CountedLoader>(&rt);
 }

@@ -3,11 +3,10 @@
 ghost use Rattle.std.specs.Prelude.{◌≡◌, IfOk, None};
 ghost use Rattle.st_frames.specs.Shown.{IsReady};
 
-use crate::cached::remembered;
-use crate::image::{C, Plan, objects_of_c, ready};
-use st_counted::CountedLoader;
+use crate::calls::remembered;
+use crate::image::{Image, Parts, plan_of, ready};
 use st_frames::Loaded;
-use st_lookup::{CachedLoader, find};
+use st_lookup::find;
 use st_machine::{Machine, RunEnd};
 use st_memory::{Loader, Memory};
 use st_model::{Demand, Kind, Oop, RootPlace};
@@ -16,7 +15,7 @@ use std::cell::Cell;
 use std::process::Abort;
 use std::test::Fail;
 
-/// A memory that counts the calls of `pointer` and `placed_pointer`, and hands each call on.
+/// A memory that counts the calls of `pointer`, and hands each call on.
 #[derive(Drop)]
 struct Counting<M: Memory> {
     memory: M,
@@ -67,22 +66,6 @@ impl<M: Memory> Memory for Counting<M> {
 
     fn set_byte(&mut self, o: Oop, at: u32, v: u8) {
         self.memory.set_byte(o, at, v);
-    }
-
-    fn read_words(&self, o: Oop, at: u32, into: &mut [u16]) {
-        self.memory.read_words(o, at, into);
-    }
-
-    fn read_bytes(&self, o: Oop, at: u32, into: &mut [u8]) {
-        self.memory.read_bytes(o, at, into);
-    }
-
-    fn write_words(&mut self, o: Oop, at: u32, words: &[u16]) {
-        self.memory.write_words(o, at, words);
-    }
-
-    fn write_bytes(&mut self, o: Oop, at: u32, bytes: &[u8]) {
-        self.memory.write_bytes(o, at, bytes);
     }
 
     fn room(&self, d: Demand) -> bool {
@@ -145,28 +128,19 @@ impl<M: Memory> Memory for Counting<M> {
         self.memory.place(o)
     }
 
-    fn placed_pointer(&self, o: Oop, place: u32, at: u32) -> Oop {
-        self.pointers.set(self.pointers.get().wrapping_add(1));
-        self.memory.placed_pointer(o, place, at)
-    }
-
-    fn placed_byte(&self, o: Oop, place: u32, at: u32) -> u8 {
-        self.memory.placed_byte(o, place, at)
-    }
-
-    fn set_placed_pointer(&mut self, o: Oop, place: u32, at: u32, v: Oop) {
-        self.memory.set_placed_pointer(o, place, at, v);
-    }
-
     ghost whole = { λ c. M.whole c.memory };
 }
 
 /// A machine over a memory that counts, around one that a loader makes.
-fn machine_of<L: Loader>(alloc: Global, plan: &Plan<'_>) -> Result<Machine<Counting<L::Done>>, Fail>
+fn machine_of<L: Loader>(
+    alloc: Global,
+    words: Parts<'_>,
+) -> Result<Machine<Counting<L::Done>>, Fail>
     ensures { IfOk result (λ m. m.death ≡ None
         → IsReady (L.Done.view m.memory.memory) m.frame m.world) }
 {
-    let (loaded, world) = ready::<L>(alloc, plan)?;
+    let (length, parts, _) = plan_of(Image::C);
+    let (loaded, world) = ready::<L>(alloc, (length, parts, words))?;
     let memory = Counting {
         memory: loaded.memory,
         pointers: Cell::new(0),
@@ -184,40 +158,31 @@ fn pointers<M: Memory>(machine: &Machine<Counting<M>>) -> u32 {
 }
 
 /// Words in place of some of image C's objects, and the selector for which class 12's method 72 is found in the third cycle.
-const SENT: &[(&[(usize, u16)], u16)] = &[
+const SENT: &[(Parts<'static>, u16)] = &[
     // The method is 32 118 176: the addition of 16383 and 1 fails, and is sent, which is foreseen.
     (&[], 66),
     // With the literal 66 it is 118 118 224: 1 is sent 66 with the argument 1, at once.
-    (&[(80, 66), (81, 30326), (82, 57344)], 66),
+    (&[(336, &[66, 30326, 57344])], 66),
     // The dictionary has 42, doesNotUnderstand:, in place of 66.
-    (&[(90, 42)], 42),
+    (&[(346, &[42])], 42),
 ];
 
-/// After three cycles of an image class 12's method 72 is remembered for the selector, and found without a look at any field.
-fn is_remembered<L: Loader>(
-    rt: &(impl Abort + AllocGlobal),
-    plan: &Plan<'_>,
-    selector: Oop,
-) -> Result<(), Fail> {
-    let class = Oop(12);
-    let mut machine = machine_of::<L>(rt.alloc(), plan)?;
-    assert_eq!(rt; machine.run(3), RunEnd::Ran);
-    assert_eq!(rt; remembered(machine.memory(), class, selector), Some(72));
+/// Whether after three cycles of an image class 12's method 72 is remembered for the selector, and found without a look at any
+/// field.
+fn is_remembered<L: Loader>(alloc: Global, words: Parts<'_>, selector: Oop) -> Result<bool, Fail> {
+    let method = Oop(72);
+    let mut machine = machine_of::<L>(alloc, words)?;
+    let is_remembered = machine.run(3) == RunEnd::Ran
+        && remembered(machine.memory(), Oop(12), selector) == Some(method);
     let before = pointers(&machine);
-    assert_eq!(rt; find(machine.memory(), class, selector), Ok(Some(Oop(72))));
-    assert_eq!(rt; pointers(&machine), before);
-    Ok(())
+    let found = find(machine.memory(), Oop(12), selector);
+    Ok(is_remembered && found == Ok(Some(method)) && pointers(&machine) == before)
 }
 
-#[test]
-fn what_was_sent_is_not_searched_again(rt: HostRuntime) -> Result<(), Fail> {
+pub fn check_sent<L: Loader>(rt: &(impl Abort + AllocGlobal)) -> Result<(), Fail> {
     for (words, selector) in SENT {
-        let objects = objects_of_c(words);
-        let plan = Plan {
-            objects: &objects,
-            ..C
-        };
-        is_remembered::<CachedLoader<CountedLoader>>(&rt, &plan, Oop(*selector))?;
+        let is_remembered = is_remembered::<L>(rt.alloc(), words, Oop(*selector))?;
+        assert!(rt; is_remembered);
     }
     Ok(())
 }

@@ -1,8 +1,10 @@
-use crate::image::{B, image, is_makeable, words_for};
+use crate::image::{Image, memory_of};
+use crate::rows::{Call, does};
 use st_counted::CountedLoader;
-use st_memory::Memory;
-use st_model::{Demand, Kind, Oop, RootPlace};
+use st_memory::{Loader, Memory};
+use st_model::{Kind, Oop, RootPlace};
 use st_plain::PlainLoader;
+use std::alloc::AllocGlobal;
 use std::process::Abort;
 
 /// How many thousands of calls are made.
@@ -21,52 +23,24 @@ impl Numbers {
     }
 
     /// A pointer, of an object or of none.
-    fn pointer(&mut self) -> Oop {
-        Oop((2 * (self.next() % 600 + 1)) as u16)
-    }
-}
-
-fn make<M: Memory>(m: &mut M, size: u32) {
-    let class = Oop(16);
-    if m.live(class) && is_makeable(class, Kind::Pointers, size) {
-        let words = words_for(class, Kind::Pointers, size);
-        if m.room(Demand { entries: 1, words }) {
-            Memory::make(m, class, Kind::Pointers, size, 0);
-        }
-    }
-}
-
-pub fn store<M: Memory>(m: &mut M, o: Oop, at: u32, v: Oop) {
-    if m.live(o) && m.live(v) && m.kind(o).is_pointers() && at < m.size(o) {
-        m.set_pointer(o, at, v);
-    }
-}
-
-pub fn hold<M: Memory>(m: &mut M, place: RootPlace, o: Oop) {
-    if !matches!(place, RootPlace::Pending(_)) && m.live(o) {
-        m.hold(place, o);
-    }
-}
-
-pub fn exchange<M: Memory>(m: &mut M, a: Oop, b: Oop) {
-    if m.live(a) && m.live(b) {
-        m.swap(a, b);
+    fn pointer(&mut self) -> u16 {
+        (2 * (self.next() % 600 + 1)) as u16
     }
 }
 
 /// One call; once in about a thousand it is `settle`.
-fn call<M: Memory>(m: &mut M, numbers: &mut Numbers) {
+fn call(numbers: &mut Numbers) -> Call {
     let choice = numbers.next();
     let first = numbers.pointer();
     let second = numbers.pointer();
     let number = numbers.next() % 5;
     match choice % 1000 {
-        0 => m.settle(),
-        1..=300 => make(m, number),
-        301..=700 => store(m, first, number, second),
-        701..=850 => hold(m, RootPlace::Display, first),
-        851..=950 => hold(m, RootPlace::Timer, first),
-        _ => exchange(m, first, second),
+        0 => Call::Settle,
+        1..=300 => Call::Make(1, 16, Kind::Pointers, number, 0),
+        301..=700 => Call::Store(first, number, second),
+        701..=850 => Call::Hold(RootPlace::Display, first),
+        851..=950 => Call::Hold(RootPlace::Timer, first),
+        _ => Call::Exchange(first, second),
     }
 }
 
@@ -84,27 +58,44 @@ fn mixed<M: Memory>(m: &M, o: Oop) -> u32 {
     sum
 }
 
-/// The same objects under the same pointers, with the same fields.
-fn compare<M: Memory, N: Memory>(rt: &impl Abort, m: &M, n: &N) {
-    assert_eq!(rt; m.used(), n.used());
+/// Whether both have the same objects under the same pointers, with the same fields.
+fn are_same<M: Memory, N: Memory>(m: &M, n: &N) -> bool {
     for k in 0..32768usize {
         let o = Oop((2 * k) as u16);
-        assert_eq!(rt; m.live(o), n.live(o));
-        assert_eq!(rt; mixed(m, o), mixed(n, o));
+        if m.live(o) != n.live(o) || mixed(m, o) != mixed(n, o) {
+            return false;
+        }
     }
+    m.used() == n.used()
+}
+
+/// Makes a thousand calls of both, which answer the same.
+fn do_thousand<M: Memory, N: Memory>(m: &mut M, n: &mut N, numbers: &mut Numbers) -> bool {
+    for _ in 0..1000 {
+        let call = call(numbers);
+        if does(m, &call) != does(n, &call) {
+            return false;
+        }
+    }
+    true
+}
+
+/// Makes thousands of calls of both, after each of which they are the same.
+fn check_thousands<M: Memory, N: Memory>(rt: &impl Abort, m: &mut M, n: &mut N) {
+    let mut numbers = Numbers { state: 1 };
+    for _ in 0..THOUSANDS {
+        assert!(rt; do_thousand(m, n, &mut numbers) && are_same(m, n));
+    }
+}
+
+/// Two memories of the same image.
+fn check_both<L: Loader, K: Loader>(rt: &(impl Abort + AllocGlobal)) {
+    let mut m = memory_of::<L>(rt.alloc(), Image::B, 32767, 20000).expect(rt, "an image");
+    let mut n = memory_of::<K>(rt.alloc(), Image::B, 32767, 20000).expect(rt, "an image");
+    check_thousands(rt, &mut m, &mut n);
 }
 
 #[test]
 fn both_do_the_same(rt: HostRuntime) {
-    let mut counted = image::<CountedLoader>(rt.alloc(), &B, 32767, 20000).expect(&rt, "an image");
-    let mut plain = image::<PlainLoader>(rt.alloc(), &B, 32767, 20000).expect(&rt, "an image");
-    let mut one = Numbers { state: 1 };
-    let mut two = Numbers { state: 1 };
-    for _ in 0..THOUSANDS {
-        for _ in 0..1000 {
-            call(&mut counted, &mut one);
-            call(&mut plain, &mut two);
-        }
-        compare(&rt, &counted, &plain);
-    }
+    check_both::<CountedLoader, PlainLoader>(&rt);
 }

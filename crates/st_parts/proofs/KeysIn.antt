@@ -1,6 +1,6 @@
 -- Keys of values, and the names that are kept of them, one after the other.
-use Rattle.std.proofs.Common.{◌≡◌, ℕ, ◌+◌, ◌<◌, ◌≤◌, Bool, true, false, List, [], ◌∷◌, length, drop, Option, Some, None, refl, sym, ap, ap₂, ◌∙◌, subst, arith}
-use Rattle.std.specs.Prelude.{slice_index_or, option_map, bytes_eq, if◌then◌else◌, Result, Ok, Err, OnOk}
+use Rattle.std.proofs.Common.{◌≡◌, ℕ, ◌+◌, ◌<◌, ◌≤◌, Bool, true, false, List, [], ◌∷◌, length, drop, Option, Some, None, refl, sym, ap, ap₂, ◌∙◌, subst}
+use Rattle.std.specs.Prelude.{slice_index_or, ◌&&◌, option_map, bytes_eq, if◌then◌else◌, Result, Ok, Err, OnOk}
 use Rattle.std.specs.List.{find}
 use Rattle.std.specs.Global.{Vec}
 use Rattle.std.specs.Map.{lookup}
@@ -10,7 +10,7 @@ use Rattle.st_model.specs.declared.oop.Oop.{Oop}
 use Rattle.st_model.specs.Values.{Value, value}
 use Rattle.st_model.specs.Table.{Table}
 use Rattle.st_scan.specs.Views.{StatementsView, no_statements}
-use Rattle.st_emit.specs.Names.{NamesView, SharedName, Variable, field, shared, field_named, shared_named, variable_named, or_else}
+use Rattle.st_emit.specs.Names.{NamesView, SharedName, Variable, field, shared, field_named, variable_named, or_else}
 use Rattle.st_emit.specs.NameViews.{pointer_of, shared_view}
 use Rattle.st_emit.proofs.Sharing.{shared_found}
 use Rattle.st_scan.specs.Views.{MethodView}
@@ -23,8 +23,9 @@ use Rattle.st_scope.specs.declared.fault.InstallFault.TheVariants as fault
 use Rattle.st_scope.specs.Seen.{AreSeen, AnswersNames}
 use Rattle.st_scope.specs.Alike.{SeesAlike}
 use Rattle.st_scope.specs.Meanings.{values}
-use Rattle.st_scope.specs.Sought.{shared_at, NotesShared}
-use Rattle.st_parts.specs.Keys.{word_of, key_in, with_mentioned, with_keys, is_named_by, means, with_named, named_among, names_for, AreNamesFor, AnswersFor}
+use Rattle.st_scope.specs.Sought.{shared_at}
+use Rattle.st_parts.specs.Keys.{word_of, key_in, with_mentioned, with_keys, is_named_by, with_named, named_among, names_for, AreNamesFor, AnswersFor}
+use Rattle.st_expression_stack.specs.Names.{is_usable, is_value}
 use Rattle.st_parts.specs.Kept.{Keeps, KeepsIf, named_as, Says, AreKept}
 
 -- WHAT IS MENTIONED
@@ -108,7 +109,7 @@ module _ (a b : NamesView) (alike : SeesAlike a b) where
 
   pub same_named : (key : Option (List ℕ)) (p : ℕ) → is_named_by a key p ≡ is_named_by b key p
   same_named None p = refl
-  same_named (Some key) p = ap (λ (x : Option Variable). means x p) (same_variable key)
+  same_named (Some key) p = ap (λ (x : Option Variable). is_usable key && is_value x p) (same_variable key)
 
   same_among : (t : Table) (ss : List SharedName) (vs : List Value) → named_among a t ss vs ≡ named_among b t ss vs
   same_among t ss [] = refl

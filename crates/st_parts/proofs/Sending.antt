@@ -1,45 +1,43 @@
 -- Whether bytecodes send to super, one after the other.
-use Rattle.std.proofs.Common.{◌≡◌, ℕ, suc, ◌<◌, Bool, true, false, ◌||◌, List, [], ◌∷◌, drop, length, Option, Some, None, refl, sym, ap, ◌∙◌, arith}
-use Rattle.std.specs.Prelude.{option_map}
-use Rattle.st_emit.specs.declared.step.Step.{Step}
-use Rattle.st_emit.specs.Steps.{is_super_send, sends_super}
-use Rattle.st_resolved.specs.declared.reading.Found.{Found}
-use Rattle.st_resolved.specs.Instructions.{on_some, instruction, steps_up}
+use Rattle.std.proofs.Common.{◌≡◌, ℕ, zero, suc, ◌+◌, ◌-◌, ◌<◌, ◌≤◌, Bool, true, false, ◌||◌, List, [], ◌∷◌, drop, length, refl, sym, ap, ◌∙◌, arith}
+use Rattle.std.specs.Prelude.{slice_index_or, ◌==◌, ◌&&◌, if◌then◌else◌}
+use Rattle.std.specs.List.{list_any}
+use Rattle.std.proofs.lemmas.Bool.Decides.{nat_tests}
+use Rattle.std.proofs.lemmas.List.{at_drop_more, drop_all}
+use Rattle.st_parts.specs.Cutting.{code_length, codes_behind}
+use Rattle.st_parts.specs.Parts.{is_super_byte, is_super_code}
 
--- one of those before did, or of those that are left
-abbrev pub sends_behind : Bool → Option (List Step) → Bool
-sends_behind b None = false
-sends_behind b (Some ss) = b || sends_super ss
+not_zero : (k : ℕ) → (suc k == 0) ≡ false
+not_zero k = grind (arith, nat_tests)
 
-or_none : (b : Bool) → (b || false) ≡ b
-or_none true = refl
-or_none false = refl
+-- behind so many bytes that belong to the bytecode before
+abbrev pub super_behind : ℕ → List ℕ → Bool
+super_behind k bytes = list_any is_super_code (codes_behind k bytes)
 
-or_both : (a b c : Bool) → ((a || b) || c) ≡ (a || (b || c))
-or_both true b c = refl
-or_both false b c = refl
+pub super_end : (bytes : List ℕ) (i k : ℕ) (all : Bool) → length bytes ≤ i → super_behind k (drop i bytes) ≡ all → false ≡ all
+super_end bytes i k all l h = none k ∙ sym (ap (super_behind k) (drop_all i bytes l)) ∙ h
+  where
+    none : (j : ℕ) → false ≡ super_behind j []
+    none zero = refl
+    none (suc j) = refl
 
-pub behind_end : (n : ℕ) (b : Bool) (rest : List ℕ) → rest ≡ [] → sends_behind b (steps_up n rest) ≡ b
-behind_end n b rest e = ap (λ (bs : List ℕ). sends_behind b (steps_up n bs)) e ∙ or_none b
+module _ (bytes : List ℕ) (i d : ℕ) (l : i < length bytes) (all : Bool) where
+  abbrev this : ℕ
+  this = slice_index_or bytes i d
 
-pub behind_short : (n : ℕ) (b : Bool) (rest : List ℕ) → n ≡ 0 → 0 < length rest → sends_behind b (steps_up n rest) ≡ false
-behind_short n b [] e h = absurd (omega (arith, h))
-behind_short n b (x ∷ xs) e h = ap (λ (k : ℕ). sends_behind b (steps_up k (x ∷ xs))) e
+  turn : (k : ℕ) → super_behind k (drop i bytes) ≡ all → super_behind k (this ∷ drop (i + 1) bytes) ≡ all
+  turn k h = sym (at_drop_more (super_behind k) bytes i d l) ∙ h
 
-module _ (n m : ℕ) (b : Bool) (k : n ≡ suc m) where
-  pub behind_none : (rest : List ℕ) → 0 < length rest → instruction rest ≡ None → sends_behind b (steps_up n rest) ≡ false
-  behind_none [] h e = absurd (omega (arith, h))
-  behind_none (y ∷ ys) h e =
-      ap (λ (j : ℕ). sends_behind b (steps_up j (y ∷ ys))) k
-      ∙ ap (λ (o : Option Found). sends_behind b (on_some o (λ x. option_map (λ (ss : List Step). x.step ∷ ss) (steps_up m (drop x.size (y ∷ ys)))))) e
+  first : super_behind 0 (drop i bytes) ≡ all → (b : Bool) → is_super_byte this ≡ b → (b || super_behind (code_length this - 1) (drop (i + 1) bytes)) ≡ all
+  first h b e = ap (λ (c : Bool). c || super_behind (code_length this - 1) (drop (i + 1) bytes)) (sym e) ∙ turn 0 h
 
-  moved : (s : Step) (o : Option (List Step)) → sends_behind (b || is_super_send s) o ≡ sends_behind b (option_map (λ (ss : List Step). s ∷ ss) o)
-  moved s None = refl
-  moved s (Some ss) = or_both b (is_super_send s) (sends_super ss)
+  pub super_here : (k : ℕ) → super_behind k (drop i bytes) ≡ all → true ≡ ((k == 0) && is_super_byte this) → true ≡ all
+  super_here zero h e = first h true (sym e)
+  super_here (suc k) h e = let no : true ≡ false = e ∙ ap (λ (c : Bool). c && is_super_byte this) (not_zero k) in absurd cc
 
-  pub behind_turn : (rest : List ℕ) (x : Found) → 0 < length rest → instruction rest ≡ Some x → sends_behind (b || is_super_send x.step) (steps_up m (drop x.size rest)) ≡ sends_behind b (steps_up n rest)
-  behind_turn [] x h e = absurd (omega (arith, h))
-  behind_turn (y ∷ ys) x h e =
-      moved x.step (steps_up m (drop x.size (y ∷ ys)))
-      ∙ sym (ap (λ (j : ℕ). sends_behind b (steps_up j (y ∷ ys))) k
-      ∙ ap (λ (o : Option Found). sends_behind b (on_some o (λ z. option_map (λ (ss : List Step). z.step ∷ ss) (steps_up m (drop z.size (y ∷ ys)))))) e)
+  pub super_next : (k : ℕ) → super_behind k (drop i bytes) ≡ all → false ≡ ((k == 0) && is_super_byte this) → super_behind (if k == 0 then code_length this - 1 else k - 1) (drop (i + 1) bytes) ≡ all
+  super_next zero h e = first h false (sym e)
+  super_next (suc k) h e =
+      let less : suc k - 1 ≡ k = omega arith in
+      ap (λ (c : Bool). super_behind (if c then code_length this - 1 else suc k - 1) (drop (i + 1) bytes)) (not_zero k)
+      ∙ (ap (λ (j : ℕ). super_behind j (drop (i + 1) bytes)) less ∙ turn (suc k) h)

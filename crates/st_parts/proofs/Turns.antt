@@ -1,39 +1,89 @@
 -- Turns of the loops over literals.
-use Rattle.std.proofs.Common.{◌≡◌, ℕ, zero, suc, ◌+◌, ◌<◌, ◌≤◌, List, [], ◌∷◌, ◌++◌, length, take, drop, map, Option, Some, None, Bool, true, false, refl, sym, ap, ◌∙◌, arith}
-use Rattle.std.specs.Prelude.{slice_index_or, option_map, if◌then◌else◌}
+use Rattle.std.proofs.Common.{◌≡◌, ℕ, zero, suc, ◌+◌, ◌<◌, ◌≤◌, List, [], ◌∷◌, ◌++◌, length, take, drop, Option, Some, None, Bool, true, false, refl, sym, ap, ap₂, ◌∙◌, arith}
+use Rattle.std.specs.Prelude.{slice_index_or, slice_get, min, nat_lt, ◌&&◌, option_map, if◌then◌else◌}
+use Rattle.std.proofs.lemmas.Bool.{ltb-true, ltb-false}
+use Rattle.std.proofs.lemmas.Bool.Decides.{nat_tests}
 use Rattle.std.proofs.lemmas.List.{at_drop_more, drop_all, append_assoc, append-nil, map-append}
 use Rattle.st_model.specs.declared.oop.Oop.{Oop}
-use Rattle.st_model.specs.Values.{Value, value}
+use Rattle.st_model.specs.Values.{Value, Ref, value, value_of}
+use Rattle.st_model.specs.Objects.{is_pointers}
+use Rattle.st_model.specs.View.{is_live, object_of}
 use Rattle.st_model.specs.Steps.{same_value}
 use Rattle.st_emit.specs.declared.literal.Literal.{Literal}
-use Rattle.st_emit.specs.Literals.{LiteralView, LiteralsView, no_literals, literal}
+use Rattle.st_emit.specs.Literals.{LiteralView, LiteralsView, character, no_literals, literal}
 use Rattle.st_emit.specs.Views.{literal_view, literals_view, members_view}
 use Rattle.st_resolved.specs.Instructions.{on_some}
 use Rattle.st_scope.specs.Meanings.{values}
 use Rattle.st_model.specs.Table.{Table}
 use Rattle.st_emit.specs.Names.{NamesView}
-use Rattle.st_parts.specs.Contents.{number_among, member_by, members_by}
+use Rattle.st_parts.specs.Contents.{fields_at, number_among, character_by, member_by, members_by}
 use Rattle.st_parts.specs.Parts.{literal_read, literals_read}
 
 -- THE FIRST OF A VALUE
 
-module _ (vs : List Oop) (v : Value) where
+dropped : {A : Type 0} (us : List A) (i : ℕ) (x : A) → slice_get us i ≡ Some x → drop i us ≡ x ∷ drop (suc i) us
+dropped [] i x e = cc
+dropped (u ∷ us) zero x e = let q : u ≡ x = cc in ap (λ y. y ∷ us) q
+dropped (u ∷ us) (suc i) x e = dropped us i x e
+
+-- a number past those of characters is none's
+no_character : (v : Value) (n : ℕ) (vs : List Value) → 256 ≤ n → character_by (number_among n vs v) ≡ None
+no_character v n [] l = refl
+no_character v n (x ∷ xs) l = by (same_value x v) (no_character v (n + 1) xs (omega (arith, l)))
+  where
+    past : nat_lt n 256 ≡ false
+    past = grind (arith, nat_tests, l)
+
+    by : (b : Bool) → character_by (number_among (n + 1) xs v) ≡ None → character_by (if b then Some n else number_among (n + 1) xs v) ≡ None
+    by true h = ap (λ (c : Bool). if c then Some (character n) else None) past
+    by false h = h
+
+module _ (fields : List Value) (v : Value) where
   -- what is left gives what the whole gives
   abbrev pub LeftAmong : ℕ → Type 0
-  LeftAmong i = number_among i (values (drop i vs)) v ≡ number_among 0 (values vs) v
+  LeftAmong i = number_among i (drop i fields) v ≡ number_among 0 fields v
 
-  pub none_among : (i : ℕ) → length vs ≤ i → LeftAmong i → None ≡ number_among 0 (values vs) v
-  none_among i l h = sym (ap (λ xs. number_among i (values xs) v) (drop_all i vs l)) ∙ h
+  pub none_among : (i : ℕ) → min (length fields) 256 ≤ i → LeftAmong i → None ≡ character_by (number_among 0 fields v)
+  none_among i l h = sym (by (nat_lt i 256) refl) ∙ ap character_by h
+    where
+      by : (b : Bool) → nat_lt i 256 ≡ b → character_by (number_among i (drop i fields) v) ≡ None
+      by true e = let below = ltb-true i 256 e in ap (λ xs. character_by (number_among i xs v)) (drop_all i fields (omega (arith, l, below)))
+      by false e = no_character v i (drop i fields) (ltb-false i 256 e)
 
-  module _ (i : ℕ) (d : Oop) (l : i < length vs) (h : LeftAmong i) where
-    turn : (if same_value (value (slice_index_or vs i d)) v then Some i else number_among (i + 1) (values (drop (i + 1) vs)) v) ≡ number_among 0 (values vs) v
-    turn = sym (at_drop_more (λ xs. number_among i (values xs) v) vs i d l) ∙ h
+  module _ (i : ℕ) (x : Value) (e : slice_get fields i ≡ Some x) (h : LeftAmong i) where
+    turn : (if same_value x v then Some i else number_among (i + 1) (drop (i + 1) fields) v) ≡ number_among 0 fields v
+    turn =
+        let more : i + 1 ≡ suc i = omega arith in
+        ap (λ j. if same_value x v then Some i else number_among (i + 1) (drop j fields) v) more
+        ∙ (sym (ap (λ xs. number_among i xs v) (dropped fields i x e)) ∙ h)
 
-    pub here_among : true ≡ same_value (value (slice_index_or vs i d)) v → Some i ≡ number_among 0 (values vs) v
-    here_among e = ap (λ (b : Bool). if b then Some i else number_among (i + 1) (values (drop (i + 1) vs)) v) e ∙ turn
+    pub here_among : i < 256 → true ≡ same_value x v → Some (character i) ≡ character_by (number_among 0 fields v)
+    here_among l q =
+        let below : nat_lt i 256 ≡ true = grind (arith, nat_tests, l) in
+        ap (λ (b : Bool). if b then Some (character i) else None) (sym below)
+        ∙ ap character_by (ap (λ (b : Bool). if b then Some i else number_among (i + 1) (drop (i + 1) fields) v) q ∙ turn)
 
-    pub later_among : false ≡ same_value (value (slice_index_or vs i d)) v → LeftAmong (i + 1)
-    later_among e = ap (λ (b : Bool). if b then Some i else number_among (i + 1) (values (drop (i + 1) vs)) v) e ∙ turn
+    pub later_among : false ≡ same_value x v → LeftAmong (i + 1)
+    later_among q = ap (λ (b : Bool). if b then Some i else number_among (i + 1) (drop (i + 1) fields) v) q ∙ turn
+
+-- CHARACTERS
+
+pub characters_place : value (record { 0 = 50 }) ≡ Ref 25
+unfolding value_of
+characters_place = refl
+
+module _ (t : Table) (o : Value) (place : o ≡ Ref 25) where
+  placed : fields_at t (Ref 25) ≡ fields_at t o
+  placed = ap (fields_at t) (sym place)
+
+  pub characters_gone : is_live t o ≡ false → [] ≡ fields_at t (Ref 25)
+  characters_gone l = sym (placed ∙ ap (λ (b : Bool). if b && is_pointers (object_of t o).kind then (object_of t o).fields else []) l)
+
+  pub characters_other : is_live t o ≡ true → is_pointers (object_of t o).kind ≡ false → [] ≡ fields_at t (Ref 25)
+  characters_other l k = sym (placed ∙ ap₂ (λ (b c : Bool). if b && c then (object_of t o).fields else []) l k)
+
+  pub characters_are : is_live t o ≡ true → is_pointers (object_of t o).kind ≡ true → (object_of t o).fields ≡ fields_at t (Ref 25)
+  characters_are l k = sym (placed ∙ ap₂ (λ (b c : Bool). if b && c then (object_of t o).fields else []) l k)
 
 -- MEMBERS OF AN ARRAY
 

@@ -1,5 +1,5 @@
 -- A literal by its contents: what a compiler makes such an object of.
-use Rattle.std.specs.Prelude.{ℕ, zero, suc, ◌+◌, ◌==◌, ◌&&◌, nat_lt, List, [], ◌∷◌, Option, Some, None, Bool, option_map, if◌then◌else◌}
+use Rattle.std.specs.Prelude.{ℕ, zero, suc, ◌+◌, ◌==◌, ◌&&◌, nat_lt, List, [], ◌∷◌, Option, Some, None, option_map, if◌then◌else◌}
 use Rattle.st_model.specs.declared.kind.Kind.{Kind}
 use Rattle.st_model.specs.declared.kind.Kind.TheVariants as kind
 use Rattle.st_model.specs.Values.{Value, Small, Ref, is_small}
@@ -8,6 +8,7 @@ use Rattle.st_model.specs.Objects.{Object, is_pointers, place_of}
 use Rattle.st_model.specs.Steps.{same_value}
 use Rattle.st_model.specs.Table.{Table}
 use Rattle.st_model.specs.View.{is_live, object_of}
+use Rattle.st_emit.specs.Names.{or_else}
 use Rattle.st_emit.specs.Literals.{LiteralView, LiteralsView, character, bytes, symbol, array, named, no_literals, literal}
 use Rattle.st_resolved.specs.Instructions.{on_some}
 use Rattle.st_parts.specs.Numbers.{small_number, large_number}
@@ -32,7 +33,7 @@ number_among n [] v = None
 number_among n (x ∷ xs) v = if same_value x v then Some n else number_among (n + 1) xs v
 
 -- the fields of an object of kind Pointers, or none
-unfoldable pub fields_at : Table → Value → List Value
+abbrev pub fields_at : Table → Value → List Value
 fields_at t v = if is_live t v && is_pointers (object_of t v).kind then (object_of t v).fields else []
 
 abbrev pub character_by : Option ℕ → Option LiteralView
@@ -40,12 +41,11 @@ character_by None = None
 character_by (Some n) = if nat_lt n 256 then Some (character n) else None
 
 -- the number of the first field of the table of characters that is this object
-unfoldable pub character_at : Table → Value → Option LiteralView
+abbrev pub character_at : Table → Value → Option LiteralView
 character_at t v = character_by (number_among 0 (fields_at t (Ref (place_of Characters))) v)
 
 abbrev pub or_character : Option LiteralView → Table → Value → Option LiteralView
-or_character (Some l) t v = Some l
-or_character None t v = character_at t v
+or_character l t v = or_else l (character_at t v)
 
 -- ARRAYS
 
@@ -56,13 +56,9 @@ constant_named v =
     (if same_value v (Ref 2) then Some (named 4) else
     (if same_value v (Ref 3) then Some (named 6) else None))
 
-abbrev pub or_contents : Option LiteralView → Option LiteralView → Option LiteralView
-or_contents (Some l) contents = Some l
-or_contents None contents = contents
-
--- given how a literal is read: nil, false, true or such a literal; and the members of an Array
+-- given how a literal is read: such a literal, or else nil, false or true; and the members of an Array
 abbrev pub member_by : (Value → Option LiteralView) → Value → Option LiteralView
-member_by contents v = or_contents (constant_named v) (contents v)
+member_by contents v = or_else (contents v) (constant_named v)
 
 abbrev pub members_by : (Value → Option LiteralView) → List Value → Option LiteralsView
 members_by contents [] = Some no_literals

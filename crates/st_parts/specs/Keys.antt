@@ -1,5 +1,5 @@
 -- The names that a method which is there sees: those by which its literals are members of tables of names.
-use Rattle.std.specs.Prelude.{◌≡◌, ℕ, ◌+◌, ◌*◌, ◌==◌, List, [], ◌∷◌, drop, slice_get, Option, Some, None, Bool, false, ◌&&◌, nat_le, length, option_and_then, if◌then◌else◌, Result, Ok, Err, ⊤}
+use Rattle.std.specs.Prelude.{◌≡◌, ℕ, ◌+◌, ◌*◌, List, [], ◌∷◌, drop, slice_get, Option, Some, None, Bool, false, ◌&&◌, nat_le, length, option_and_then, if◌then◌else◌, Result, Ok, Err, ⊤}
 use Rattle.st_model.specs.Values.{Value, Small, Ref}
 use Rattle.st_model.specs.Objects.{is_pointers}
 use Rattle.st_model.specs.Machine.{Step}
@@ -8,12 +8,13 @@ use Rattle.st_model.specs.Calls.{Reads, itself}
 use Rattle.st_model.specs.View.{is_live, object_of}
 use Rattle.st_scan.specs.Views.{MethodView, StatementsView, no_statements, with_statement, variable}
 use Rattle.st_emit.specs.declared.names.Names.{Names}
-use Rattle.st_emit.specs.Names.{NamesView, SharedName, Variable, shared, shared_named, variable_named}
+use Rattle.st_emit.specs.Names.{NamesView, SharedName, shared_named}
 use Rattle.st_emit.specs.NameViews.{names_view}
 use Rattle.st_scope.specs.declared.fault.InstallFault.{InstallFault}
 use Rattle.st_scope.specs.declared.fault.InstallFault.TheVariants as fault
 use Rattle.st_scope.specs.Alike.{SeesAlike}
 use Rattle.st_scope.specs.Texts.{text_at}
+use Rattle.st_expression_stack.specs.Names.{names_value}
 
 -- the word of a value
 abbrev pub word_of : Value → ℕ
@@ -58,15 +59,10 @@ mentioning t vs = record {
 
 -- WHAT IS NAMED
 
--- what a name means is the value of this association
-abbrev pub means : Option Variable → ℕ → Bool
-means (Some (shared a)) p = a == p
-means _ p = false
-
--- of a value by its key: a text that isn't of its own variables names it so
+-- of a value by its key: outside its own variables a text can name it so, and no name is one of the six that are always theirs
 abbrev pub is_named_by : NamesView → Option (List ℕ) → ℕ → Bool
 is_named_by names None p = false
-is_named_by names (Some key) p = means (variable_named names [] key) p
+is_named_by names (Some key) p = names_value names key p
 
 -- with a name more
 abbrev pub with_named : Option (List ℕ) → ℕ → List SharedName → List SharedName

@@ -3,6 +3,7 @@ pub mod Kept
 pub mod Numbers
 pub mod Contents
 pub mod Owners
+pub mod Cutting
 pub mod Parts
 pub mod Readings
 pub mod Places

@@ -1,16 +1,15 @@
 -- What a compiled method was made of (chapter 27): selector, header, literals and bytes, as the compiler answers them.
-use Rattle.std.specs.Prelude.{◌≡◌, ℕ, ◌+◌, ◌*◌, ◌/◌, ◌==◌, List, [], ◌∷◌, ◌++◌, drop, Option, Some, None, Bool, true, false, ◌&&◌, option_map, if◌then◌else◌, get_or, take, length, nat_le, ◌-◌}
-use Rattle.st_model.specs.declared.oop.Oop.{Oop}
-use Rattle.st_model.specs.Values.{Value, Small, Ref, is_small, value}
-use Rattle.st_model.specs.Objects.{Object, nil, is_method}
+use Rattle.std.specs.Prelude.{ℕ, ◌+◌, ◌/◌, ◌==◌, ◌||◌, List, [], ◌∷◌, ◌++◌, Option, Some, None, Bool, false, ◌&&◌, option_map, if◌then◌else◌, get_or, take, length, nat_le, ◌-◌}
+use Rattle.std.specs.List.{list_any}
+use Rattle.st_model.specs.Values.{Value, is_small}
+use Rattle.st_model.specs.Objects.{nil}
 use Rattle.st_model.specs.Table.{Table}
-use Rattle.st_model.specs.View.{View, is_live, object_of}
+use Rattle.st_model.specs.View.{View, object_of}
 use Rattle.st_emit.specs.Names.{NamesView}
 use Rattle.st_emit.specs.Literals.{LiteralView, named, owner}
-use Rattle.st_emit.specs.declared.step.Step.{Step}
-use Rattle.st_emit.specs.Steps.{sends_super}
 use Rattle.st_code.specs.Methods.{PartsView}
-use Rattle.st_resolved.specs.Instructions.{on_some, steps_of}
+use Rattle.st_resolved.specs.Instructions.{on_some}
+use Rattle.st_parts.specs.Cutting.{codes_of}
 use Rattle.st_parts.specs.Keys.{word_of, key_in, is_named_by}
 use Rattle.st_parts.specs.declared.ending.Ending.{Ending}
 use Rattle.st_parts.specs.declared.ending.Ending.TheVariants.{Plain, Owned, Extended}
@@ -38,12 +37,17 @@ literals_read names t (v ∷ vs) = on_some (literal_read names t v) (λ l. optio
 
 -- LAST LITERALS
 
-abbrev pub sends_super_if : Option (List Step) → Bool
-sends_super_if None = false
-sends_super_if (Some steps) = sends_super steps
+-- 133 and 134 send to super
+abbrev pub is_super_byte : ℕ → Bool
+is_super_byte b = (b == 133) || (b == 134)
 
+abbrev pub is_super_code : List ℕ → Bool
+is_super_code [] = false
+is_super_code (b ∷ bs) = is_super_byte b
+
+-- one of the bytecodes does, also where a byte is none or the last one is cut off
 abbrev pub sends_to_super : List ℕ → Bool
-sends_to_super bytes = sends_super_if (steps_of bytes)
+sends_to_super bytes = list_any is_super_code (codes_of bytes)
 
 abbrev pub ending_of : (header : ℕ) → List ℕ → Ending
 ending_of header bytes = if header / 8192 == 7 then Extended else (if sends_to_super bytes then Owned else Plain)

@@ -3,7 +3,6 @@
 ghost use Rattle.std.specs.Prelude.{◌≡◌, true, false, drop, IfOk};
 ghost use Rattle.st_model.specs.{Values.value, Objects.{is_words, is_pointers}, View.{is_live, object_of}};
 ghost use Rattle.st_scope.specs.Meanings.{values_of};
-ghost use Rattle.st_parts.specs.Contents.{fields_at};
 
 use st_memory::{Memory, count_fields, count_units};
 use st_model::Oop;
@@ -27,21 +26,6 @@ pub(crate) fn behind_header(words: &[Oop]) -> &[Oop]
     ensures { result.now ≡ drop 1 words.now }
 {
     if 1 <= words.len() { &words[1..] } else { &[] }
-}
-
-/// The fields of an object of kind Pointers. Others have none.
-#[tactic(auto, unfolding(crate::specs::Contents::fields_at))]
-pub(crate) fn fields_at<M: Memory>(alloc: Global, m: &M, o: Oop) -> Result<Vec<Oop>, AllocError>
-    ensures { IfOk result (λ os. values_of os ≡ fields_at (M.view m.now).objects (value o)) }
-{
-    if !m.live(o) {
-        return Ok(Vec::new(alloc));
-    }
-    if m.kind(o).is_pointers() {
-        fields_of(alloc, m, o)
-    } else {
-        Ok(Vec::new(alloc))
-    }
 }
 
 /// The bytes of an object of kind Bytes or Method, of a method those of its bytecodes.

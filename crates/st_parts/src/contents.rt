@@ -1,18 +1,18 @@
 //! A literal by its contents.
 
-ghost use Rattle.std.specs.Prelude.{◌≡◌, true, IfOk, option_map};
+ghost use Rattle.std.specs.Prelude.{◌≡◌, ◌<◌, min, true, IfOk, option_map};
 ghost use Rattle.st_model.specs.{Values.value, View.{is_live, object_of}};
-ghost use Rattle.st_emit.specs.Views.{literal_view};
+ghost use Rattle.st_emit.specs.{Literals.character, Views.literal_view};
 ghost use Rattle.st_scope.specs.Meanings.{values};
-ghost use Rattle.st_parts.specs.Contents.{class_in, bytes_by, number_among, character_by, character_at, constant_named, or_character};
+ghost use Rattle.st_parts.specs.Contents.{class_in, bytes_by, character_at, constant_named, or_character};
 ghost use Rattle.st_parts.specs.Contents.{contents, made_at, member_at, members_at, arrays_at};
 ghost use Rattle.st_parts.specs.Readings.{members_if};
 
-use crate::bodies::{bytes_of, fields_at, fields_of};
+use crate::bodies::{bytes_of, fields_of};
 use crate::numbers::{large_number, small_number};
 use crate::owner::same;
 use st_emit::{Literal, LiteralList};
-use st_memory::Memory;
+use st_memory::{Memory, count_fields};
 use st_model::{Kind, Oop};
 use st_scan::Text;
 use std::alloc::{AllocError, Global};
@@ -25,6 +25,9 @@ const MOST_MEMBERS: u32 = 1_048_576;
 
 /// The table of characters.
 const CHARACTERS: Oop = Oop(50);
+
+/// How many characters there are.
+const MOST_CHARACTERS: u32 = 256;
 
 /// Counts one more member of the arrays of a method.
 fn count_member(members: &mut u32) -> Result<(), AllocError> {
@@ -59,37 +62,38 @@ fn bytes_by(class: u16, bytes: Text) -> Option<Literal>
     }
 }
 
-/// The number of the first of these that is a value.
-fn number_among(vs: &[Oop], v: Oop) -> Option<usize>
-    ensures { result ≡ number_among 0 (values vs.now) (value v) }
+/// How many fields of a table of characters stand for one, of so many.
+fn count_characters(fields: u32) -> u32
+    ensures { result ≡ min fields 256 }
 {
-    for (i, x) in vs.iter().enumerate() {
-        if same(*x, v) {
-            return Some(i);
-        }
-    }
-    None
+    fields.min(MOST_CHARACTERS)
 }
 
-/// The Character of a number below 256.
-fn character_by(number: Option<usize>) -> Option<Literal>
-    ensures { option_map literal_view result ≡ character_by number }
+/// The Character of a number.
+fn character(n: u32) -> Literal
+    requires { n < 256 }
+    ensures { literal_view result ≡ character n }
 {
-    let number = number?;
-    if number < 256 {
-        Some(Literal::Character(number as u8))
-    } else {
-        None
-    }
+    Literal::Character(n as u8)
 }
 
 /// The number of the first field of the table of characters that is this object.
-#[tactic(auto, unfolding(crate::specs::Contents::character_at, st_model::specs::Values::value_of))]
-fn character_at<M: Memory>(alloc: Global, m: &M, v: Oop) -> Result<Option<Literal>, AllocError>
-    ensures { IfOk result (λ l. option_map literal_view l ≡ character_at (M.view m.now).objects (value v)) }
+#[tactic(auto, unfolding(st_model::specs::Values::value_of))]
+fn character_at<M: Memory>(m: &M, v: Oop) -> Option<Literal>
+    ensures { option_map literal_view result ≡ character_at (M.view m.now).objects (value v) }
 {
-    let fields = fields_at(alloc, m, CHARACTERS)?;
-    Ok(character_by(number_among(&fields, v)))
+    if !m.live(CHARACTERS) {
+        return None;
+    }
+    if !m.kind(CHARACTERS).is_pointers() {
+        return None;
+    }
+    for n in 0..count_characters(count_fields(m, CHARACTERS)) {
+        if same(m.pointer(CHARACTERS, n), v) {
+            return Some(character(n));
+        }
+    }
+    None
 }
 
 /// nil, false or true.
@@ -109,18 +113,13 @@ fn constant_named(v: Oop) -> Option<Literal>
 }
 
 /// A literal, or else a Character.
-fn or_character<M: Memory>(
-    alloc: Global,
-    m: &M,
-    v: Oop,
-    literal: Option<Literal>,
-) -> Result<Option<Literal>, AllocError>
-    ensures { IfOk result (λ l. option_map literal_view l
-        ≡ or_character (option_map literal_view literal) (M.view m.now).objects (value v)) }
+fn or_character<M: Memory>(m: &M, v: Oop, literal: Option<Literal>) -> Option<Literal>
+    ensures { option_map literal_view result
+        ≡ or_character (option_map literal_view literal) (M.view m.now).objects (value v) }
 {
     match literal {
-        Some(literal) => Ok(Some(literal)),
-        None => character_at(alloc, m, v),
+        Some(literal) => Some(literal),
+        None => character_at(m, v),
     }
 }
 
@@ -146,7 +145,7 @@ fn members_of<M: Memory>(
     Ok(Some(list))
 }
 
-/// A member of an Array: nil, false, true or what a literal may be.
+/// A member of an Array: what a literal may be, or else nil, false or true.
 #[cycle(contents)]
 fn member_of<M: Memory>(
     alloc: Global,
@@ -158,9 +157,9 @@ fn member_of<M: Memory>(
     ensures { IfOk result
         (λ l. option_map literal_view l ≡ member_at deep (M.view m.now).objects (value v)) }
 {
-    match constant_named(v) {
-        Some(constant) => Ok(Some(constant)),
-        None => contents_of(alloc, m, deep, v, members),
+    match contents_of(alloc, m, deep, v, members)? {
+        Some(literal) => Ok(Some(literal)),
+        None => Ok(constant_named(v)),
     }
 }
 
@@ -233,5 +232,5 @@ pub(crate) fn contents_of<M: Memory>(
         return Ok(None);
     }
     let made = made_of(alloc, m, deep, v, members)?;
-    or_character(alloc, m, v, made)
+    Ok(or_character(m, v, made))
 }

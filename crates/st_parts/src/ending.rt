@@ -1,11 +1,10 @@
 //! How the literals of a method end.
 
-ghost use Rattle.std.specs.Prelude.{◌≡◌, ◌||◌, drop};
-ghost use Rattle.st_emit.specs.Steps.{is_super_send};
-ghost use Rattle.st_parts.specs.Parts.{sends_to_super, ending_of};
+ghost use Rattle.std.specs.Prelude.{◌≡◌, ◌-◌, ◌==◌, ◌&&◌, if◌then◌else◌};
+ghost use Rattle.st_parts.specs.Cutting.{code_length};
+ghost use Rattle.st_parts.specs.Parts.{is_super_byte, sends_to_super, ending_of};
 
-use st_emit::Step;
-use st_resolved::instruction;
+use crate::cutting::code_length;
 
 /// What stands last among a method's literals: nothing of its own, the association of the method's class, or before that the
 /// extension of the header.
@@ -16,44 +15,43 @@ pub(crate) enum Ending {
     Extended,
 }
 
-/// The bytes behind so many.
-fn behind(count: usize, bytes: &[u8]) -> &[u8]
-    ensures { result.now ≡ drop count bytes.now }
+/// Whether a bytecode with this first byte sends to super.
+fn is_super_byte(first: u8) -> bool
+    ensures { result ≡ is_super_byte first }
 {
-    if count <= bytes.len() {
-        &bytes[count..]
+    first == 133 || first == 134
+}
+
+/// Whether a byte begins a bytecode that sends to super, if so many bytes of the one before are left.
+fn begins_super(left: u32, b: u8) -> bool
+    ensures { result ≡ (left == 0) && is_super_byte b }
+{
+    left == 0 && is_super_byte(b)
+}
+
+/// How many bytes of a bytecode are left after a byte.
+fn left_after(left: u32, b: u8) -> u32
+    ensures { result ≡ if left == 0 then code_length b - 1 else left - 1 }
+{
+    if left == 0 {
+        code_length(u32::from(b)) - 1
     } else {
-        &[]
+        left - 1
     }
 }
 
-/// Whether something was sent to super already, or this instruction does it.
-fn sends_by_now(before: bool, step: Step) -> bool
-    ensures { result ≡ before || is_super_send step }
-{
-    match step {
-        Step::SendSuper { .. } => true,
-        _ => before,
-    }
-}
-
-/// Whether bytecodes send to super. What is no code sends nothing.
+/// Whether one of the bytecodes sends to super. A byte that is no bytecode has a length too, and the last one may be cut off.
 fn sends_to_super(bytes: &[u8]) -> bool
     ensures { result ≡ sends_to_super bytes.now }
 {
-    let mut sends = false;
-    let mut rest = bytes;
-    for i in 0..bytes.len() {
-        if rest.is_empty() {
-            return sends;
+    let mut left = 0;
+    for b in bytes {
+        if begins_super(left, *b) {
+            return true;
         }
-        let Some(found) = instruction(rest) else {
-            return false;
-        };
-        sends = sends_by_now(sends, found.step);
-        rest = behind(found.size, rest);
+        left = left_after(left, *b);
     }
-    if rest.is_empty() { sends } else { false }
+    false
 }
 
 /// How the literals of a method end, by its header and its bytes.

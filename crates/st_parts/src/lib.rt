@@ -4,6 +4,7 @@
 
 mod bodies;
 mod contents;
+mod cutting;
 mod ending;
 mod laws;
 mod naming;
@@ -11,6 +12,7 @@ mod numbers;
 mod owner;
 mod parts;
 
+pub use cutting::code_length;
 pub use laws::{literals_have_one_name, parts_are_alike};
 pub use naming::method_names;
 pub use owner::Compiled;

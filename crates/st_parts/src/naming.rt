@@ -7,11 +7,12 @@ ghost use Rattle.st_emit.specs.NameViews.{names_view};
 ghost use Rattle.st_scope.specs.{Alike.SeesAlike, Calls.names, Findings.text_of, Meanings.values};
 ghost use Rattle.st_scope.specs.Texts.{found, text_at};
 ghost use Rattle.st_parts.specs.Keys.{key_field, key_in, with_keys, with_mentioned, mentioning, literals_in};
-ghost use Rattle.st_parts.specs.Keys.{means, is_named_by, names_for, AnswersFor};
-ghost use Rattle.st_parts.specs.{Kept.{Keeps, KeepsIf, AreKept}, Places.variable_if};
+ghost use Rattle.st_parts.specs.Keys.{is_named_by, names_for, AnswersFor};
+ghost use Rattle.st_parts.specs.Kept.{Keeps, KeepsIf, AreKept};
 
 use crate::bodies::{behind_header, bytes_of, fields_of};
-use st_emit::{NamedOops, Names, Variable, variable_named};
+use st_emit::{NamedOops, Names};
+use st_expression_stack::names_value;
 use st_memory::Memory;
 use st_model::{Kind, Oop};
 use st_scan::{Expression, MethodTree, Name, Statement, StatementList, Text};
@@ -109,27 +110,12 @@ fn mentioning<M: Memory>(alloc: Global, m: &M, vs: &[Oop]) -> Result<MethodTree,
     })
 }
 
-/// Whether what a name means is the value of an association.
-fn means(found: Option<Variable>, association: Oop) -> bool
-    ensures { result ≡ means (variable_if found) association.0 }
-{
-    match found {
-        Some(Variable::Shared(value)) => value == association,
-        Some(Variable::Field(_)) => false,
-        Some(Variable::Temporary { .. }) => false,
-        None => false,
-    }
-}
-
-/// Whether a key names the value of an association.
+/// Whether a key names the value of an association: it is a name, and none of the six that are always theirs.
 pub(crate) fn is_named_by(names: &Names, key: &Option<Text>, v: Oop) -> Result<bool, AllocError>
     ensures { IfOk result (λ b. b ≡ is_named_by (names_view names.now) (option_map text_of key.now) v.0) }
 {
     match key {
-        Some(key) => {
-            let found = variable_named(names, &[], key)?;
-            Ok(means(found, v))
-        }
+        Some(key) => names_value(names, key, v),
         None => Ok(false),
     }
 }

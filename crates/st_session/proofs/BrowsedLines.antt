@@ -16,7 +16,7 @@ use Rattle.st_chunk.specs.Groups.{side_text}
 use Rattle.st_browse.specs.Naming.{Named}
 use Rattle.st_browse.specs.Classes.{classes}
 use Rattle.st_browse.specs.Methods.{methods, method_named}
-use Rattle.st_browse.specs.Cutting.{codes_of}
+use Rattle.st_parts.specs.Cutting.{codes_of}
 use Rattle.st_browse.specs.Display.{form_at, if_held, row_of, word_text, row_line, rows_text, form_text, display_reply}
 use Rattle.st_browse.specs.Replies.{count_text, object_reply, name_line, classes_text, methods_text, code_line, codes_text, bytecodes_text, sender_line, senders_lines, senders_on, senders_count, both_lines, senders_text}
 use Rattle.st_browse.specs.Sources.{lines_of, source_line, source_text}

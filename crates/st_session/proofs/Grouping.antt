@@ -77,7 +77,7 @@ one_byte to place s t n start b more acts is goes =
     let from = start_with r n s (fed s b) in (
       from,
       ap (λ (x : Told). asked_by x ++ asked_from x.0 more) (acts.step r n b (ap (λ (x : State). answer x.phase) is ∙ goes))
-      ∙ ap (λ (x : State). asked_from (at (to x) (line_behind b n) from) more) is,
+          ∙ ap (λ (x : State). asked_from (at (to x) (line_behind b n) from) more) is,
     )
 
 -- the bytes of a chunk, and the mark behind them
@@ -94,16 +94,16 @@ module _ (to : State → Place) (acts : (s : State) → Acts to (to s) s) where
       let rest = chunk_read (to (within (before ++ b ∷ []))) (before ++ b ∷ []) text more (line_behind b (line_behind b n)) two.0 (acts (within (before ++ b ∷ []))) (omega (arith, length-append before (b ∷ []))) in (
         rest.0,
         ap (λ (x : List ℕ). asked_from (at place n start) (x ++ mark ∷ more)) (twice b text e) ∙ one.1 ∙ two.1 ∙ rest.1
-        ∙ ap (λ (x : List ℕ). asked_from (at (to (marked x)) (line_after n ((b ∷ b ∷ doubled text) ++ mark ∷ [])) rest.0) more) (append_assoc before (b ∷ []) text)
-        ∙ ap (λ (x : List ℕ). asked_from (at (to (marked (before ++ b ∷ text))) (line_after n (x ++ mark ∷ [])) rest.0) more) (sym (twice b text e)),
+            ∙ ap (λ (x : List ℕ). asked_from (at (to (marked x)) (line_after n ((b ∷ b ∷ doubled text) ++ mark ∷ [])) rest.0) more) (append_assoc before (b ∷ []) text)
+            ∙ ap (λ (x : List ℕ). asked_from (at (to (marked (before ++ b ∷ text))) (line_after n (x ++ mark ∷ [])) rest.0) more) (sym (twice b text e)),
       ))
       (λ e.
       let one = one_byte to place (within before) (within (before ++ b ∷ [])) n start b (doubled text ++ mark ∷ more) a (fed_other before b e (omega arith)) refl in
       let rest = chunk_read (to (within (before ++ b ∷ []))) (before ++ b ∷ []) text more (line_behind b n) one.0 (acts (within (before ++ b ∷ []))) (omega (arith, length-append before (b ∷ []))) in (
         rest.0,
         ap (λ (x : List ℕ). asked_from (at place n start) (x ++ mark ∷ more)) (once b text e) ∙ one.1 ∙ rest.1
-        ∙ ap (λ (x : List ℕ). asked_from (at (to (marked x)) (line_after n ((b ∷ doubled text) ++ mark ∷ [])) rest.0) more) (append_assoc before (b ∷ []) text)
-        ∙ ap (λ (x : List ℕ). asked_from (at (to (marked (before ++ b ∷ text))) (line_after n (x ++ mark ∷ [])) rest.0) more) (sym (once b text e)),
+            ∙ ap (λ (x : List ℕ). asked_from (at (to (marked x)) (line_after n ((b ∷ doubled text) ++ mark ∷ [])) rest.0) more) (append_assoc before (b ∷ []) text)
+            ∙ ap (λ (x : List ℕ). asked_from (at (to (marked (before ++ b ∷ text))) (line_after n (x ++ mark ∷ [])) rest.0) more) (sym (once b text e)),
       ))
 
 -- METHODS
@@ -168,8 +168,8 @@ module _ (h : Header) where
       let body = chunk_read (InMethods h) (in_methods h) (w.place b) (b ∷ []) tail more (line_behind b r.line) w.start (w.acts b) (omega arith) in (
         body.0,
         ap (λ (x : List ℕ). asked_from r (x ++ mark ∷ more)) (once b tail plain)
-        ∙ w.goes b (doubled tail ++ mark ∷ more) plain
-        ∙ ap (λ (x : List Asked). asks ++ x) (body.1 ∙ ap (λ (x : List ℕ). asked_from (at (InMethods h (marked (b ∷ tail))) (line_after r.line (x ++ mark ∷ [])) body.0) more) (sym (once b tail plain))),
+            ∙ w.goes b (doubled tail ++ mark ∷ more) plain
+            ∙ ap (λ (x : List Asked). asks ++ x) (body.1 ∙ ap (λ (x : List ℕ). asked_from (at (InMethods h (marked (b ∷ tail))) (line_after r.line (x ++ mark ∷ [])) body.0) more) (sym (once b tail plain))),
       )
 
   module _ (close : List ℕ) (closing : IsChunk close) (blank : is_empty close ≡ true) (b : ℕ) (rest : List ℕ) (e : (b == mark) ≡ false) where
@@ -211,9 +211,9 @@ header_read n (b ∷ tail) more is =
     let body = chunk_read InHeader in_header (InHeader (begun b)) (b ∷ []) tail more (line_behind b n) n (in_header (begun b)) (omega arith) in (
       body.0,
       ap (λ (x : List ℕ). asked_from (at Opened n n) (x ++ mark ∷ more)) (once b tail plain)
-      ∙ begins_header n b (doubled tail ++ mark ∷ more) plain
-      ∙ body.1
-      ∙ ap (λ (x : List ℕ). asked_from (at (InHeader (marked (b ∷ tail))) (line_after n (x ++ mark ∷ [])) body.0) more) (sym (once b tail plain)),
+          ∙ begins_header n b (doubled tail ++ mark ∷ more) plain
+          ∙ body.1
+          ∙ ap (λ (x : List ℕ). asked_from (at (InHeader (marked (b ∷ tail))) (line_after n (x ++ mark ∷ [])) body.0) more) (sym (once b tail plain)),
     )
 
 defined_all : (h : Header) (methods : List (List ℕ)) → map (defined h) methods ≡ map Defines (group_definitions (record { header = h; methods = map trimmed methods }))

@@ -2,12 +2,15 @@
 
 use crate::files::{Files, IMAGE_B, host_with};
 use st_counted::CountedLoader;
+use st_host::{Host, Source};
 use st_image::HeadValues;
 use st_lookup::CachedLoader;
+use st_memory::Loader;
 use st_memory_host::{MemHost, MemSource};
 use st_protocol::Status;
 use st_session::{Extent, build, condense, export, import, once, session};
 use std::alloc::Global;
+use std::process::Abort;
 
 /// Makes the memory that the program runs over.
 type ProgramLoader = CachedLoader<CountedLoader>;
@@ -27,22 +30,38 @@ pub enum Command {
     Condense,
 }
 
-/// Does a command.
-pub fn call(alloc: Global, host: &mut MemHost, script: &mut MemSource, command: Command) -> Status {
+/// Does a command over the memory that a loader makes.
+fn call_over<H: Host, L: Loader, S: Source>(
+    alloc: Global,
+    host: &mut H,
+    script: &mut S,
+    command: Command,
+) -> Status {
     match command {
-        Command::Once => once::<MemHost, ProgramLoader>(alloc, host, "B", 4),
-        Command::Import => import::<MemHost, ProgramLoader>(
-            alloc,
-            host,
-            "G",
-            "S",
-            &HeadValues::NONE,
-        ),
-        Command::Build => build::<MemHost, ProgramLoader>(alloc, host, "K", "S"),
-        Command::Session => session::<MemHost, ProgramLoader, MemSource>(alloc, host, script, "S"),
-        Command::Export(extent) => export::<MemHost, ProgramLoader>(alloc, host, extent, "S", "I"),
-        Command::Condense => condense::<MemHost, ProgramLoader>(alloc, host, "S"),
+        Command::Once => once::<H, L>(alloc, host, "B", 4),
+        Command::Import => import::<H, L>(alloc, host, "G", "S", &HeadValues::NONE),
+        Command::Build => build::<H, L>(alloc, host, "K", "S"),
+        Command::Session => session::<H, L, S>(alloc, host, script, "S"),
+        Command::Export(extent) => export::<H, L>(alloc, host, extent, "S", "I"),
+        Command::Condense => condense::<H, L>(alloc, host, "S"),
     }
+}
+
+/// Does a command. A call that names what a memory is made of is dear to prove, so this is the only one.
+pub fn call(alloc: Global, host: &mut MemHost, script: &mut MemSource, command: Command) -> Status {
+    call_over::<MemHost, ProgramLoader, MemSource>(alloc, host, script, command)
+}
+
+/// Does a command with a script, of which the source gives up to 512 bytes at a time.
+pub fn obey(
+    rt: &impl Abort,
+    alloc: Global,
+    host: &mut MemHost,
+    command: Command,
+    script: &str,
+) -> Status {
+    let mut script = MemSource::new(alloc, script.as_bytes(), 512, &[]).expect(rt, "memory");
+    call(alloc, host, &mut script, command)
 }
 
 const ONE_FILE: Files<'static> = &[("B", IMAGE_B)];
@@ -57,14 +76,16 @@ const FAULTS: &[(u64, Status, usize)] = &[
     (5, Status::Done, 566),
 ];
 
+/// Whether a host of which a call fails ends the command so, after so many bytes.
+fn ends_so(rt: &impl Abort, alloc: Global, (failing, status, said): (u64, Status, usize)) -> bool {
+    let mut host = host_with(rt, alloc, ONE_FILE);
+    host.fail(alloc, &[failing]).expect(rt, "memory");
+    obey(rt, alloc, &mut host, Command::Once, "") == status && host.said().len() == said
+}
+
 #[test]
 fn faults_of_the_host_are_told(rt: HostRuntime) {
-    for (failing, status, said) in FAULTS {
-        let mut host = host_with(&rt, rt.alloc(), ONE_FILE);
-        host.fail(rt.alloc(), &[*failing]).expect(&rt, "memory");
-        let mut script = MemSource::new(rt.alloc(), b"", 1, &[]).expect(&rt, "memory");
-        let ended = call(rt.alloc(), &mut host, &mut script, Command::Once);
-        assert_eq!(rt; ended, *status);
-        assert_eq!(rt; host.said().len(), *said);
+    for row in FAULTS {
+        assert!(rt; ends_so(&rt, rt.alloc(), *row));
     }
 }

@@ -22,8 +22,7 @@ fn check_session(rt: &impl Abort, alloc: Global, piece: usize, row: &Session<'_>
         rt, "memory",
     );
     let ended = call(alloc, &mut host, &mut script, Command::Session);
-    assert_eq!(rt; ended, *status);
-    assert_eq!(rt; host.said(), said.as_bytes());
+    assert!(rt; ended == *status && host.said() == said.as_bytes());
 }
 
 /// Follows scripts.

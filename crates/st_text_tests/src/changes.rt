@@ -6,7 +6,7 @@ ghost use Rattle.st_changes.specs.Views.{definition_of};
 
 use crate::hosts::{check_file, host_with};
 use st_changes::{Changes, Definition, Span, load};
-use st_memory_host::MemHost;
+use st_host::Host;
 use st_scan::Text;
 use st_store::{Store, StoreFault, open_store};
 use std::alloc::{AllocError, Global};
@@ -24,7 +24,7 @@ const ROOTS: [u8; 80] = *b"ST80ROOT\0\0\0\0\0\0\0\0\
 \0\0\0\0\0\0\0\0\0\0\0\0\0\0\0\0\0\0\0\0\0\0\0\0\0\0\0\0\0\0\0\0";
 
 /// The store of a host's files, and the list of its changes.
-fn opened(alloc: Global, host: &mut MemHost) -> Result<(Store, Changes), StoreFault>
+fn opened<H: Host>(alloc: Global, host: &mut H) -> Result<(Store, Changes), StoreFault>
     ensures place { IfOk result (λ r. r.0.root.length ≡ length (entries r.1.listed)) }
     ensures file { IfOk result (λ r. r.1.second ≡ nat_lt 1 r.0.root.slot) }
 {
@@ -57,10 +57,10 @@ fn definition(alloc: Global) -> Result<Definition, AllocError>
 }
 
 /// Keeps that definition in a store and its list, and answers both.
-fn keep(
+fn keep<H: Host>(
     rt: &impl Abort,
     alloc: Global,
-    host: &mut MemHost,
+    host: &mut H,
     store: Store,
     changes: Changes,
 ) -> Result<(Store, Changes), StoreFault>
@@ -75,31 +75,21 @@ fn keep(
     Ok((store, changes))
 }
 
-/// The last text of a method stands here.
-fn check_last(
-    rt: &impl Abort,
-    changes: &Changes,
-    (class, meta, selector): (&[u8], bool, &[u8]),
-    wanted: Option<Span>,
-) {
-    assert!(rt; changes.last(class, meta, selector) == wanted);
-}
-
-/// The last text of `x` of Point's instances stands here, and those of others stand where `THREE` has them.
-fn check_lasts(rt: &impl Abort, changes: &Changes, x: Span) {
+/// Whether the last text of `x` of Point's instances stands here, and those of others stand where `THREE` has them.
+fn has_lasts(changes: &Changes, x: Span) -> bool {
     let y = Span { at: 68, length: 7 };
-    check_last(rt, changes, (b"Point", false, b"x"), Some(x));
-    check_last(rt, changes, (b"Point", true, b"y"), Some(y));
-    check_last(rt, changes, (b"Point", true, b"x"), None);
-    check_last(rt, changes, (b"x", false, b"Point"), None);
+    changes.last(b"Point", false, b"x") == Some(x)
+        && changes.last(b"Point", true, b"y") == Some(y)
+        && changes.last(b"Point", true, b"x").is_none()
+        && changes.last(b"x", false, b"Point").is_none()
 }
 
 /// Opens a store, keeps the definition, and loads the changes again.
-fn kept(rt: &impl Abort, alloc: Global, host: &mut MemHost) -> Result<Changes, StoreFault> {
+fn kept<H: Host>(rt: &impl Abort, alloc: Global, host: &mut H) -> Result<Changes, StoreFault> {
     let (store, changes) = opened(alloc, host)?;
-    check_lasts(rt, &changes, Span { at: 24, length: 4 });
+    assert!(rt; has_lasts(&changes, Span { at: 24, length: 4 }));
     let (store, changes) = keep(rt, alloc, host, store, changes)?;
-    check_lasts(rt, &changes, Span { at: 109, length: 7 });
+    assert!(rt; has_lasts(&changes, Span { at: 109, length: 7 }));
     load(alloc, host, &store)
 }
 
@@ -108,7 +98,7 @@ fn a_definition_is_kept_and_read_back(rt: HostRuntime) {
     let alloc = rt.alloc();
     let mut host = host_with(alloc, &ROOTS, &THREE[..79]).expect(&rt, "memory");
     let changes = kept(&rt, alloc, &mut host).expect(&rt, "a store");
-    assert_eq!(rt; changes.definitions().len(), 3);
-    check_lasts(&rt, &changes, Span { at: 109, length: 7 });
+    let has_lasts = has_lasts(&changes, Span { at: 109, length: 7 });
+    assert!(rt; has_lasts && changes.definitions().len() == 3);
     check_file(&rt, alloc, &mut host, "s.changes", &THREE);
 }

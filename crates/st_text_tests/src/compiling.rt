@@ -1,13 +1,14 @@
 //! Texts that are compiled: their code, or the first fault.
 
-use crate::texts::{Pieces, are_numbers, is_fault, is_number, is_signed, row_of, text_of};
+use crate::texts::{
+    are_numbers, is_fault, is_marked_number, is_number, is_signed, row_of, text_of,
+};
 use st_code::{CodeFault, Literal, MethodParts, NamedOops, Names, TextList, compile};
 use st_model::Oop;
 use st_parse::parse;
 use st_scan::{MethodTree, Signed, SyntaxFault};
 use std::alloc::{AllocError, Global};
 use std::collections::BTreeMap;
-use std::process::Abort;
 
 /// The class's variables x and y.
 fn fields(alloc: Global) -> Result<TextList, AllocError> {
@@ -35,21 +36,10 @@ pub fn names(alloc: Global) -> Result<Names, AllocError> {
     })
 }
 
-/// Whether a word is this text between two others.
-fn is_between(word: &str, before: &str, text: &[u8], behind: &str) -> bool {
-    match word.strip_prefix(before) {
-        Some(rest) => match rest.strip_suffix(behind) {
-            Some(inner) => inner.as_bytes() == text,
-            None => false,
-        },
-        None => false,
-    }
-}
-
-/// Whether a word is this number between two others.
-fn is_number_between(word: &str, before: &str, number: u128, behind: &str) -> bool {
-    match word.strip_prefix(before) {
-        Some(rest) => is_number(rest.strip_suffix(behind).unwrap_or(""), number),
+/// Whether a word is this text after a mark.
+fn is_marked(word: &str, mark: u8, text: &[u8]) -> bool {
+    match word.as_bytes().split_first() {
+        Some((first, rest)) => *first == mark && rest == text,
         None => false,
     }
 }
@@ -64,11 +54,11 @@ fn is_literal(word: &str, literal: &Literal) -> bool {
                 size: *size,
             },
         ),
-        Literal::Character(byte) => is_between(word, "$", &[*byte], ""),
-        Literal::Bytes(text) => is_between(word, "'", text, "'"),
-        Literal::Symbol(text) => is_between(word, "#", text, ""),
-        Literal::Array(members) => is_number_between(word, "(", members.len() as u128, ")"),
-        Literal::Named(association) => is_number_between(word, "@", u128::from(association.0), ""),
+        Literal::Character(byte) => is_marked(word, b'$', &[*byte]),
+        Literal::Bytes(text) => is_marked(word, b'\'', text),
+        Literal::Symbol(text) => is_marked(word, b'#', text),
+        Literal::Array(members) => is_marked_number(word, "(", members.len() as u128),
+        Literal::Named(association) => is_marked_number(word, "@", u128::from(association.0)),
         Literal::Owner => word == "owner",
     }
 }
@@ -114,30 +104,29 @@ fn is_code(text: &str, parts: &MethodParts) -> bool {
     }
 }
 
-/// A tree has this code, or this fault.
-fn check_tree(rt: &impl Abort, alloc: Global, tree: &MethodTree, names: &Names, wanted: &str) {
-    let is_wanted = match compile(alloc, tree, names) {
+/// Whether a tree has this code, or this fault.
+fn has_code(alloc: Global, tree: &MethodTree, names: &Names, wanted: &str) -> bool {
+    match compile(alloc, tree, names) {
         Ok(parts) => is_code(wanted, &parts),
         Err(CodeFault::At { place, cause }) => is_fault(wanted, "code", place, cause),
         Err(CodeFault::OutOfMemory) => false,
-    };
-    assert!(rt; is_wanted, "no {wanted}");
-}
-
-/// A text has this code, or this fault.
-fn check(rt: &impl Abort, alloc: Global, text: &[u8], names: &Names, wanted: &str) {
-    assert!(rt; text.len() <= 65_536);
-    match parse(alloc, text) {
-        Ok(tree) => check_tree(rt, alloc, &tree, names, wanted),
-        Err(SyntaxFault::At { place, cause }) => assert!(rt;
-            is_fault(wanted, "syntax", place, cause),
-            "no {wanted}"
-        ),
-        Err(SyntaxFault::OutOfMemory) => panic!(rt; "no memory"),
     }
 }
 
-/// Texts, and the header, the literals and the bytes, or the first fault, one a line.
+/// Whether a text has this code, or this fault.
+fn compiles(alloc: Global, text: &[u8], names: &Names, wanted: &str) -> bool {
+    if text.len() > 65_536 {
+        return false;
+    }
+    match parse(alloc, text) {
+        Ok(tree) => has_code(alloc, &tree, names, wanted),
+        Err(SyntaxFault::At { place, cause }) => is_fault(wanted, "syntax", place, cause),
+        Err(SyntaxFault::OutOfMemory) => false,
+    }
+}
+
+/// Texts, and the header, the literals and the bytes, or the first fault, one a line; at last methods within each bound, past it,
+/// and one as deep as its text, with the header, how many literals and how many bytes.
 const ROWS: &str = "x ^x => 49153: 0 124
 count | n | n _ 0. [n < 3] whileTrue: [n _ n + 1]. ^n => 259 3: 117 104 16 32 178 159 16 118 176 129 64 135 163 244 115 135 16 124
 max: a ^self > a ifTrue: [self] ifFalse: [a] => 8449: 112 16 179 153 112 144 16 124
@@ -161,12 +150,12 @@ foo => 40961: 120
 foo thisContext => 1: 137 135 120
 foo ^super foo => 5 #foo owner: 112 133 0 124
 foo ^y bar; baz => 5 #bar #baz: 1 136 208 135 209 124
-foo ^#(1 a) => 3 (2): 32 124
-foo ^'ab' => 3 'ab': 32 124
+foo ^#(1 a) => 3 (2: 32 124
+foo ^'ab' => 3 'ab: 32 124
 foo ^#ab => 3 #ab: 32 124
 foo ^$a => 3 $a: 32 124
 foo ^-16384 => 3 -16384: 32 124
-foo ^'a' , 'a' , #b , #b => 9 'a' 'a' #, #b: 32 33 226 35 226 35 226 124
+foo ^'a' , 'a' , #b , #b => 9 'a 'a #, #b: 32 33 226 35 226 35 226 124
 foo ^x ifTrue: [y] => 1: 0 153 1 144 115 124
 foo ^x ifFalse: [y] => 1: 0 168 2 1 144 115 124
 foo ^x ifTrue: [1] ifFalse: [2] => 1: 0 153 118 144 119 124
@@ -201,43 +190,25 @@ foo super _ 1 => code 5 3
 foo true _ 1 => code 5 3
 foo false _ 1 => code 5 3
 foo nil _ 1 => code 5 3
-foo thisContext _ 1 => code 5 3";
+foo thisContext _ 1 => code 5 3
+foo ~'a'. *63 => 127 63 158
+foo ~'a'. *64 => code 0 4
+foo ~[:a | a]. *30 => 7809 0 307
+foo ~[:a | a]. *31 => code 0 6
+foo ~[:a | a]. *32 => code 0 5
+foo x ifTrue: [~x. *510~x] => 1 0 1028
+foo x ifTrue: [~x. *511~x] => code 0 7
+foo ~[].*16382 => 1 0 131057
+foo ~[].*16383 => code 0 11
+foo ^x~ y*32000 => 1 0 32002";
 
 #[test]
 fn texts_have_their_code_and_faults(rt: HostRuntime) {
     let names = names(rt.alloc()).expect(&rt, "memory");
     for row in ROWS.lines() {
-        let (text, wanted) = row_of(row);
-        check(&rt, rt.alloc(), text.as_bytes(), &names, wanted);
-    }
-}
-
-/// Methods within each bound, and past it, and one as deep as its text: the header, how many literals and how many bytes.
-const LIMITS: &[(Pieces<'static>, &str)] = &[
-    (&[(b"foo ", 1), (b"'a'. ", 63)], "127 63 158"),
-    (&[(b"foo ", 1), (b"'a'. ", 64)], "code 0 4"),
-    (&[(b"foo ", 1), (b"[:a | a]. ", 30)], "7809 0 307"),
-    (&[(b"foo ", 1), (b"[:a | a]. ", 31)], "code 0 6"),
-    (&[(b"foo ", 1), (b"[:a | a]. ", 32)], "code 0 5"),
-    (
-        &[(b"foo x ifTrue: [", 1), (b"x. ", 510), (b"x]", 1)],
-        "1 0 1028",
-    ),
-    (
-        &[(b"foo x ifTrue: [", 1), (b"x. ", 511), (b"x]", 1)],
-        "code 0 7",
-    ),
-    (&[(b"foo ", 1), (b"[].", 16_382)], "1 0 131057"),
-    (&[(b"foo ", 1), (b"[].", 16_383)], "code 0 11"),
-    (&[(b"foo ^x", 1), (b" y", 32_000)], "1 0 32002"),
-];
-
-#[test]
-fn methods_are_as_large_as_they_may_be(rt: HostRuntime) {
-    let names = names(rt.alloc()).expect(&rt, "memory");
-    for (pieces, wanted) in LIMITS {
+        let (pieces, wanted) = row_of(row);
         let text = text_of(rt.alloc(), pieces).expect(&rt, "memory");
-        check(&rt, rt.alloc(), &text, &names, wanted);
+        assert!(rt; compiles(rt.alloc(), &text, &names, wanted), "{row}");
     }
 }
 
@@ -245,5 +216,5 @@ fn methods_are_as_large_as_they_may_be(rt: HostRuntime) {
 fn an_image_without_symbols_has_no_code(rt: HostRuntime) {
     let mut names = names(rt.alloc()).expect(&rt, "memory");
     names.symbols = false;
-    check(&rt, rt.alloc(), b"foo ^#a", &names, "code 0 10");
+    assert!(rt; compiles(rt.alloc(), b"foo ^#a", &names, "code 0 10"));
 }

@@ -6,45 +6,37 @@ use std::fs;
 use std::process::Abort;
 
 // Looks at a roots file that isn't there, and makes it; then it is empty.
-fn check_makes<H: Host>(rt: &impl Abort, host: &mut H, name: &str) {
-    assert_eq!(rt; host.length(name), Ok(None));
-    assert_eq!(rt; host.sync(name), Ok(()));
-    assert_eq!(rt; host.cut(name, 0), Ok(()));
-    assert_eq!(rt; host.length(name), Ok(Some(0)));
+fn makes<H: Host>(host: &mut H, name: &str) -> bool {
+    host.length(name) == Ok(None)
+        && host.sync(name) == Ok(())
+        && host.cut(name, 0) == Ok(())
+        && host.length(name) == Ok(Some(0))
 }
 
 // Each call fails, also on another file.
-fn check_refuses(rt: &impl Abort, host: &mut DirHost<HostRuntime>, name: &str, wanted: Refusal) {
-    let calls = [
-        host.length(name).is_err(),
-        host.read_at(name, 0, &mut [0; 4]).is_err(),
-        host.write_at(name, 0, b"x").is_err(),
-        host.cut(name, 1).is_err(),
-        host.sync(name).is_err(),
-        host.write_at("hosts_refused", 0, b"x").is_err(),
-    ];
-    assert_eq!(rt; calls, [true; 6]);
-    assert_eq!(rt; host.refusal(), Some(wanted));
+fn refuses<H: Host>(host: &mut H, name: &str) -> bool {
+    host.length(name).is_err()
+        && host.read_at(name, 0, &mut [0; 4]).is_err()
+        && host.write_at(name, 0, b"x").is_err()
+        && host.cut(name, 1).is_err()
+        && host.sync(name).is_err()
+        && host.write_at("hosts_refused", 0, b"x").is_err()
 }
 
 #[test]
 fn a_store_has_one_host_at_a_time(rt: HostRuntime) {
     let name = "hosts_one_at_a_time.roots";
     let mut host = DirHost::new(rt.clone().expect(&rt, "a handle"));
-    check_makes(&rt, &mut host, name);
-    check_refuses(
-        &rt,
-        &mut DirHost::new(rt.clone().expect(&rt, "a handle")),
-        name,
-        Refusal::InUse,
-    );
-    let other_name = "./hosts_one_at_a_time.roots";
-    assert_eq!(rt; host.length(other_name), Ok(Some(0)));
+    let mut other = DirHost::new(rt.clone().expect(&rt, "a handle"));
+    assert!(rt; makes(&mut host, name) && refuses(&mut other, name));
+    assert_eq!(rt; other.refusal(), Some(Refusal::InUse));
+    drop(other);
+    assert_eq!(rt; host.length("./hosts_one_at_a_time.roots"), Ok(Some(0)));
     drop(host);
     let mut next = DirHost::new(rt.clone().expect(&rt, "a handle"));
     assert_eq!(rt; next.length(name), Ok(Some(0)));
     fs::remove_file(&rt, name).expect(&rt, "a file");
-    check_refuses(&rt, &mut next, name, Refusal::Replaced);
+    assert!(rt; refuses(&mut next, name) && next.refusal() == Some(Refusal::Replaced));
 }
 
 #[test]
@@ -53,8 +45,8 @@ fn a_store_that_was_absent_is_not_taken_from_its_maker(rt: HostRuntime) {
     let mut late = DirHost::new(rt.clone().expect(&rt, "a handle"));
     assert_eq!(rt; late.length(name), Ok(None));
     let mut maker = DirHost::new(rt.clone().expect(&rt, "a handle"));
-    check_makes(&rt, &mut maker, name);
+    assert!(rt; makes(&mut maker, name));
     drop(maker);
-    check_refuses(&rt, &mut late, name, Refusal::Replaced);
+    assert!(rt; refuses(&mut late, name) && late.refusal() == Some(Refusal::Replaced));
     fs::remove_file(&rt, name).expect(&rt, "a file");
 }

@@ -1,6 +1,6 @@
 //! Hosts in memory, and what their files have.
 
-use st_host::{file_length, read_from};
+use st_host::{Host, file_length, read_from};
 use st_memory_host::MemHost;
 use std::alloc::{AllocError, Global};
 use std::process::Abort;
@@ -15,12 +15,16 @@ pub fn host_with(alloc: Global, roots: &[u8], changes: &[u8]) -> Result<MemHost,
 }
 
 /// A file has these bytes, and no others.
-pub fn check_file(rt: &impl Abort, alloc: Global, host: &mut MemHost, name: &str, wanted: &[u8]) {
-    assert!(rt;
-        file_length(host, name) == Ok(Some(wanted.len() as u64)),
-        "of {name}"
-    );
+pub fn check_file<H: Host>(
+    rt: &impl Abort,
+    alloc: Global,
+    host: &mut H,
+    name: &str,
+    wanted: &[u8],
+) {
+    let length = file_length(host, name);
     let mut bytes = vec![in alloc; 0; wanted.len()].expect(rt, "memory");
-    read_from(host, name, 0, &mut bytes).expect(rt, "a read");
-    assert!(rt; bytes.as_slice() == wanted, "in {name}");
+    let count = read_from(host, name, 0, &mut bytes);
+    let is_whole = length == Ok(Some(wanted.len() as u64)) && count == Ok(wanted.len());
+    assert!(rt; is_whole && bytes.as_slice() == wanted, "in {name}");
 }

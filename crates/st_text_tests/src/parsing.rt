@@ -1,10 +1,9 @@
 //! Texts that are parsed: what they mean, or their first fault.
 
-use crate::texts::{Pieces, are_numbers, is_fault, is_signed, row_of, text_of};
+use crate::texts::{are_numbers, is_fault, is_signed, row_of, text_of};
 use st_parse::parse;
 use st_scan::{MethodTree, Signed, SyntaxFault};
 use std::alloc::Global;
-use std::process::Abort;
 
 /// Whether this is a primitive's number, with the bracket behind it; or nothing, where there is none.
 fn is_primitive(text: &str, number: Option<Signed>) -> bool {
@@ -29,18 +28,20 @@ fn is_tree(text: &str, tree: &MethodTree) -> bool {
         && is_primitive(primitive, tree.primitive)
 }
 
-/// A text means this, or has this fault.
-fn check(rt: &impl Abort, alloc: Global, text: &[u8], wanted: &str) {
-    assert!(rt; text.len() <= 65_536);
-    let is_wanted = match parse(alloc, text) {
+/// Whether a text means this, or has this fault.
+fn means(alloc: Global, text: &[u8], wanted: &str) -> bool {
+    if text.len() > 65_536 {
+        return false;
+    }
+    match parse(alloc, text) {
         Ok(tree) => is_tree(wanted, &tree),
         Err(SyntaxFault::At { place, cause }) => is_fault(wanted, "syntax", place, cause),
         Err(SyntaxFault::OutOfMemory) => false,
-    };
-    assert!(rt; is_wanted, "{text:?} isn't {wanted}");
+    }
 }
 
-/// Texts, and what they mean or their first fault, one a line.
+/// Texts, and what they mean or their first fault, one a line; at last brackets as deep as they may be, and one more, and texts of
+/// 65,536 bytes at most.
 const ROWS: &str = r#" => syntax 1 3
 foo ^1 ) => syntax 8 7
 foo ^(1 => syntax 8 3
@@ -228,57 +229,31 @@ foo ^#a:b: => foo 0 0 1
 foo ^#+ => foo 0 0 1
 foo ^'it''s' => foo 0 0 1
 foo ^$' => foo 0 0 1
+foo ^~(*201 => syntax 206 6
+foo ^~(*200 => syntax 206 3
+foo ^~(*200~1 => syntax 207 3
+foo ^~(*200~1 ( => syntax 208 3
+foo ^~[*200 => syntax 206 3
+foo ^~[*201 => syntax 206 6
+foo ^~#(*200 => syntax 406 3
+foo ^~#(*201 => syntax 406 6
+foo ^~(*200~#( => syntax 206 6
+foo ^~(*200~1~)*200 => foo 0 0 1
+foo ~(*200~1~)*200~.~(*200~1~)*200 => foo 0 0 2
+foo ^x~ y*32760 => foo 0 0 1
+foo ^x~+y*32760 => foo 0 0 1
+foo x~ a:y*16380 => foo 0 0 1
+foo x y~;z*32760 => foo 0 0 1
+foo ~a_*32760~1 => foo 0 0 1
+foo ~x.*32760 => foo 0 0 32760
+foo #(~1 *32760~) => foo 0 0 1
 "#;
 
 #[test]
 fn texts_have_their_trees_and_faults(rt: HostRuntime) {
     for row in ROWS.lines() {
-        let (text, wanted) = row_of(row);
-        check(&rt, rt.alloc(), text.as_bytes(), wanted);
-    }
-}
-
-/// Brackets as deep as they may be, and one more; and texts of 65,536 bytes at most.
-const LARGE: &[(Pieces<'static>, &str)] = &[
-    (&[(b"foo ^", 1), (b"(", 201)], "syntax 206 6"),
-    (&[(b"foo ^", 1), (b"(", 200)], "syntax 206 3"),
-    (&[(b"foo ^", 1), (b"(", 200), (b"1", 1)], "syntax 207 3"),
-    (&[(b"foo ^", 1), (b"(", 200), (b"1 (", 1)], "syntax 208 3"),
-    (&[(b"foo ^", 1), (b"[", 200)], "syntax 206 3"),
-    (&[(b"foo ^", 1), (b"[", 201)], "syntax 206 6"),
-    (&[(b"foo ^", 1), (b"#(", 200)], "syntax 406 3"),
-    (&[(b"foo ^", 1), (b"#(", 201)], "syntax 406 6"),
-    (&[(b"foo ^", 1), (b"(", 200), (b"#(", 1)], "syntax 206 6"),
-    (
-        &[(b"foo ^", 1), (b"(", 200), (b"1", 1), (b")", 200)],
-        "foo 0 0 1",
-    ),
-    (
-        &[
-            (b"foo ", 1),
-            (b"(", 200),
-            (b"1", 1),
-            (b")", 200),
-            (b".", 1),
-            (b"(", 200),
-            (b"1", 1),
-            (b")", 200),
-        ],
-        "foo 0 0 2",
-    ),
-    (&[(b"foo ^x", 1), (b" y", 32_760)], "foo 0 0 1"),
-    (&[(b"foo ^x", 1), (b"+y", 32_760)], "foo 0 0 1"),
-    (&[(b"foo x", 1), (b" a:y", 16_380)], "foo 0 0 1"),
-    (&[(b"foo x y", 1), (b";z", 32_760)], "foo 0 0 1"),
-    (&[(b"foo ", 1), (b"a_", 32_760), (b"1", 1)], "foo 0 0 1"),
-    (&[(b"foo ", 1), (b"x.", 32_760)], "foo 0 0 32760"),
-    (&[(b"foo #(", 1), (b"1 ", 32_760), (b")", 1)], "foo 0 0 1"),
-];
-
-#[test]
-fn large_texts_are_parsed(rt: HostRuntime) {
-    for (pieces, wanted) in LARGE {
+        let (pieces, wanted) = row_of(row);
         let text = text_of(rt.alloc(), pieces).expect(&rt, "memory");
-        check(&rt, rt.alloc(), &text, wanted);
+        assert!(rt; means(rt.alloc(), &text, wanted), "{row}");
     }
 }

@@ -1,24 +1,38 @@
 //! Texts that are scanned: their tokens, or the scanner's first fault.
 
-use crate::texts::{is_fault, is_number, is_signed, row_of};
+use crate::texts::{is_fault, is_number, is_signed, row_of, text_of};
 use st_scan::{Sort, SyntaxFault, Token, tokens};
 use std::alloc::Global;
 use std::process::Abort;
 
+/// The name of a sort.
+fn name_of(sort: Sort) -> &'static str {
+    match sort {
+        Sort::Name => "name",
+        Sort::Keyword => "keyword",
+        Sort::Operator => "operator",
+        Sort::Number(_) => "number",
+        Sort::Character(_) => "character",
+        Sort::Bytes => "string",
+        Sort::Symbol => "symbol",
+        Sort::Opening => "opening",
+        Sort::Mark => "mark",
+    }
+}
+
+/// Whether this is the value of a number or the byte of a character; other sorts have none.
+fn is_value(text: &str, sort: Sort) -> bool {
+    match sort {
+        Sort::Number(number) => is_signed(text, number),
+        Sort::Character(byte) => is_number(text, u128::from(byte)),
+        _ => text.is_empty(),
+    }
+}
+
 /// Whether this names a sort, with the value of a number and the byte of a character.
 fn is_sort(text: &str, sort: Sort) -> bool {
     let (name, value) = text.split_once(' ').unwrap_or((text, ""));
-    match sort {
-        Sort::Name => text == "name",
-        Sort::Keyword => text == "keyword",
-        Sort::Operator => text == "operator",
-        Sort::Number(number) => name == "number" && is_signed(value, number),
-        Sort::Character(byte) => name == "character" && is_number(value, u128::from(byte)),
-        Sort::Bytes => text == "string",
-        Sort::Symbol => text == "symbol",
-        Sort::Opening => text == "opening",
-        Sort::Mark => text == "mark",
-    }
+    name == name_of(sort) && is_value(value, sort)
 }
 
 /// Whether a token is of this sort, with this first byte and this one after it.
@@ -32,28 +46,29 @@ fn is_token(text: &str, token: &Token) -> bool {
 
 /// Whether these are tokens in words, with commas between.
 fn are_tokens(text: &str, found: &[Token]) -> bool {
+    if found.is_empty() {
+        return text == "none";
+    }
     let mut seen = 0usize;
     for words in text.split(", ") {
-        if let Some(token) = found.get(seen)
-            && is_token(words, token)
-        {
-            seen += 1;
-        } else {
-            return text == "none" && found.is_empty();
+        match found.get(seen) {
+            Some(token) if is_token(words, token) => seen += 1,
+            _ => return false,
         }
     }
     seen == found.len()
 }
 
-/// A text has these tokens, or this fault.
-fn check(rt: &impl Abort, alloc: Global, text: &[u8], wanted: &str) {
-    assert!(rt; text.len() <= 65_536);
-    let is_wanted = match tokens(alloc, text) {
+/// Whether a text has these tokens, or this fault.
+fn has_tokens(alloc: Global, text: &[u8], wanted: &str) -> bool {
+    if text.len() > 65_536 {
+        return false;
+    }
+    match tokens(alloc, text) {
         Ok(found) => are_tokens(wanted, &found),
         Err(SyntaxFault::At { place, cause }) => is_fault(wanted, "syntax", place, cause),
         Err(SyntaxFault::OutOfMemory) => false,
-    };
-    assert!(rt; is_wanted, "{text:?} has not {wanted}");
+    }
 }
 
 /// Texts, and their tokens or the scanner's first fault, one a line.
@@ -203,61 +218,58 @@ foo (x y); z => name 0 3, mark 4 5, name 5 6, name 7 8, mark 8 9, mark 9 10, nam
 foo ^-16385 => name 0 3, mark 4 5, number -16385 5 11
 "#;
 
-#[test]
-fn texts_have_their_tokens(rt: HostRuntime) {
-    for row in ROWS.lines() {
-        let (text, wanted) = row_of(row);
-        check(&rt, rt.alloc(), text.as_bytes(), wanted);
+/// Bytes that are no blank and begin no token, after a `$` and within a string or a comment, and what is found.
+const BYTES: &str = "\u{0} => syntax 1 1
+a\u{0}b => syntax 2 1
+1\u{0} => syntax 2 1
+16r\u{0} => syntax 4 1
+-\u{0}1 => syntax 2 1
+:\u{0}= => syntax 2 1
+#\u{0}a => syntax 1 1
+#a:\u{0}b: => syntax 4 1
+#(\u{0}) => syntax 3 1
+'a\u{0}' => string 0 4
+'a\u{0} => syntax 1 2
+\"a\u{0}\" => none
+\u{b} => syntax 1 1
+a\u{b}b => syntax 2 1
+1\u{b} => syntax 2 1
+16r\u{b} => syntax 4 1
+-\u{b}1 => syntax 2 1
+:\u{b}= => syntax 2 1
+#\u{b}a => syntax 1 1
+#a:\u{b}b: => syntax 4 1
+#(\u{b}) => syntax 3 1
+'a\u{b}' => string 0 4
+'a\u{b} => syntax 1 2
+\"a\u{b}\" => none
+\u{ff} => syntax 1 1
+a\u{ff}b => syntax 2 1
+1\u{ff} => syntax 2 1
+16r\u{ff} => syntax 4 1
+-\u{ff}1 => syntax 2 1
+:\u{ff}= => syntax 2 1
+#\u{ff}a => syntax 1 1
+#a:\u{ff}b: => syntax 4 1
+#(\u{ff}) => syntax 3 1
+'a\u{ff}' => string 0 4
+'a\u{ff} => syntax 1 2
+\"a\u{ff}\" => none
+$\u{0} => character 0 0 2
+$\u{b} => character 11 0 2
+$\u{ff} => character 255 0 2";
+
+fn check_rows(rt: &impl Abort, alloc: Global, rows: &str) {
+    for row in rows.lines() {
+        let (pieces, wanted) = row_of(row);
+        let text = text_of(alloc, pieces).expect(rt, "memory");
+        assert!(rt; has_tokens(alloc, &text, wanted), "{row}");
     }
 }
 
-/// Bytes that are no blank and begin no token, after a `$` and within a string or a comment, and what is found; and blanks.
-const BYTES: &[(&[u8], &str)] = &[
-    (b"\x00", "syntax 1 1"),
-    (b"a\x00b", "syntax 2 1"),
-    (b"1\x00", "syntax 2 1"),
-    (b"16r\x00", "syntax 4 1"),
-    (b"-\x001", "syntax 2 1"),
-    (b":\x00=", "syntax 2 1"),
-    (b"#\x00a", "syntax 1 1"),
-    (b"#a:\x00b:", "syntax 4 1"),
-    (b"#(\x00)", "syntax 3 1"),
-    (b"'a\x00'", "string 0 4"),
-    (b"'a\x00", "syntax 1 2"),
-    (b"\"a\x00\"", "none"),
-    (b"\x0b", "syntax 1 1"),
-    (b"a\x0bb", "syntax 2 1"),
-    (b"1\x0b", "syntax 2 1"),
-    (b"16r\x0b", "syntax 4 1"),
-    (b"-\x0b1", "syntax 2 1"),
-    (b":\x0b=", "syntax 2 1"),
-    (b"#\x0ba", "syntax 1 1"),
-    (b"#a:\x0bb:", "syntax 4 1"),
-    (b"#(\x0b)", "syntax 3 1"),
-    (b"'a\x0b'", "string 0 4"),
-    (b"'a\x0b", "syntax 1 2"),
-    (b"\"a\x0b\"", "none"),
-    (b"\xff", "syntax 1 1"),
-    (b"a\xffb", "syntax 2 1"),
-    (b"1\xff", "syntax 2 1"),
-    (b"16r\xff", "syntax 4 1"),
-    (b"-\xff1", "syntax 2 1"),
-    (b":\xff=", "syntax 2 1"),
-    (b"#\xffa", "syntax 1 1"),
-    (b"#a:\xffb:", "syntax 4 1"),
-    (b"#(\xff)", "syntax 3 1"),
-    (b"'a\xff'", "string 0 4"),
-    (b"'a\xff", "syntax 1 2"),
-    (b"\"a\xff\"", "none"),
-    (b"$\x00", "character 0 0 2"),
-    (b"$\x0b", "character 11 0 2"),
-    (b"$\xff", "character 255 0 2"),
-    (b"\t\n\x0c\r a", "name 5 6"),
-];
-
 #[test]
-fn every_byte_has_its_place(rt: HostRuntime) {
-    for (text, wanted) in BYTES {
-        check(&rt, rt.alloc(), text, wanted);
-    }
+fn texts_have_their_tokens(rt: HostRuntime) {
+    check_rows(&rt, rt.alloc(), ROWS);
+    check_rows(&rt, rt.alloc(), BYTES);
+    assert!(rt; has_tokens(rt.alloc(), b"\t\n\x0c\r a", "name 5 6"));
 }

@@ -1,4 +1,5 @@
-//! Rows of texts, one a line, with what is found after ` => `; and texts that are too long for a row.
+//! Rows of texts, one a line, with what is found after ` => `. Of a long text the row has pieces, `foo ^~(*200~1`: `foo ^`, 200
+//! parentheses and `1`.
 
 use st_scan::Signed;
 use std::alloc::{AllocError, Global};
@@ -11,6 +12,11 @@ pub fn row_of(row: &str) -> (&str, &str) {
 /// Whether a number is written so.
 pub fn is_number(text: &str, number: u128) -> bool {
     text.parse::<u128>().ok() == Some(number)
+}
+
+/// Whether a word is this number after a mark.
+pub fn is_marked_number(word: &str, mark: &str, number: u128) -> bool {
+    is_number(word.strip_prefix(mark).unwrap_or(""), number)
 }
 
 /// Whether a number is written so, with a `-` before it if it is a negative one.
@@ -40,22 +46,28 @@ pub fn is_fault(text: &str, kind: &str, place: u32, cause: u8) -> bool {
     }
 }
 
-/// Pieces of a text, each with how often it stands there.
-pub type Pieces<'a> = &'a [(&'a [u8], usize)];
-
-/// Adds a piece so often.
-fn push_often(text: &mut Vec<u8>, piece: &[u8], count: usize) -> Result<(), AllocError> {
-    for _ in 0..count {
-        text.extend_from_slice(piece)?;
+/// Adds the characters of a piece, which are bytes.
+fn push_bytes(text: &mut Vec<u8>, piece: &str) -> Result<(), AllocError> {
+    for c in piece.chars() {
+        text.push((u32::from(c) & 255) as u8)?;
     }
     Ok(())
 }
 
-/// The text of some pieces.
-pub fn text_of(alloc: Global, pieces: Pieces<'_>) -> Result<Vec<u8>, AllocError> {
+/// Adds a piece, or `PIECE*COUNT` so often.
+fn push_often(text: &mut Vec<u8>, piece: &str) -> Result<(), AllocError> {
+    let (piece, count) = piece.split_once('*').unwrap_or((piece, "1"));
+    for _ in 0..count.parse::<usize>().unwrap_or(0) {
+        push_bytes(text, piece)?;
+    }
+    Ok(())
+}
+
+/// The text of some pieces with `~` between.
+pub fn text_of(alloc: Global, pieces: &str) -> Result<Vec<u8>, AllocError> {
     let mut text = Vec::new(alloc);
-    for (piece, count) in pieces {
-        push_often(&mut text, piece, *count)?;
+    for piece in pieces.split('~') {
+        push_often(&mut text, piece)?;
     }
     Ok(text)
 }

@@ -1,7 +1,7 @@
 use Rattle.std.proofs.Common.{◌≡◌, length, drop, ap, arith}
 use Rattle.st_model.specs.Values.{value}
 use Rattle.st_model.specs.View.{object_of}
-use Rattle.st_browse.specs.Cutting.{codes_of}
+use Rattle.st_parts.specs.Cutting.{codes_of}
 use Rattle.st_browse.proofs.Parting.{count_next, codes_end}
 use Rattle.st_browse.proofs.codes.count_codes.Goals as goal
 

@@ -1,7 +1,7 @@
 use Rattle.std.proofs.Common.{◌≡◌, ◌+◌, ◌-◌, ◌≤◌, length, drop}
 use Rattle.st_model.specs.Values.{value}
 use Rattle.st_model.specs.View.{object_of}
-use Rattle.st_browse.specs.Cutting.{codes_of}
+use Rattle.st_parts.specs.Cutting.{codes_of}
 use Rattle.st_browse.proofs.codes.count_codes.Given as goal
 
 -- the bytecodes so far were counted

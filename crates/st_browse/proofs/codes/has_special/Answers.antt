@@ -2,7 +2,7 @@ use Rattle.std.proofs.Common.{Some, ap, sym, ◌∙◌, arith}
 use Rattle.std.specs.List.{list_any}
 use Rattle.st_model.specs.Values.{value}
 use Rattle.st_model.specs.View.{object_of}
-use Rattle.st_browse.specs.Cutting.{codes_of}
+use Rattle.st_parts.specs.Cutting.{codes_of}
 use Rattle.st_browse.specs.Senders.{is_special}
 use Rattle.st_browse.proofs.Parting.{special_here, special_next, codes_end}
 use Rattle.st_browse.proofs.codes.has_special.Goals as goal

@@ -3,7 +3,7 @@ use Rattle.std.specs.Prelude.{codes}
 use Rattle.st_model.specs.Values.{value}
 use Rattle.st_model.specs.View.{object_of}
 use Rattle.st_call.proofs.Pushing.{push_then, push_begun, push_as}
-use Rattle.st_browse.specs.Cutting.{codes_of}
+use Rattle.st_parts.specs.Cutting.{codes_of}
 use Rattle.st_browse.specs.Replies.{codes_text, count_text}
 use Rattle.st_browse.proofs.saying.push_bytecodes.Goals as goal
 

@@ -2,7 +2,7 @@ use Rattle.std.proofs.Common.{sym, ap, ◌∙◌}
 use Rattle.std.specs.List.{list_any}
 use Rattle.st_model.specs.Values.{value}
 use Rattle.st_model.specs.View.{object_of}
-use Rattle.st_browse.specs.Cutting.{codes_of}
+use Rattle.st_parts.specs.Cutting.{codes_of}
 use Rattle.st_browse.specs.Senders.{is_sent, is_special}
 use Rattle.st_browse.proofs.Parting.{none_special}
 use Rattle.st_browse.proofs.sending.is_sent.Goals as goal

@@ -13,7 +13,7 @@ use Rattle.st_decompile.proofs.decompiler.candidate_of.Goals as goal
 pub returns : goal.returns
 returns c =
     let names = names_view c.args.names.now in
-    let called = c.in_ok-calling.ensures ∙ ap (λ ls. calling_of names (literals_view ls)) c.deref.ensures.value in
+    let called = c.in_ok-calling.ensures ∙ ap (λ ls. calling_of names (literals_view ls)) c.deref-2.ensures.value in
     IfOk-weaker c.candidate.result _ _
     (λ m is. read_by names (parts_view c.args.parts.now) (calling_view c.in_ok-calling.calling) (option_map method_view m) called is)
     c.candidate.ensures

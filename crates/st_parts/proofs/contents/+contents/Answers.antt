@@ -1,6 +1,5 @@
 use Rattle.std.proofs.Common.{◌+◌, Some, sym, ap, subst, ◌∙◌, arith}
 use Rattle.std.specs.Prelude.{option_map}
-use Rattle.std.proofs.lemmas.Result.{IfOk-weaker}
 use Rattle.st_emit.specs.Views.{literal_view}
 use Rattle.st_parts.specs.Contents.{contents}
 use Rattle.st_parts.proofs.Turns.{LeftMembers, members_begin, members_end, members_fail, members_more}
@@ -48,7 +47,5 @@ contents_of-returns-then-not-live g t c =
 
 pub contents_of-returns : goal.contents_of-returns
 contents_of-returns g t c =
-    IfOk-weaker c.or_character.result _ _
-    (λ l is. contents_made c.args.deep (g.M.Memory.view c.args.m.now).objects (value c.args.v) (sym c.is_small.ensures ∙ c.if-is_small.false) (sym c.live.ensures ∙ c.if-not-live.false)
-    (option_map literal_view c.in_ok-made.made) (option_map literal_view l) c.in_ok-made.ensures is)
-    c.or_character.ensures
+    contents_made c.args.deep (g.M.Memory.view c.args.m.now).objects (value c.args.v) (sym c.is_small.ensures ∙ c.if-is_small.false) (sym c.live.ensures ∙ c.if-not-live.false)
+    (option_map literal_view c.in_ok-made.made) (option_map literal_view c.or_character.result) c.in_ok-made.ensures c.or_character.ensures

@@ -1,35 +1,18 @@
-use Rattle.std.proofs.Common.{◌≡◌, ◌+◌, ◌-◌, ◌<◌, ℕ, List, Bool, length, sym, ap₂, ◌∙◌, arith, rules}
-use Rattle.st_resolved.specs.Instructions.{steps_up}
-use Rattle.st_parts.proofs.Sending.{sends_behind, behind_end, behind_short, behind_none, behind_turn}
+use Rattle.std.proofs.Common.{◌+◌, drop, sym, ap, ◌∙◌, arith}
+use Rattle.st_parts.specs.Parts.{sends_to_super}
+use Rattle.st_parts.proofs.Sending.{super_behind, super_here, super_next, super_end}
 use Rattle.st_parts.proofs.ending.sends_to_super.Goals as goal
 
-pub returns-then-is_empty : goal.returns-then-is_empty
-returns-then-is_empty c =
-    let l = c.loop-i in
-    sym (behind_end (length c.args.bytes.now - l.i) l.sends l.rest.now (search rules)) ∙ l.invariant
+pub returns-then-begins_super : goal.returns-then-begins_super
+returns-then-begins_super c =
+    super_here c.args.bytes.now c.loop-b.b-index _ c.loop-b-test.true (sends_to_super c.args.bytes.now) c.loop-b.left c.loop-b.invariant
+    (sym c.if-begins_super.true ∙ c.begins_super.ensures)
 
-pub returns-in_default : goal.returns-in_default
-returns-in_default c =
-    let l = c.loop-i in
-    let some : 0 < length l.rest.now = search rules in
-    sym (behind_none (length c.args.bytes.now - l.i) (length c.args.bytes.now - (l.i + 1)) l.sends (omega (arith, c.loop-i-test.true)) l.rest.now some (sym c.instruction.ensures ∙ c.in_default.is)) ∙ l.invariant
+pub loop-b-preserved : goal.loop-b-preserved
+loop-b-preserved c =
+    ap (λ n. super_behind n (drop (c.loop-b.b-index + 1) c.args.bytes.now)) c.left_after-left.ensures
+    ∙ super_next c.args.bytes.now c.loop-b.b-index _ c.loop-b-test.true (sends_to_super c.args.bytes.now) c.loop-b.left c.loop-b.invariant
+    (sym c.if-begins_super.false ∙ c.begins_super.ensures)
 
-pub loop-i-preserved : goal.loop-i-preserved
-loop-i-preserved c =
-    let l = c.loop-i in
-    let left = length c.args.bytes.now - (l.i + 1) in
-    let some : 0 < length l.rest.now = search rules in
-    ap₂ (λ (b : Bool) (rest : List ℕ). sends_behind b (steps_up left rest)) c.sends_by_now-sends.ensures c.behind-rest.ensures
-    ∙ behind_turn (length c.args.bytes.now - l.i) left l.sends (omega (arith, c.loop-i-test.true)) l.rest.now c.in-Some.found some (sym c.instruction.ensures ∙ c.in-Some.is)
-    ∙ l.invariant
-
-pub returns-then-is_empty-2 : goal.returns-then-is_empty-2
-returns-then-is_empty-2 c =
-    let l = c.loop-i in
-    sym (behind_end (length c.args.bytes.now - l.i) l.sends l.rest.now (search rules)) ∙ l.invariant
-
-pub returns-else-is_empty-2 : goal.returns-else-is_empty-2
-returns-else-is_empty-2 c =
-    let l = c.loop-i in
-    let some : 0 < length l.rest.now = search rules in
-    sym (behind_short (length c.args.bytes.now - l.i) l.sends l.rest.now (omega (arith, c.loop-i-test.false)) some) ∙ l.invariant
+pub returns : goal.returns
+returns c = super_end c.args.bytes.now c.loop-b.b-index c.loop-b.left (sends_to_super c.args.bytes.now) (omega arith) c.loop-b.invariant

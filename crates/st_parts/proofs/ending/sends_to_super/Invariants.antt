@@ -1,8 +1,7 @@
-use Rattle.std.proofs.Common.{◌≡◌, ◌-◌, length}
-use Rattle.st_resolved.specs.Instructions.{steps_up}
+use Rattle.std.proofs.Common.{◌≡◌, drop}
 use Rattle.st_parts.specs.Parts.{sends_to_super}
-use Rattle.st_parts.proofs.Sending.{sends_behind}
+use Rattle.st_parts.proofs.Sending.{super_behind}
 use Rattle.st_parts.proofs.ending.sends_to_super.Given as goal
 
-abbrev pub invariant-loop-i : goal.invariant-loop-i
-invariant-loop-i l = sends_behind l.sends (steps_up (length l.bytes - l.i) l.rest) ≡ sends_to_super l.bytes
+abbrev pub invariant-loop-b : goal.invariant-loop-b
+invariant-loop-b l = super_behind l.left (drop l.b-index l.bytes) ≡ sends_to_super l.bytes
