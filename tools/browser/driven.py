@@ -224,7 +224,7 @@ def the_debugger(window, _):
     window.do("history.back()")
     window.wait("!document.getElementById('object-name').textContent.startsWith('@22 ')")
     reader.click("run-on")
-    reader.rests()
+    window.wait("document.getElementById('standing').textContent === 'ready'")
 
 
 def a_loop(window, figures):

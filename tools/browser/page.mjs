@@ -114,7 +114,7 @@ function told(message) {
 }
 
 function lost(isForGood) {
-  notice(new Error(isForGood ? 'The server is gone, or too many windows look: reload, or begin it again with tools/page, and open the address that it says.' : 'The server does not answer; the page asks again.'));
+  notice(new Error(isForGood ? 'The server is gone, or too many windows look: reload, or begin it again with tools/page, and open the address that it prints.' : 'The server does not answer; the page asks again.'));
   at('notice').dataset.lost = 'yes';
 }
 
