@@ -117,6 +117,13 @@ PLAIN = {
 }
 
 
+def damage(file, place):
+    """What is wrong at a byte of a store's file, `roots` or `changes`."""
+    if file == "changes":
+        return f"no whole definition begins at byte {place} of the store's changes file"
+    return f"byte {place} of the store's roots file is the first that can't be"
+
+
 def meaning_of(reply):
     """What a refusal, a death, a last line or a plain reply means, without its place in a text."""
     words = reply.split()
@@ -133,5 +140,5 @@ def meaning_of(reply):
     if words[:1] == ["image"]:
         return IMAGE.get(int(words[1]), (0, reply))[1].format(*words[2:])
     if words[:2] == ["store", "damaged"]:
-        return f"byte {words[3]} of the store's {words[2]} file is the first that can't be"
+        return damage(words[2], words[3])
     return PLAIN.get(reply, reply)
