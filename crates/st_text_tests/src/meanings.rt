@@ -4,7 +4,7 @@ use crate::compiling::names;
 use crate::texts::{is_marked_number, is_number, row_of, text_of};
 use st_code::{MethodParts, Names, compile};
 use st_meaning::{
-    Answer, AnswerList, Deed, FALSE, MeaningFault, NIL, TRUE, Value, Variable, trace, walk,
+    Answer, AnswerList, Deed, Deeds, FALSE, MeaningFault, NIL, TRUE, Value, Variable, trace, walk,
 };
 use st_parse::parse;
 use st_scan::MethodTree;
@@ -87,31 +87,16 @@ fn are_deeds(text: &str, deeds: &[Deed]) -> bool {
     seen == deeds.len()
 }
 
-/// Whether these deeds, or too many, come of a method's code.
-fn walks(alloc: Global, parts: &MethodParts, answers: &AnswerList, wanted: &str) -> bool {
-    match walk(alloc, parts, answers) {
+/// Whether these deeds, or too many, were done.
+fn is_done(done: Result<Deeds, MeaningFault>, wanted: &str) -> bool {
+    match done {
         Ok(deeds) => are_deeds(wanted, &deeds),
         Err(MeaningFault::Long) => wanted == "long",
         Err(_) => false,
     }
 }
 
-/// Whether they come of a tree.
-fn traces(
-    alloc: Global,
-    tree: &MethodTree,
-    names: &Names,
-    answers: &AnswerList,
-    wanted: &str,
-) -> bool {
-    match trace(alloc, tree, names, answers) {
-        Ok(deeds) => are_deeds(wanted, &deeds),
-        Err(MeaningFault::Long) => wanted == "long",
-        Err(_) => false,
-    }
-}
-
-/// Whether they come of a tree, and of its code.
+/// Whether these deeds come of a tree, and of its code.
 #[tactic(auto, using(st_meaning::proofs::Sources::coded_sound))]
 fn does(
     alloc: Global,
@@ -121,8 +106,8 @@ fn does(
     wanted: &str,
 ) -> bool {
     match compile(alloc, tree, names) {
-        Ok(parts) => traces(alloc, tree, names, answers, wanted)
-            && walks(alloc, &parts, answers, wanted),
+        Ok(parts) => is_done(trace(alloc, tree, names, answers), wanted)
+            && is_done(walk(alloc, &parts, answers), wanted),
         Err(_) => false,
     }
 }
@@ -222,6 +207,6 @@ fn code_ends_where_it_cannot_go_on(rt: HostRuntime) {
     let answers = Vec::new(rt.alloc());
     for (bytes, wanted) in BROKEN {
         let parts = parts_of(rt.alloc(), bytes).expect(&rt, "memory");
-        assert!(rt; walks(rt.alloc(), &parts, &answers, wanted));
+        assert!(rt; is_done(walk(rt.alloc(), &parts, &answers), wanted));
     }
 }
