@@ -5,7 +5,7 @@ import re
 import time
 
 from .classes import CLASS_POOL, field_of, members_of
-from .expressions import BEGIN, HEADER, pieces, source_of
+from .expressions import BEGIN, HEADER, lacks_character, pieces, source_of
 from .image import NIL, integer, is_small
 from .script import why_no_method
 
@@ -87,6 +87,8 @@ class Evaluations:
             return f"{lost} is a class, which would be lost; `=` compares"
         if lost := min(names & NEEDED, default=None):
             return f"{lost} is what the kernel works with, which would be lost; `=` compares"
+        if lacks_character(text):
+            return "a character is missing after the `$` at the end"
         return why_no_method(HEADER, source_of(text))
 
     def define(self, text):
