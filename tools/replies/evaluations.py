@@ -74,10 +74,10 @@ def name_refused(reply, source):
 
 
 class Evaluations:
-    """The expressions of a session of the kernel, each of which is defined as `doIt`."""
+    """The expressions of a session of the kernel, each of which is defined as `doIt`; `declared` are the globals that the last one made."""
 
     def __init__(self, session):
-        self.session = session
+        self.session, self.declared = session, set()
 
     def why_not(self, text):
         """Why an expression isn't to be defined, if it isn't."""
@@ -94,9 +94,9 @@ class Evaluations:
     def define(self, text):
         """The reply to the definition of an expression, and the text that was defined; names that it is the first to assign to are declared."""
         source = source_of(with_numbers(text))
-        reply, declared = self.session.define(HEADER, source), set()
-        while (name := name_refused(reply, source)) and name not in declared:
-            declared.add(name)
+        reply, self.declared = self.session.define(HEADER, source), set()
+        while (name := name_refused(reply, source)) and name not in self.declared:
+            self.declared.add(name)
             self.declare(name)
             reply = self.session.define(HEADER, source)
         return reply, source
