@@ -16,7 +16,7 @@ BINARY = r"[-+*/\\~<>=@%|&?,]"
 # What another token must follow: a cascade's semicolon, an assignment, a keyword or a binary operator, and none of a literal's.
 WANTING = re.compile(rf"(?:[;_^]|(?<![A-Za-z0-9:#])[A-Za-z][A-Za-z0-9]*:|(?<!#)(?<!{BINARY}){BINARY}+)\Z")
 # What follows another token.
-FOLLOWING = re.compile(rf"[;]|[A-Za-z][A-Za-z0-9]*:(?!=)|{BINARY}")
+FOLLOWING = re.compile(rf";|[A-Za-z][A-Za-z0-9]*:(?!=)|{BINARY}")
 
 
 def pieces(text):
