@@ -5,7 +5,7 @@ import re
 import time
 
 from .classes import CLASS_POOL, field_of, members_of
-from .expressions import BEGIN, HEADER, pieces, source_of
+from .expressions import BEGIN, HEADER, lacks_character, pieces, source_of
 from .image import NIL, integer, is_small
 from .script import why_no_method
 
@@ -74,10 +74,10 @@ def name_refused(reply, source):
 
 
 class Evaluations:
-    """The expressions of a session of the kernel, each of which is defined as `doIt`."""
+    """The expressions of a session of the kernel, each of which is defined as `doIt`; `declared` are the globals that the last one made."""
 
     def __init__(self, session):
-        self.session = session
+        self.session, self.declared = session, set()
 
     def why_not(self, text):
         """Why an expression isn't to be defined, if it isn't."""
@@ -87,14 +87,16 @@ class Evaluations:
             return f"{lost} is a class, which would be lost; `=` compares"
         if lost := min(names & NEEDED, default=None):
             return f"{lost} is what the kernel works with, which would be lost; `=` compares"
+        if lacks_character(text):
+            return "a character is missing after the `$` at the end"
         return why_no_method(HEADER, source_of(text))
 
     def define(self, text):
         """The reply to the definition of an expression, and the text that was defined; names that it is the first to assign to are declared."""
         source = source_of(with_numbers(text))
-        reply, declared = self.session.define(HEADER, source), set()
-        while (name := name_refused(reply, source)) and name not in declared:
-            declared.add(name)
+        reply, self.declared = self.session.define(HEADER, source), set()
+        while (name := name_refused(reply, source)) and name not in self.declared:
+            self.declared.add(name)
             self.declare(name)
             reply = self.session.define(HEADER, source)
         return reply, source

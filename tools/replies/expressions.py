@@ -12,6 +12,11 @@ OPENING, CLOSING = "([", ")]"
 FRACTION = re.compile(r"(?<![A-Za-z0-9])\d+(?:\.\d|r-?[0-9A-Z]+\.[0-9A-Z]+(?:e-?\d+)?(?![A-Za-z0-9:]))")
 # A comment, or in its one group what is none: a string, a character, or any other one.
 TOKEN = re.compile(r"""\"[^"]*\"?|('(?:[^']|'')*'?|\$.|.)""", re.S)
+BINARY = r"[-+*/\\~<>=@%|&?,]"
+# What another token must follow: a cascade's semicolon, an assignment, a keyword or a binary operator, and none of a literal's.
+WANTING = re.compile(rf"(?:[;_^]|(?<![A-Za-z0-9:#])[A-Za-z][A-Za-z0-9]*:|(?<!#)(?<!{BINARY}){BINARY}+)\Z")
+# What follows another token.
+FOLLOWING = re.compile(rf";|[A-Za-z][A-Za-z0-9]*:(?!=)|{BINARY}")
 
 
 def pieces(text):
@@ -44,6 +49,24 @@ def is_open(text):
 def parts_of(text):
     """The places of what is neither a comment nor a blank."""
     return [it.start() for it in TOKEN.finditer(text) if it[1] and it[1].strip(BLANKS)]
+
+
+def goes_on(text):
+    """Whether a token must follow the last one."""
+    parts = parts_of(text)
+    return bool(parts) and bool(WANTING.search(text[: parts[-1] + 1]))
+
+
+def is_rest(text):
+    """Whether a text begins with what only follows another token, as a keyword."""
+    parts = parts_of(text)
+    return bool(parts) and bool(FOLLOWING.match(text, parts[0]))
+
+
+def lacks_character(text):
+    """Whether a text ends with a `$`."""
+    parts = parts_of(text)
+    return bool(parts) and text[parts[-1] :] == "$"
 
 
 def is_in_number(text, at):

@@ -31,9 +31,9 @@ SYNTAX = {
     2: "a string or comment without an end",
     3: "a token that can't stand there: a receiver, an argument or a bracket may be missing before it",
     4: "a number with a bad radix or digit, or too large a number",
-    5: "a number with a fraction or an exponent, which this Smalltalk has not",
+    5: "a number with a fraction or an exponent, which is no literal, nor stands in a literal array: `Number readFrom: '1.5'` makes one",
     6: "a bracket within 200 open ones",
-    7: "a token after what is a whole method: a period, a message or the colon of one is missing before it, or a bracket is one too many",
+    7: "a token after what is whole: a period, a message or the colon of one is missing before it, or a bracket is one too many",
 }
 CODE = {
     1: "a name that means nothing",

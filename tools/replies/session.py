@@ -24,7 +24,8 @@ class Ended(Exception):
         self.line, self.status, self.complaint = line, status, complaint.strip()
 
     def __str__(self):
-        return f"the session ended: {self.line or self.complaint or 'no line'}"
+        complaint = self.complaint.removeprefix("st80: ")
+        return f"the session ended: {': '.join(filter(None, [self.line, complaint])) or 'no line'}"
 
 
 @functools.cache
