@@ -33,7 +33,7 @@ use Rattle.st_model.specs.Storage.{primitive_at, primitive_at_put, primitive_new
 use Rattle.st_model.specs.Processes.{processes}
 use Rattle.st_model.specs.Bytecodes.{fetch_literal_constant, push_operand, store_and_pop, push_receiver, push_constant, constant_value, extended_push, extended_store, extended_store_and_pop, pop_stack, duplicate_top, push_active_context, short_unconditional_jump, long_unconditional_jump, step}
 use Rattle.st_model.specs.Table.{Table, apart, bounded_table}
-use Rattle.st_frames.specs.Rows.{send_changes, activation_changes}
+use Rattle.st_frames.specs.Rows.{storage_changes}
 use Rattle.st_frames.specs.declared.frame.Frame.{Frame}
 use Rattle.st_frames.specs.declared.registers.Registers.{Registers as Words}
 use Rattle.st_control.specs.Foreseen.{IsForeseen}
@@ -118,9 +118,10 @@ IsDoneAtOnce c (Err cause) d = (step apart).run c ≡ Died cause
 IsDoneAtOnce c (Ok false) d = d ≡ c
 IsDoneAtOnce c (Ok true) d = GoesOn c d
 
--- a bound of how many changes a bytecode makes that is done at once: it makes a Message and activates a method
+-- a bound of how many changes a bytecode makes that is done at once: a primitive that makes the largest object makes more than
+-- what makes a Message and activates a method
 abbrev pub changes_at_once : ℕ
-changes_at_once = send_changes + activation_changes
+changes_at_once = storage_changes
 
 module _ {H : Type 0} (m : ObjectMemory H) where
   -- of a receiver, and of the argument at the top where that is a SmallInteger, the primitive has an answer

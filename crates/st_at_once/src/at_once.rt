@@ -5,7 +5,7 @@ ghost use Rattle.st_model.specs.declared.page.PageObject.TheVariants.{FalseObjec
 ghost use Rattle.st_control.specs.AtOnce.{IsStill, jump_at_once};
 ghost use Rattle.st_at_once.specs.AtOnce.{was_done, deed_left, StaysInContext, StillToForesee, respond_at_once, execute_at_once, send_from_at_once, send_at_once, literal_send_at_once, primitive_at_once, long_jump_at_once, return_receiver_at_once, return_constant_at_once, return_top_to_sender_at_once, return_top_to_caller_at_once, bytecode_at_once, kept, may_leave, step_at_once, changes_at_once};
 ghost use Rattle.st_at_once.specs.declared.ending.RowEnd.TheVariants.{Stays, Leaves};
-ghost use Rattle.st_frames.specs.Rows.{RowMoves, RowDoes, RowLeaves, Takes, registers_in, activation_changes};
+ghost use Rattle.st_frames.specs.Rows.{RowMoves, RowDoes, RowLeaves, Takes, registers_in, storage_changes};
 
 use crate::arithmetic::arithmetic_at_once;
 use crate::ending::{RowEnd, done_if};
@@ -175,11 +175,11 @@ fn respond_at_once<O: Objects>(
     call: Call,
     left: &mut Deed,
 ) -> Result<RowEnd, Dead>
-    requires room { activation_changes ≤ O.room m.old }
+    requires room { storage_changes ≤ O.room m.old }
     ensures does { RowLeaves O.Objects.own (respond_at_once O.names (word call.method) call.arguments)
         was_done (deed_left left.new) m.old r.old result m.new r.new }
     ensures moves { result ≢ Ok Stays }
-    ensures takes { Takes O.Objects.own activation_changes m.old m.new }
+    ensures takes { Takes O.Objects.own storage_changes m.old m.new }
     ensures still { StillToForesee O.Objects.own m.old result m.new }
 {
     let primitive = method_primitive(m, r, call.method)?;
@@ -201,11 +201,11 @@ fn execute_at_once<O: Objects>(
     call: Call,
     left: &mut Deed,
 ) -> Result<RowEnd, Dead>
-    requires room { activation_changes ≤ O.room m.old }
+    requires room { storage_changes ≤ O.room m.old }
     ensures does { RowLeaves O.Objects.own (execute_at_once O.names (word call.method) call.arguments)
         was_done (deed_left left.new) m.old r.old result m.new r.new }
     ensures moves { result ≢ Ok Stays }
-    ensures takes { Takes O.Objects.own activation_changes m.old m.new }
+    ensures takes { Takes O.Objects.own storage_changes m.old m.new }
     ensures still { StillToForesee O.Objects.own m.old result m.new }
 {
     let header = Header(m.method_header(call.method)?);

@@ -5,7 +5,7 @@ ghost use Rattle.std.specs.Prelude.{◌≡◌, ◌≤◌, Ok, IfOk, false};
 ghost use Rattle.st_model.specs.{Calls.itself, Primitives.taking};
 ghost use Rattle.st_model.specs.Storage.{primitive_at, primitive_at_put, primitive_new, primitive_new_with};
 ghost use Rattle.st_model.specs.Deeds.{is_done, deed_of_trial};
-ghost use Rattle.st_frames.specs.Rows.{RowReads, RowLeaves, Takes, activation_changes};
+ghost use Rattle.st_frames.specs.Rows.{RowReads, RowLeaves, Takes, storage_changes};
 ghost use Rattle.st_at_once.specs.AtOnce.{object_space, where_space, largest_number, largest_fixed, largest_indexed, respond_with};
 
 use st_frames::Registers;
@@ -88,11 +88,11 @@ fn try_new<O: Objects>(m: &mut O, r: &mut Registers, n: u32) -> Result<Tried, De
 /// Primitive 71, where there is room. It fails without just one argument, and then nothing is changed.
 #[tactic(auto, using(st_frames::proofs::Doing::rows), unfolding(crate::specs::AtOnce::where_space, st_model::specs::Primitives::taking))]
 fn try_new_with<O: Objects>(m: &mut O, r: &mut Registers, n: u32) -> Result<Tried, Dead>
-    requires room { 2 ≤ O.room m.old }
+    requires room { storage_changes ≤ O.room m.old }
     ensures does { RowLeaves O.Objects.own
         (where_space O.names largest_indexed (taking 1 n (primitive_new_with O.names)))
         is_done deed_of_trial m.old r.old result m.new r.new }
-    ensures takes { Takes O.Objects.own 2 m.old m.new }
+    ensures takes { Takes O.Objects.own storage_changes m.old m.new }
     ensures still { IfOk result (λ t. is_done t ≡ false → m.new ≡ m.old) }
 {
     if !has_object_space(m, r, LARGEST_INDEXED) {
@@ -113,10 +113,10 @@ pub fn try_at_once<O: Objects>(
     primitive: u32,
     n: u32,
 ) -> Result<Tried, Dead>
-    requires room { activation_changes ≤ O.room m.old }
+    requires room { storage_changes ≤ O.room m.old }
     ensures does { RowLeaves O.Objects.own (respond_with O.names primitive n)
         is_done deed_of_trial m.old r.old result m.new r.new }
-    ensures takes { Takes O.Objects.own activation_changes m.old m.new }
+    ensures takes { Takes O.Objects.own storage_changes m.old m.new }
     ensures still { IfOk result (λ t. is_done t ≡ false → m.new ≡ m.old) }
 {
     match primitive {

@@ -18,7 +18,7 @@ impl<'a, M: Memory> Objects for Near<'a, M> {
 
     ghost fixed = { λ n. fixed_of (M.view n.memory.now) n.memory.ghost_name };
 
-    ghost room = { λ n. 28 };
+    ghost room = { λ n. 70 };
 
     fn is_there(&self, v: Word) -> bool {
         live_value(self.memory, v).is_some()

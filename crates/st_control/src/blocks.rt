@@ -87,10 +87,10 @@ fn fill_block<O: Objects>(m: &mut O, r: &Registers, block: Word, shape: Shape) -
 #[tactic(auto, using(st_frames::proofs::Doing::rows), unfolding(st_model::specs::Blocks::new_block))]
 fn new_block<O: Objects>(m: &mut O, r: &Registers, shape: Shape) -> Result<Word, Dead>
     requires within { r.now.ip ≤ℤ pos 16380 }
-    requires room { 6 ≤ O.room m.old }
+    requires room { 37 ≤ O.room m.old }
     ensures does { RowDoes O.Objects.own (new_block O.names (word shape.home) (word shape.count))
         word m.old r.now result m.new r.now }
-    ensures takes { Takes O.Objects.own 6 m.old m.new }
+    ensures takes { Takes O.Objects.own 37 m.old m.new }
 {
     let class = page(m, PageObject::BlockContextClass);
     let fields = m.count_fields(shape.home)?;
@@ -103,11 +103,11 @@ fn new_block<O: Objects>(m: &mut O, r: &Registers, shape: Shape) -> Result<Word,
 #[tactic(auto, using(st_frames::proofs::Doing::rows), unfolding(st_frames::specs::Answering::succeed_by, st_frames::specs::Answering::succeed_with))]
 fn answer_block<O: Objects>(m: &mut O, r: &mut Registers, shape: Shape) -> Result<(), Dead>
     requires within { r.old.ip ≤ℤ pos 16380 }
-    requires room { 7 ≤ O.room m.old }
+    requires room { 38 ≤ O.room m.old }
     ensures does { RowDoes O.Objects.own
         (succeed_by O.names 1 (new_block O.names (word shape.home) (word shape.count)))
         (λ x. true) m.old r.old result m.new r.new }
-    ensures takes { Takes O.Objects.own 7 m.old m.new }
+    ensures takes { Takes O.Objects.own 38 m.old m.new }
 {
     let block = new_block(m, r, shape)?;
     answer_with(m, r, 1, block)

@@ -25,9 +25,9 @@ fn copy_arguments<O: Objects>(m: &mut O, r: &Registers, array: Word, n: u32) -> 
 #[tactic(auto, using(st_frames::proofs::Doing::rows), unfolding(st_model::specs::Sends::argument_array))]
 fn argument_array<O: Objects>(m: &mut O, r: &Registers, n: u32) -> Result<Word, Dead>
     requires few { n < 16384 }
-    requires room { 2 ≤ O.room m.old }
+    requires room { 9 ≤ O.room m.old }
     ensures does { RowDoes O.Objects.own (argument_array O.names n) word m.old r.now result m.new r.now }
-    ensures takes { Takes O.Objects.own 2 m.old m.new }
+    ensures takes { Takes O.Objects.own 9 m.old m.new }
 {
     let class = page(m, PageObject::ArrayClass);
     let array = m.new_object(class, n)?;
@@ -58,10 +58,10 @@ fn new_message<O: Objects>(
 /// A Message takes the place of the n arguments.
 #[tactic(auto, using(st_frames::proofs::Doing::rows), unfolding(st_model::specs::Sends::replace_by_message))]
 pub fn replace_by_message<O: Objects>(m: &mut O, r: &mut Registers, sent: Sent) -> Result<(), Dead>
-    requires room { 6 ≤ O.room m.old }
+    requires room { 13 ≤ O.room m.old }
     ensures does { RowDoes O.Objects.own (replace_by_message O.names (word sent.selector) sent.arguments)
         itself m.old r.old result m.new r.new }
-    ensures takes { Takes O.Objects.own 6 m.old m.new }
+    ensures takes { Takes O.Objects.own 13 m.old m.new }
 {
     let array = argument_array(m, r, sent.arguments)?;
     let message = new_message(m, r, sent.selector, array)?;

@@ -15,7 +15,7 @@ use crate::notes::Notes;
 use st_memory::{Made, Memory, Objects};
 use st_model::{Dead, Demand, Kind, Oop, Word};
 
-/// A memory as it would be after a row, whose changes are noted and not made. It takes 28 changes, new objects and exchanges
+/// A memory as it would be after a row, whose changes are noted and not made. It takes 70 changes, new objects and exchanges
 /// together. Exchanges stand behind all other changes: what changes an object that was exchanged is noted of the word
 /// that had it before.
 #[derive(Drop)]
@@ -23,7 +23,7 @@ pub struct Draft<'a, M: Memory> {
     base: &'a M,
     notes: Notes,
     exchanges: Exchanges,
-    ghost few: { count_of notes exchanges ≤ 28 },
+    ghost few: { count_of notes exchanges ≤ 70 },
     ghost closed: { AllThere (noted (M.view base.now).objects notes) },
     ghost there: { AreOf (noted (M.view base.now).objects notes) exchanges.pairs exchanges.count },
 }
@@ -35,7 +35,7 @@ impl<'a, M: Memory> Draft<'a, M> {
             ≡ (M.view base.now).objects }
         ensures head { (M.view result.base.now).head ≡ (M.view base.now).head }
         ensures fixed { M.view result.base.now ≡ M.view base.now }
-        ensures room { 28 - count_of result.notes result.exchanges ≡ 28 }
+        ensures room { 70 - count_of result.notes result.exchanges ≡ 70 }
     {
         let notes = Notes::new();
         let exchanges = Exchanges::new();
@@ -208,7 +208,7 @@ impl<'a, M: Memory> Draft<'a, M> {
 
     /// Notes a change of fields of objects that are there, by the words that had them before all exchanges.
     fn note(&mut self, change: Change)
-        requires room { count_of self.old.notes self.old.exchanges < 28 }
+        requires room { count_of self.old.notes self.old.exchanges < 70 }
         requires named { highest change < 65536 + 2 * self.old.notes.made_count }
         requires closed { let before = noted (M.view self.old.base.now).objects self.old.notes in
             AllThere (after_change before change) }
@@ -225,9 +225,9 @@ impl<'a, M: Memory> Draft<'a, M> {
 
     /// Half of the free pointer that has a number, counted from 0; all from 65536 on are free.
     fn free_place(&self, number: u32) -> u32
-        requires { number < 28 }
+        requires { number < 70 }
         ensures place { result ≡ free_place (without_first (M.view self.now.base.now).objects) 1 number }
-        ensures small { result ≤ 32795 }
+        ensures small { result ≤ 32837 }
     {
         let mut left = number;
         for k in 1..32768u32 {
@@ -353,7 +353,7 @@ impl<'a, M: Memory> Objects for Draft<'a, M> {
 
     ghost fixed = { λ d. M.view d.base.now };
 
-    ghost room = { λ d. 28 - count_of d.notes d.exchanges };
+    ghost room = { λ d. 70 - count_of d.notes d.exchanges };
 
     fn is_there(&self, v: Word) -> bool {
         self.find_made(v).is_some() || self.base.is_there(v)

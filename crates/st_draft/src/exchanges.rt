@@ -5,13 +5,13 @@ ghost use Rattle.st_draft.specs.Drafts.{value_before, AreEven};
 use crate::change::Exchange;
 use st_model::Word;
 
-/// The pairs of objects that a row exchanges, in its order. There is room for 28.
+/// The pairs of objects that a row exchanges, in its order. There is room for 70.
 #[derive(Drop)]
 pub struct Exchanges {
-    pub pairs: [Exchange; 28],
+    pub pairs: [Exchange; 70],
     pub count: u32,
-    pub ghost few: { count ≤ 28 },
-    pub ghost sizes: { length pairs ≡ 28 },
+    pub ghost few: { count ≤ 70 },
+    pub ghost sizes: { length pairs ≡ 70 },
     pub ghost even: { AreEven pairs count },
 }
 
@@ -43,11 +43,11 @@ impl Exchanges {
         ensures { result.count ≡ 0 }
     {
         let none = Exchange {
-            first: Word::NIL,
-            second: Word::NIL,
+            first: Word(0),
+            second: Word(0),
         };
         Exchanges {
-            pairs: [none; 28],
+            pairs: [none; 70],
             count: 0,
         }
     }
@@ -67,7 +67,7 @@ impl Exchanges {
 
     /// One exchange more.
     pub fn add(&mut self, pair: Exchange)
-        requires room { self.old.count < 28 }
+        requires room { self.old.count < 70 }
         requires first { is_small (word pair.first) ≡ false }
         requires second { is_small (word pair.second) ≡ false }
         ensures more { (t : Table) → exchanged_by t self.new.pairs self.new.count

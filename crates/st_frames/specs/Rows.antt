@@ -62,38 +62,46 @@ tried_changes most (Ok Failed) = 0
 tried_changes most (Ok (Done deed)) = most
 tried_changes most (Err cause) = most
 
--- Bounds of how many changes are made: by what activates a method; by a primitive on objects, on blocks, or on processes and
--- devices that is tried, besides the deed that it leaves; by what responds to a primitive, which may activate the method once
--- one on objects was tried; by a send, which may make a Message; by what executes a method, which may perform a selector, and
--- so arrange the stack and send before it responds; by a jump on a condition and by a return, which may send; by each of these
--- with the execution of what was called; and by a bytecode, of which a return makes the most.
+-- Bounds of how many changes are made. An object that is made counts as one, and as one more for each 2,048 words of its body.
+
+-- by what activates a method: its context and four fields, the words that are passed, and two fields of the context that is left
 abbrev pub activation_changes : ℕ
 activation_changes = 8
 
+-- by a primitive on objects, besides the deed that it leaves: an object of at most 65,533 words, which counts as 32, and the answer
 abbrev pub storage_changes : ℕ
-storage_changes = 4
+storage_changes = 33
 
+-- by a primitive on blocks: a block of at most 65,533 words and five of its fields, and the answer
 abbrev pub block_changes : ℕ
-block_changes = 7
+block_changes = 38
 
+-- by a primitive on processes and devices, besides the deed that it leaves
 abbrev pub process_changes : ℕ
 process_changes = 7
 
+-- by what responds to a primitive: it may activate the method once one on objects was tried
 abbrev pub response_changes : ℕ
 response_changes = storage_changes + activation_changes
 
+-- by a send: an Array of at most 16,383 arguments, which counts as 8, and what is copied into it; a Message and its two fields, which
+-- is pushed
 abbrev pub send_changes : ℕ
-send_changes = 6
+send_changes = 13
 
+-- by what executes a method: it may perform a selector, and so arrange the stack and send before it responds
 abbrev pub execution_changes : ℕ
 execution_changes = 1 + send_changes + response_changes
 
+-- by a jump on a condition: a word is pushed, and a send
 abbrev pub jump_changes : ℕ
-jump_changes = 7
+jump_changes = 1 + send_changes
 
+-- by a return: two words are pushed, and a send
 abbrev pub return_changes : ℕ
-return_changes = 8
+return_changes = 2 + send_changes
 
+-- by each of these with the execution of what was called
 abbrev pub executed_send_changes : ℕ
 executed_send_changes = send_changes + execution_changes
 
@@ -103,5 +111,6 @@ executed_jump_changes = jump_changes + execution_changes
 abbrev pub executed_return_changes : ℕ
 executed_return_changes = return_changes + execution_changes
 
+-- by a bytecode, of which a return makes the most: 70
 abbrev pub bytecode_changes : ℕ
 bytecode_changes = executed_return_changes

@@ -97,7 +97,7 @@ impl<M: Memory> Objects for M {
 
     ghost fixed = { λ m. record { objects = []; held = (M.view m).held; head = (M.view m).head } };
 
-    ghost room = { λ m. 28 };
+    ghost room = { λ m. 70 };
 
     fn is_there(&self, v: Word) -> bool {
         live_value(self, v).is_some()

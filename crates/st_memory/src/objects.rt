@@ -1,11 +1,11 @@
-ghost use Rattle.std.specs.{Option.option_map, Prelude.{◌≡◌, ◌≢◌, ℕ, ◌+◌, ◌≤◌, true, Ok, Some, IfOk, IfSome}};
+ghost use Rattle.std.specs.{Option.option_map, Prelude.{◌≡◌, ◌≢◌, ℕ, ◌+◌, ◌/◌, ◌≤◌, true, Ok, Some, IfOk, IfErr, IfSome}};
 ghost use Rattle.st_model.specs.{Values.{Ref, word}, Objects.place_of};
 ghost use Rattle.st_model.specs.declared.page.PageObject.TheVariants.{MethodClass};
 ghost use Rattle.st_model.specs.{Machine.{ObjectMemory, Head, is_there}, Table.{Table, IsTabular}};
 ghost use Rattle.st_model.specs.Steps.{fetch_field, count_fields, class_of, literal, fetch_method_field, byte_at, fetch_word, fetch_byte, store_field, transfer, exchange, make, new_object, object_at, next_instance, fetch_kind, fetch_size, get_free};
 ghost use Rattle.st_model.specs.{Methods.{method_header, literal_from_last}, Lookup.half_word};
 ghost use Rattle.st_model.specs.{Calls.{Reads, Changes, itself}, View.View};
-ghost use Rattle.st_memory.specs.{Making.CanMake, Searched.FindsBy};
+ghost use Rattle.st_memory.specs.{Making.{CanMake, making_changes}, Searched.FindsBy};
 
 use crate::context_fields::ContextFields;
 use st_model::{Dead, Demand, Kind, Word};
@@ -154,6 +154,7 @@ pub trait Objects {
         requires { 1 ≤ room self.old }
         ensures exchanges { Changes (exchange names (word a) (word b)) itself
             (table self.old) (head self.old) result (table self.new) }
+        ensures dead { IfErr result (λ e. table self.new ≡ table self.old) }
         ensures head { head self.new ≡ head self.old }
         ensures room { room self.old ≤ room self.new + 1 }
         ensures fixed { fixed self.new ≡ fixed self.old };
@@ -161,23 +162,23 @@ pub trait Objects {
     /// A new object of this class, kind, size and number of literals, with nil in its fields and literals, and words and
     /// bytes of 0.
     fn make(&mut self, class: Word, kind: Kind, size: u32, literals: u32) -> Result<Word, Dead>
-        requires room { 1 ≤ room self.old }
+        requires room { making_changes kind size ≤ room self.old }
         requires makeable { CanMake (word class) kind size literals }
         ensures makes { Changes (make names (word class) kind size literals) word
             (table self.old) (head self.old) result (table self.new) }
         ensures head { head self.new ≡ head self.old }
-        ensures room { room self.old ≤ room self.new + 1 }
+        ensures room { room self.old ≤ room self.new + making_changes kind size }
         ensures fixed { fixed self.new ≡ fixed self.old };
 
     /// A new object of kind Pointers with n fields of nil. Its class isn't CompiledMethod.
     fn new_object(&mut self, class: Word, n: u32) -> Result<Word, Dead>
-        requires room { 1 ≤ room self.old }
+        requires room { 1 + n / 2048 ≤ room self.old }
         requires class { word class ≢ Ref (place_of MethodClass) }
         requires small { n ≤ 65533 }
         ensures makes { Changes (new_object names (word class) n) word
             (table self.old) (head self.old) result (table self.new) }
         ensures head { head self.new ≡ head self.old }
-        ensures room { room self.old ≤ room self.new + 1 }
+        ensures room { room self.old ≤ room self.new + (1 + n / 2048) }
         ensures fixed { fixed self.new ≡ fixed self.old };
 
     /// The method that is remembered for a selector in a class, if one is: it is the one that the search finds.

@@ -1,4 +1,4 @@
-ghost use Rattle.std.specs.Prelude.{◌≡◌};
+ghost use Rattle.std.specs.Prelude.{◌≡◌, IfErr};
 ghost use Rattle.st_model.specs.{Values.word, Table.bounded_table, Steps.{store_field, transfer}};
 ghost use Rattle.st_model.specs.Calls.{Changes, itself};
 ghost use Rattle.st_memory.specs.Places.{KeepsPlaces};
@@ -13,6 +13,7 @@ use st_model::{Dead, Word};
 pub fn store_live_field<M: Memory>(m: &mut M, o: Word, i: u32, x: Word) -> Result<(), Dead>
     ensures stores { Changes (store_field bounded_table (word o) i (word x)) itself
         (M.view m.old).objects (M.view m.old).head result (M.view m.new).objects }
+    ensures dead { IfErr result (λ e. m.new ≡ m.old) }
     ensures held { (M.view m.new).held ≡ (M.view m.old).held }
     ensures head { (M.view m.new).head ≡ (M.view m.old).head }
     ensures places { KeepsPlaces (M.stands m.old) (M.stands m.new) }
@@ -45,6 +46,7 @@ pub fn transfer_live_fields<M: Memory>(
 ) -> Result<(), Dead>
     ensures transfers { Changes (transfer bounded_table n (word source) from (word target) to)
         itself (M.view m.old).objects (M.view m.old).head result (M.view m.new).objects }
+    ensures dead { IfErr result (λ e. m.new ≡ m.old) }
     ensures held { (M.view m.new).held ≡ (M.view m.old).held }
     ensures head { (M.view m.new).head ≡ (M.view m.old).head }
     ensures places { KeepsPlaces (M.stands m.old) (M.stands m.new) }

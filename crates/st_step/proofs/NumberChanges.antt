@@ -8,7 +8,7 @@ use Rattle.st_model.specs.Machine.{State, Went, Step, answer, after, ◌>>=◌}
 use Rattle.st_model.specs.Table.{Table}
 use Rattle.st_model.specs.Deeds.{is_done, deed_of_trial}
 use Rattle.st_memory.specs.declared.objects.Objects.{Ghosts}
-use Rattle.st_frames.specs.Rows.{Takes, with_left, tried_changes, storage_changes, process_changes, response_changes, execution_changes}
+use Rattle.st_frames.specs.Rows.{Takes, with_left, tried_changes, storage_changes, response_changes, execution_changes}
 use Rattle.st_frames.proofs.Doing.{rows}
 use Rattle.st_step.specs.Trying.{if_done, end_of_trial, end_if_any, deed_if_any, number_changes}
 
@@ -30,10 +30,10 @@ pub takes_few : {M : Type 0} (o : Ghosts M) (n : ℕ) (t : Tried) (x : Option St
 takes_few o n Failed x old new e l k = subst (λ y. Takes o (number_changes response_changes (Ok y)) old new) (sym e) (record { room = omega (arith, k.room); fixed = k.fixed })
 takes_few o n (Done deed) x old new e l k = subst (λ y. Takes o (number_changes response_changes (Ok y)) old new) (sym e) (record { room = omega (arith, k.room); fixed = k.fixed })
 
-pub takes_tried : {M : Type 0} (o : Ghosts M) (t : Tried) (x : Option StepEnd) (old new : M) → x ≡ end_of_trial t → Takes o (tried_changes process_changes (Ok t)) old new
+pub takes_tried : {M : Type 0} (o : Ghosts M) (n : ℕ) (t : Tried) (x : Option StepEnd) (old new : M) → x ≡ end_of_trial t → n ≤ response_changes → Takes o (tried_changes n (Ok t)) old new
     → Takes o (number_changes response_changes (Ok x)) old new
-takes_tried o Failed x old new e k = subst (λ y. Takes o (number_changes response_changes (Ok y)) old new) (sym e) (record { room = omega (arith, k.room); fixed = k.fixed })
-takes_tried o (Done deed) x old new e k = subst (λ y. Takes o (number_changes response_changes (Ok y)) old new) (sym e) (record { room = omega (arith, k.room); fixed = k.fixed })
+takes_tried o n Failed x old new e l k = subst (λ y. Takes o (number_changes response_changes (Ok y)) old new) (sym e) (record { room = omega (arith, k.room); fixed = k.fixed })
+takes_tried o n (Done deed) x old new e l k = subst (λ y. Takes o (number_changes response_changes (Ok y)) old new) (sym e) (record { room = omega (arith, k.room); fixed = k.fixed })
 
 -- a primitive that its family tries
 pub ruleset trials = (tried_ends, takes_few, takes_tried, rows)

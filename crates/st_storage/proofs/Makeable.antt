@@ -38,7 +38,13 @@ small_body kind.Method n l = omega (arith, l)
 pub can_make_fixed : (v : Value) (size : ℕ) (k : Kind) → v ≢ Ref 17 → is_method k ≡ false → size < 2048 → CanMake v k size 0
 can_make_fixed v size k d e l = can_make v size k d e (small_body k size l)
 
-pub ruleset makeable = (can_make, can_make_fixed)
+pub few_words : (k : Kind) (n : ℕ) → n < 2048 → body_words k n < 2048
+few_words kind.Pointers n l = l
+few_words kind.Words n l = l
+few_words kind.Bytes n l = omega (arith, l)
+few_words kind.Method n l = omega (arith, l)
+
+pub ruleset makeable = (can_make, can_make_fixed, few_words)
 
 pub ruleset classes = (other_value)
 

@@ -228,10 +228,10 @@ fn method_shape<O: Objects>(
 /// becomes one with this header.
 #[tactic(auto, using(st_frames::proofs::Doing::rows, st_frames::proofs::Tries::counts, crate::proofs::Makeable::methods), unfolding(st_model::specs::Storage::new_method))]
 fn new_method<O: Objects>(m: &mut O, r: &Registers, shape: MethodShape) -> Result<Answer, Dead>
-    requires room { 1 ≤ O.room m.old }
+    requires room { 5 ≤ O.room m.old }
     ensures does { RowLeaves O.Objects.own (new_method O.names (word shape.class) (method_shape_in shape))
         answer_word answer_deed m.old r.now result m.new r.now }
-    ensures takes { Takes O.Objects.own 1 m.old m.new }
+    ensures takes { Takes O.Objects.own 5 m.old m.new }
     ensures plain { IfOk result (λ a. copies_pixels a.deed ≡ false) }
 {
     let literals = shape.header % 64;
@@ -250,10 +250,10 @@ fn new_method<O: Objects>(m: &mut O, r: &Registers, shape: MethodShape) -> Resul
 /// Primitive 79: a new Method with the header that the second argument says, and as many bytes as the first.
 #[tactic(auto, using(st_frames::proofs::Tries::effects), unfolding(st_model::specs::Storage::primitive_new_method))]
 pub fn primitive_new_method<O: Objects>(m: &mut O, r: &mut Registers) -> Result<Tried, Dead>
-    requires room { 2 ≤ O.room m.old }
+    requires room { 6 ≤ O.room m.old }
     ensures does { RowLeaves O.Objects.own (primitive_new_method O.names)
         is_done deed_of_trial m.old r.old result m.new r.new }
-    ensures takes { Takes O.Objects.own 2 m.old m.new }
+    ensures takes { Takes O.Objects.own 6 m.old m.new }
 {
     let receiver = under(m, r, 2)?;
     let count = under(m, r, 1)?;

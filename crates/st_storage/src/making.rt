@@ -159,13 +159,13 @@ fn answer_shaped<O: Objects>(
     class: Word,
     shape: Shape,
 ) -> Result<Tried, Dead>
-    requires room { 2 ≤ O.room m.old }
+    requires room { 33 ≤ O.room m.old }
     requires other { word class ≢ Ref (place_of MethodClass) }
     ensures does { RowLeaves O.Objects.own
         (succeed_by O.names 1 (make O.names (word class) shape.kind shape.size 0))
         is_done deed_of_trial m.old r.old result m.new r.new }
     ensures done { IfOk result (λ t. is_done t ≡ true) }
-    ensures takes { Takes O.Objects.own 2 m.old m.new }
+    ensures takes { Takes O.Objects.own 33 m.old m.new }
 {
     let answer = m.make(class, shape.kind, shape.size, 0)?;
     succeed_with(m, r, 1, answer)
@@ -174,10 +174,10 @@ fn answer_shaped<O: Objects>(
 /// Primitive 71: a new instance of the receiver with as many indexed fields as the argument says. Where it fails nothing is changed.
 #[tactic(auto, using(st_frames::proofs::Tries::effects), unfolding(st_model::specs::Storage::primitive_new_with))]
 pub fn primitive_new_with<O: Objects>(m: &mut O, r: &mut Registers) -> Result<Tried, Dead>
-    requires room { 2 ≤ O.room m.old }
+    requires room { 33 ≤ O.room m.old }
     ensures does { RowLeaves O.Objects.own (primitive_new_with O.names)
         is_done deed_of_trial m.old r.old result m.new r.new }
-    ensures takes { Takes O.Objects.own 2 m.old m.new }
+    ensures takes { Takes O.Objects.own 33 m.old m.new }
     ensures still { IfOk result (λ t. is_done t ≡ false → m.new ≡ m.old) }
 {
     let receiver = under(m, r, 1)?;
