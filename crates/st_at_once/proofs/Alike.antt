@@ -19,8 +19,8 @@ use Rattle.st_model.specs.Blocks.{start_of, enter_block, value_with_words, value
 use Rattle.st_model.specs.Bytecodes.{fetch_receiver_variable, fetch_temporary_variable, fetch_literal_constant, fetch_literal_variable, fetch_operand, store_receiver_variable, store_temporary_variable, store_literal_variable, store_operand, constant_value, push_operand, store_and_pop}
 use Rattle.st_model.specs.Table.{Table, table, IsTabular}
 use Rattle.st_model.proofs.Tabular.{of_page-as, class_of-as, fetch_field-as, store_field-as, count_fields-as, transfer-as, literal-as, byte_at-as}
-use Rattle.st_control.specs.AtOnce.{jump_at_once, return_to_context_at_once, return_at_once, return_past_at_once, return_to_sender_at_once, return_to_caller_at_once}
-use Rattle.st_at_once.specs.AtOnce.{argument_answer, replace_pair, answered_at_once, arithmetic_at_once_by, primitive_at_once}
+use Rattle.st_control.specs.inside.AtOnce.{jump_at_once, return_to_context_at_once, return_at_once, return_past_at_once, return_to_sender_at_once, return_to_caller_at_once}
+use Rattle.st_at_once.specs.inside.AtOnce.{argument_answer, replace_pair, answered_at_once, arithmetic_at_once_by, primitive_at_once}
 
 module _ {m : ObjectMemory Table} (h : IsTabular m) where
   pub page-is : of_page m ≡ of_page table

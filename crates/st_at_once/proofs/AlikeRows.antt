@@ -5,8 +5,8 @@ use Rattle.st_model.specs.declared.bytecode.Bytecode.{Bytecode}
 use Rattle.st_model.specs.declared.bytecode.Bytecode.TheVariants as code
 use Rattle.st_model.specs.Bytecodes.{fetch_literal_constant, push_receiver, push_constant, extended_push, extended_store, extended_store_and_pop, pop_stack, duplicate_top, push_active_context, long_unconditional_jump}
 use Rattle.st_model.specs.Table.{table, bounded_table}
-use Rattle.st_memory.specs.Tabular.{bounded_tabular}
-use Rattle.st_at_once.specs.AtOnce.{literal_send_at_once, arithmetic_at_once, long_jump_at_once, return_receiver_at_once, return_constant_at_once, return_top_to_sender_at_once, return_top_to_caller_at_once, bytecode_at_once, step_at_once}
+use Rattle.st_memory.specs.inside.Tabular.{bounded_tabular}
+use Rattle.st_at_once.specs.inside.AtOnce.{literal_send_at_once, arithmetic_at_once, long_jump_at_once, return_receiver_at_once, return_constant_at_once, return_top_to_sender_at_once, return_top_to_caller_at_once, bytecode_at_once, step_at_once}
 use Rattle.st_at_once.proofs.Alike.{literal-is, next_byte-is, top-is, under-is, pop-is, push-is, store_operand-is, constant_value-as, push_operand-is, store_and_pop-is, arithmetic_by-is, primitive-as, jump_on-is, sender-is, caller-is}
 use Rattle.st_at_once.proofs.Sent.{send-is}
 

@@ -29,9 +29,9 @@ use Rattle.st_model.specs.Executing.{goes_on, or_activate, respond, respond_by_e
 use Rattle.st_model.specs.Bytecodes.{send_literal, or_send, arithmetic_by, arithmetic_send, primitive_send, return_receiver, return_constant, return_top_to_sender, return_top_to_caller, short_jump_on_false, long_jump_on_true, long_jump_on_false, bytecode, step}
 use Rattle.st_model.specs.Table.{Table}
 use Rattle.st_model.proofs.Runs.{run-tried_went, run-tried_died}
-use Rattle.st_control.specs.AtOnce.{at_once, enter_context, context_space, activate_at_once, jump_at_once, return_to_context_at_once, return_at_once, return_past_at_once, return_to_sender_at_once, return_to_caller_at_once}
+use Rattle.st_control.specs.inside.AtOnce.{at_once, enter_context, context_space, activate_at_once, jump_at_once, return_to_context_at_once, return_at_once, return_past_at_once, return_to_sender_at_once, return_to_caller_at_once}
 use Rattle.st_frames.proofs.Doing.{rows}
-use Rattle.st_at_once.specs.AtOnce.{object_space, where_space, largest_number, largest_fixed, largest_indexed, respond_with, respond_at_once, execute_at_once_by, execute_at_once, message_space, enter_with_message, with_message_at_once, answer_at_once, call_not_understood_at_once, not_understood_at_once, found_at_once, send_from_at_once, send_at_once, literal_send_at_once, answered_at_once, arithmetic_at_once_by, arithmetic_at_once, primitive_at_once, long_jump_at_once, return_receiver_at_once, return_constant_at_once, return_top_to_sender_at_once, return_top_to_caller_at_once, bytecode_at_once, step_at_once, argument_answer}
+use Rattle.st_at_once.specs.inside.AtOnce.{object_space, where_space, largest_number, largest_fixed, largest_indexed, respond_with, respond_at_once, execute_at_once_by, execute_at_once, message_space, enter_with_message, with_message_at_once, answer_at_once, call_not_understood_at_once, not_understood_at_once, found_at_once, send_from_at_once, send_at_once, literal_send_at_once, answered_at_once, arithmetic_at_once_by, arithmetic_at_once, primitive_at_once, long_jump_at_once, return_receiver_at_once, return_constant_at_once, return_top_to_sender_at_once, return_top_to_caller_at_once, bytecode_at_once, step_at_once, argument_answer}
 use Rattle.st_control.proofs.Tries.{some_answer, no_answer, passed}
 use Rattle.st_at_once.proofs.Messages.{HeaderStays}
 use Rattle.st_at_once.proofs.Pairs.{reads, word_under, under-reads, number-same, truth-same}

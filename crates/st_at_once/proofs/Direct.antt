@@ -11,7 +11,7 @@ use Rattle.st_model.specs.Steps.{literal, code_byte, byte_at, store_field}
 use Rattle.st_model.specs.Table.{Table, table, bounded_table}
 use Rattle.st_model.specs.View.{Has, object_of}
 use Rattle.st_model.proofs.Runs.{run-then, run-next, after-went, run-live, run-passed, run-some}
-use Rattle.st_at_once.specs.Known.{IsCodeAt, HasLiteral}
+use Rattle.st_at_once.specs.inside.Known.{IsCodeAt, HasLiteral}
 use Rattle.st_memory.proofs.Wide.{run_set_gone, fetch_field-bounded, count_fields-bounded, literal-bounded, byte_at-bounded, store_field-bounded}
 
 pub ruleset bounded = (fetch_field-bounded, count_fields-bounded, literal-bounded, byte_at-bounded, store_field-bounded)

@@ -16,8 +16,8 @@ use Rattle.st_model.specs.Lookup.{half_word, checked_method, method_at, place_sa
 use Rattle.st_model.specs.Contexts.{fill_context, new_context, pass_words}
 use Rattle.st_model.specs.Table.{Table, table, bounded_table, total_used}
 use Rattle.st_model.proofs.Tabular.{method_header-as}
-use Rattle.st_memory.specs.Tabular.{bounded_tabular}
-use Rattle.st_control.specs.AtOnce.{at_once, enter_context, context_space, activate_at_once}
+use Rattle.st_memory.specs.inside.Tabular.{bounded_tabular}
+use Rattle.st_control.specs.inside.AtOnce.{at_once, enter_context, context_space, activate_at_once}
 use Rattle.st_at_once.proofs.Alike.{page-is, field-is, count-is, store-is, transfer-is, top-is, under-is, switch-is}
 use Rattle.st_memory.proofs.Unbounded.{half_bounded}
 

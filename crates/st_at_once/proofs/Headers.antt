@@ -9,7 +9,7 @@ use Rattle.st_model.specs.Methods.{method_header, flag_of}
 use Rattle.st_model.specs.Table.{Table}
 use Rattle.st_model.proofs.Runs.{run-tried_went, run-tried_died}
 use Rattle.st_frames.proofs.Doing.{rows}
-use Rattle.st_at_once.specs.AtOnce.{with_message_at_once, answer_at_once, call_not_understood_at_once}
+use Rattle.st_at_once.specs.inside.AtOnce.{with_message_at_once, answer_at_once, call_not_understood_at_once}
 
 below : (a b : ℕ) → a < b → nat_lt a b ≡ true
 below a b l = grind (arith, nat_tests, l)

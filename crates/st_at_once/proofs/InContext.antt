@@ -20,12 +20,12 @@ use Rattle.st_model.specs.Arithmetic.{integer_under, equivalence, receiver_class
 use Rattle.st_model.specs.Bytecodes.{fetch_receiver_variable, fetch_temporary_variable, fetch_literal_constant, fetch_literal_variable, fetch_operand, store_receiver_variable, store_temporary_variable, store_literal_variable, store_operand, push_operand, store_and_pop, push_receiver, constant_value, push_constant, extended_push, extended_store, extended_store_and_pop, pop_stack, duplicate_top, push_active_context, short_unconditional_jump, long_unconditional_jump}
 use Rattle.st_model.specs.declared.deed.Deed.{Deed}
 use Rattle.st_model.specs.Table.{Table}
-use Rattle.st_model.specs.Calls.{Does}
-use Rattle.st_frames.specs.Rows.{with_left}
-use Rattle.st_control.specs.AtOnce.{at_once, jump_at_once}
+use Rattle.st_model.specs.inside.Calls.{Does}
+use Rattle.st_frames.specs.inside.Rows.{with_left}
+use Rattle.st_control.specs.inside.AtOnce.{at_once, jump_at_once}
 use Rattle.st_at_once.specs.declared.ending.RowEnd.{RowEnd}
 use Rattle.st_at_once.specs.declared.ending.RowEnd.TheVariants as ends
-use Rattle.st_at_once.specs.AtOnce.{NamesSame, argument_answer, replace_pair, answered_at_once, arithmetic_at_once_by, arithmetic_at_once, primitive_at_once, long_jump_at_once, bytecode_at_once, may_leave, was_done, deed_left}
+use Rattle.st_at_once.specs.inside.AtOnce.{NamesSame, argument_answer, replace_pair, answered_at_once, arithmetic_at_once_by, arithmetic_at_once, primitive_at_once, long_jump_at_once, bytecode_at_once, may_leave, was_done, deed_left}
 
 abbrev same : (r : Registers) → NamesSame r r
 same r = record { active = refl; home = refl; method = refl; receiver = refl }

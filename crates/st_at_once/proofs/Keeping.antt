@@ -9,17 +9,17 @@ use Rattle.st_model.specs.Objects.{Object, is_pointers, is_method, size_of, with
 use Rattle.st_model.specs.Machine.{State, Transition, Died, Went, Step, after, answer, die, is_there, has_room, ◌>>=◌, ◌>>◌}
 use Rattle.st_model.specs.Steps.{found, object_named, object, check, or_die, stored_at, store_at, set_field, fetch_field, store_field, fetch_fields, store_fields, transfer, new_of, made, make_named, make}
 use Rattle.st_model.specs.Table.{Table, table, bounded_table, entry, changed, first_free, placed}
-use Rattle.st_model.specs.Calls.{Changes}
+use Rattle.st_model.specs.inside.Calls.{Changes}
 use Rattle.st_model.specs.View.{View, is_live, object_of, with_stored, nothing}
 use Rattle.st_model.proofs.TableLemmas.{changed-some, changed-other, first_free-none, placed-other}
 use Rattle.st_model.proofs.Tabular.{store_field-as, transfer-as}
-use Rattle.st_memory.specs.Tabular.{bounded_tabular}
+use Rattle.st_memory.specs.inside.Tabular.{bounded_tabular}
 use Rattle.st_memory.proofs.Looking.{some_state}
 use Rattle.st_at_once.specs.declared.known.Fields.{Fields}
 use Rattle.st_at_once.specs.declared.known.Code.{Code}
 use Rattle.st_at_once.specs.declared.known.Known.{Known}
 use Rattle.st_at_once.specs.declared.known.TheConstants.Known.{NONE}
-use Rattle.st_at_once.specs.Known.{HasFields, KnowsFields, HasCode, KnowsCode, IsNear}
+use Rattle.st_at_once.specs.inside.Known.{HasFields, KnowsFields, HasCode, KnowsCode, IsNear}
 
 -- the second object has the kind and the sizes of the first
 pub record IsSized (o p : Object) : Type 0 where

@@ -5,11 +5,11 @@ use Rattle.st_model.specs.declared.dead.Dead.{Dead}
 use Rattle.st_model.specs.View.{View}
 use Rattle.st_frames.specs.declared.frame.Frame.{Frame}
 use Rattle.st_frames.specs.declared.registers.Registers.{Registers as Words}
-use Rattle.st_frames.specs.Rows.{registers_in}
-use Rattle.st_frames.specs.Shown.{registers_of, IsFrame}
+use Rattle.st_frames.specs.inside.Rows.{registers_in}
+use Rattle.st_frames.specs.inside.Shown.{registers_of, IsFrame}
 use Rattle.st_at_once.specs.declared.ending.RowEnd.{RowEnd}
 use Rattle.st_at_once.specs.declared.ending.RowEnd.TheVariants.{ToForesee, Stays, Done, Leaves}
-use Rattle.st_at_once.specs.AtOnce.{NamesSame, kept}
+use Rattle.st_at_once.specs.inside.AtOnce.{NamesSame, kept}
 
 -- a row that doesn't stay is kept nothing of
 pub moved : (end : RowEnd) (f : Frame) (r : Words) → end ≢ Stays → f ≡ kept (Ok end) f r

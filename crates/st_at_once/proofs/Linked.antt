@@ -6,7 +6,7 @@ use Rattle.st_model.specs.Births.{Births, births}
 use Rattle.st_model.specs.Table.{Table, table, apart}
 use Rattle.st_model.specs.Bytecodes.{step}
 use Rattle.st_model.specs.Show.{Shows, raised}
-use Rattle.st_model.specs.Foreseen.{Foretells}
+use Rattle.st_model.specs.inside.Foreseen.{Foretells}
 use Rattle.st_model.specs.View.{View, IsWhole}
 use Rattle.st_simulation.proofs.Same.{TransitionSame}
 use Rattle.st_simulation.proofs.BytecodesSame.{step-same}
@@ -15,7 +15,7 @@ use Rattle.st_simulation.proofs.Started.{naming, states_start}
 use Rattle.st_model.proofs.Raised.{raised_shown}
 use Rattle.st_simulation.proofs.CyclesShown.{foretells}
 use Rattle.st_frames.specs.declared.frame.Frame.{Frame}
-use Rattle.st_frames.specs.Shown.{shown, IsReady}
+use Rattle.st_frames.specs.inside.Shown.{shown, IsReady}
 use Rattle.st_frames.proofs.Closed.{is_closed}
 
 -- Died of one cause; or done, with as much used.

@@ -18,8 +18,8 @@ use Rattle.st_model.specs.Primitives.{succeed, primitive, taking, specification,
 use Rattle.st_model.specs.Storage.{count_literals, first_by, first_place, place_of_element, place_at, place_behind_fixed, word_number, element_by, fetch_element, primitive_at, check_not_method_class, kind_of_fixed, fixed_specification, primitive_new, kind_of_indexed, body_words, Shape, checked_shape, indexed_shape, primitive_new_with}
 use Rattle.st_model.specs.Table.{Table, table, bounded_table, total_used}
 use Rattle.st_model.proofs.Tabular.{fetch_field-as, fetch_word-as}
-use Rattle.st_memory.specs.Tabular.{bounded_tabular}
-use Rattle.st_at_once.specs.AtOnce.{object_space, where_space, largest_number, largest_fixed, largest_indexed, respond_with, respond_at_once}
+use Rattle.st_memory.specs.inside.Tabular.{bounded_tabular}
+use Rattle.st_at_once.specs.inside.AtOnce.{object_space, where_space, largest_number, largest_fixed, largest_indexed, respond_with, respond_at_once}
 use Rattle.st_at_once.proofs.Alike.{page-is, top-is, under-is, answer_with-is}
 use Rattle.st_at_once.proofs.AlikeProcesses.{processes-is, method_primitive-as}
 use Rattle.st_at_once.proofs.AlikeElements.{specification-as, kind-as, positive-as, store_bytes-as, place-as, byte_number-as, at_put-is}

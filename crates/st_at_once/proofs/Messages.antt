@@ -19,9 +19,9 @@ use Rattle.st_model.specs.Sends.{copy_arguments, argument_array, new_message, re
 use Rattle.st_model.specs.Table.{Table, table, bounded_table, entry, changed, first_free, placed, total_used, IsTabular}
 use Rattle.st_model.proofs.TableLemmas.{changed-other, first_free-none, placed-other}
 use Rattle.st_model.proofs.Tabular.{store_field-as, transfer-as, method_header-as}
-use Rattle.st_memory.specs.Tabular.{bounded_tabular}
-use Rattle.st_control.specs.AtOnce.{at_once}
-use Rattle.st_at_once.specs.AtOnce.{message_space, enter_with_message, with_message_at_once}
+use Rattle.st_memory.specs.inside.Tabular.{bounded_tabular}
+use Rattle.st_control.specs.inside.AtOnce.{at_once}
+use Rattle.st_at_once.specs.inside.AtOnce.{message_space, enter_with_message, with_message_at_once}
 use Rattle.st_at_once.proofs.Alike.{page-is, transfer-is, push-is, top-is, under-is, switch-is}
 use Rattle.st_at_once.proofs.Staying.{Left, Keeps, then-keeps, next-keeps, answer-keeps, check-keeps, page-keeps, active-keeps, sp-keeps, fetch_field-keeps, drop_words-keeps, store_field-keeps, transfer-keeps, push-keeps, Alike, then-alike, next-alike, same-alike, Room, room_stored, new_object-alike, Any, any-alike, asked-alike, unasked-alike}
 use Rattle.st_at_once.proofs.Entered.{fill-is, pass-is}

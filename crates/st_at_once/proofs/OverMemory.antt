@@ -10,26 +10,26 @@ use Rattle.st_model.specs.Show.{IsUsed}
 use Rattle.st_model.specs.Deeds.{deed_done, world_done, with_deed}
 use Rattle.st_simulation.proofs.Closed.{step_closed}
 use Rattle.st_simulation.proofs.Deeds.{deed_uses, deed_leaves_there}
-use Rattle.st_frames.specs.Narrow.{IsNarrow}
+use Rattle.st_frames.specs.inside.Narrow.{IsNarrow}
 use Rattle.st_model.specs.Objects.{one, words_of}
 use Rattle.st_model.specs.Outcomes.{Outcome}
 use Rattle.st_model.specs.Outcomes as outcome
 use Rattle.st_model.specs.Machine.{World, Head, State, Step, Transition, Died, Went, is_there, used, is_over}
 use Rattle.st_model.specs.Steps.{are_there}
 use Rattle.st_model.specs.Table.{Table, table, apart, bounded_table, total_used, IsTabular}
-use Rattle.st_memory.specs.Tabular.{bounded_tabular}
-use Rattle.st_model.specs.Calls.{transition_of}
+use Rattle.st_memory.specs.inside.Tabular.{bounded_tabular}
+use Rattle.st_model.specs.inside.Calls.{transition_of}
 use Rattle.st_model.specs.Bytecodes.{step}
 use Rattle.st_model.specs.View.{View, Held, IsWhole}
 use Rattle.st_frames.specs.declared.frame.Frame.{Frame}
 use Rattle.st_frames.specs.declared.registers.Registers.{Registers as Words}
-use Rattle.st_frames.specs.Rows.{row_state, registers_in}
-use Rattle.st_frames.specs.Shown.{shown, registers_of, IsReady, StaysFrame}
-use Rattle.st_control.specs.Foreseen.{IsForeseen}
+use Rattle.st_frames.specs.inside.Rows.{row_state, registers_in}
+use Rattle.st_frames.specs.inside.Shown.{shown, registers_of, IsReady, StaysFrame}
+use Rattle.st_control.specs.inside.Foreseen.{IsForeseen}
 use Rattle.st_control.proofs.Framed.{frame_held}
 use Rattle.st_at_once.specs.declared.ending.RowEnd.{RowEnd}
 use Rattle.st_at_once.specs.declared.ending.RowEnd.TheVariants.{Stays}
-use Rattle.st_at_once.specs.AtOnce.{NamesSame, kept, was_done, deed_left, GoesOn, step_at_once}
+use Rattle.st_at_once.specs.inside.AtOnce.{NamesSame, kept, was_done, deed_left, GoesOn, step_at_once}
 use Rattle.st_at_once.proofs.Kept.{moved, kept_same, kept_frame}
 use Rattle.st_at_once.proofs.AtOnce.{As, step-as}
 use Rattle.st_at_once.proofs.Messages.{header_stays}

@@ -13,8 +13,8 @@ use Rattle.st_model.specs.Primitives.{pop_words, answer_with, succeed, truth}
 use Rattle.st_model.specs.Arithmetic.{value_of_answer}
 use Rattle.st_model.specs.Table.{Table}
 use Rattle.st_model.proofs.Runs.{run-passed}
-use Rattle.st_control.specs.AtOnce.{at_once}
-use Rattle.st_at_once.specs.AtOnce.{replace_pair, answered_at_once}
+use Rattle.st_control.specs.inside.AtOnce.{at_once}
+use Rattle.st_at_once.specs.inside.AtOnce.{replace_pair, answered_at_once}
 
 -- what reads, and leaves the state
 abbrev pub reads : Result Value Dead → State Table → Transition (State Table) Value

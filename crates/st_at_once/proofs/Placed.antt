@@ -3,10 +3,10 @@ use Rattle.std.proofs.Common.{ℕ, arith}
 use Rattle.std.proofs.Math.Logic.{∥∥₁_map}
 use Rattle.st_model.specs.Values.{Value, word}
 use Rattle.st_model.specs.View.{View}
-use Rattle.st_memory.specs.Places.{KeepsPlaces, KeepsPlacesIn}
+use Rattle.st_memory.specs.inside.Places.{KeepsPlaces, KeepsPlacesIn}
 use Rattle.st_at_once.specs.declared.known.Known.{Known}
 use Rattle.st_at_once.specs.declared.known.TheConstants.Known.{NONE}
-use Rattle.st_at_once.specs.Known.{IsNear, ArePlaced}
+use Rattle.st_at_once.specs.inside.Known.{IsNear, ArePlaced}
 use Rattle.st_at_once.proofs.Settled.{without_made}
 
 pub placed_nothing : (stands : Value → ℕ → Type 0) → ∥ ArePlaced stands NONE ∥₁

@@ -4,8 +4,8 @@ use mathlib.Core.Path.{fun_ext}
 use Rattle.st_model.specs.Values.{Value}
 use Rattle.st_model.specs.Executing.{answer_field}
 use Rattle.st_model.specs.Table.{table, bounded_table}
-use Rattle.st_memory.specs.Tabular.{bounded_tabular}
-use Rattle.st_at_once.specs.AtOnce.{execute_at_once_by, execute_at_once, answer_at_once, call_not_understood_at_once, not_understood_at_once, found_at_once, send_from_at_once, send_at_once}
+use Rattle.st_memory.specs.inside.Tabular.{bounded_tabular}
+use Rattle.st_at_once.specs.inside.AtOnce.{execute_at_once_by, execute_at_once, answer_at_once, call_not_understood_at_once, not_understood_at_once, found_at_once, send_from_at_once, send_at_once}
 use Rattle.st_at_once.proofs.Alike.{page-is, class-is, field-is, under-is, pop-is, push-is}
 use Rattle.st_at_once.proofs.Makes.{respond-is}
 use Rattle.st_at_once.proofs.Entered.{header-is, find-is, activate-is}

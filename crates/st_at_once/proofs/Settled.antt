@@ -11,7 +11,7 @@ use Rattle.st_model.proofs.SettledLemmas.{is_some-of, entry-settled}
 use Rattle.st_at_once.specs.declared.known.Fields.{Fields}
 use Rattle.st_at_once.specs.declared.known.Code.{Code}
 use Rattle.st_at_once.specs.declared.known.Known.{Known}
-use Rattle.st_at_once.specs.Known.{HasFields, HasCode, IsNear}
+use Rattle.st_at_once.specs.inside.Known.{HasFields, HasCode, IsNear}
 
 -- a root alone supports itself
 same_number : (n k : ℕ) → IsTrue (k == n) → n ≡ k

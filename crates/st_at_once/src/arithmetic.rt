@@ -1,11 +1,11 @@
 //! Arithmetic on two SmallIntegers, each of which is read once: what the receiver is, is asked before the argument is read, and
 //! neither is read again where both leave the stack.
 ghost use Rattle.std.specs.Prelude.{◌≡◌, ◌<◌, ◌≤◌, Some, true, IfOk};
-ghost use Rattle.st_model.specs.{Values.{word, is_small, integer_of}, Calls.itself};
-ghost use Rattle.st_ints.specs.Answers.{IsSmall, IsOfSmall};
-ghost use Rattle.st_control.specs.AtOnce.{IsStill};
-ghost use Rattle.st_frames.specs.Rows.{RowReads, RowDoes, Takes};
-ghost use Rattle.st_at_once.specs.AtOnce.{argument_answer, replace_pair, answered_at_once, arithmetic_at_once_by, arithmetic_at_once};
+ghost use Rattle.st_model.specs.{Values.{word, is_small, integer_of}, inside.Calls.itself};
+ghost use Rattle.st_ints.specs.inside.Answers.{IsSmall, IsOfSmall};
+ghost use Rattle.st_control.specs.inside.AtOnce.{IsStill};
+ghost use Rattle.st_frames.specs.inside.Rows.{RowReads, RowDoes, Takes};
+ghost use Rattle.st_at_once.specs.inside.AtOnce.{argument_answer, replace_pair, answered_at_once, arithmetic_at_once_by, arithmetic_at_once};
 
 use st_control::{arithmetic_number, integer_under, word_of};
 use st_frames::{Registers, drop_words, page, push, under};
@@ -26,7 +26,7 @@ fn small_value(v: Word) -> i16
 
 /// What primitive n, of 1 to 18, answers of a receiver and the argument at the top; an error where it fails.
 #[inline(always)]
-#[tactic(auto, using(crate::proofs::AtOnce::pairs), unfolding(crate::specs::AtOnce::argument_answer))]
+#[tactic(auto, using(crate::proofs::AtOnce::pairs), unfolding(crate::specs::inside::AtOnce::argument_answer))]
 fn argument_answer<O: Objects>(
     m: &O,
     r: &Registers,
@@ -48,7 +48,7 @@ fn argument_answer<O: Objects>(
 
 /// A value takes the place of receiver and argument, which were read.
 #[inline(always)]
-#[tactic(auto, using(st_frames::proofs::Doing::rows), unfolding(crate::specs::AtOnce::replace_pair))]
+#[tactic(auto, using(st_frames::proofs::Doing::rows), unfolding(crate::specs::inside::AtOnce::replace_pair))]
 fn replace_pair<O: Objects>(m: &mut O, r: &mut Registers, value: Word) -> Result<(), Dead>
     requires room { 1 ≤ O.room m.old }
     ensures does { RowDoes O.Objects.own (replace_pair O.names (word value))
@@ -61,7 +61,7 @@ fn replace_pair<O: Objects>(m: &mut O, r: &mut Registers, value: Word) -> Result
 
 /// A number or a truth takes the place of receiver and argument, which were read. Answers whether it was one: a Point isn't made.
 #[inline(always)]
-#[tactic(auto, using(st_control::proofs::Tries::values), unfolding(crate::specs::AtOnce::answered_at_once, st_control::specs::AtOnce::at_once, st_model::specs::Primitives::truth))]
+#[tactic(auto, using(st_control::proofs::Tries::values), unfolding(crate::specs::inside::AtOnce::answered_at_once, st_control::specs::inside::AtOnce::at_once, st_model::specs::Primitives::truth))]
 fn answered_at_once<O: Objects>(
     m: &mut O,
     r: &mut Registers,
@@ -111,7 +111,7 @@ fn arithmetic_at_once_by<O: Objects>(
 
 /// Does the primitive that is tried first for a special selector of 0 to 15. Answers whether it succeeded.
 #[inline(always)]
-#[tactic(auto, using(st_frames::proofs::Doing::rows), unfolding(crate::specs::AtOnce::arithmetic_at_once))]
+#[tactic(auto, using(st_frames::proofs::Doing::rows), unfolding(crate::specs::inside::AtOnce::arithmetic_at_once))]
 pub fn arithmetic_at_once<O: Objects>(m: &mut O, r: &mut Registers, k: u32) -> Result<bool, Dead>
     requires number { k < 16 }
     requires room { 1 ≤ O.room m.old }

@@ -1,11 +1,11 @@
 ghost use Rattle.std.specs.Prelude.{false, ◌≡◌, ◌≢◌, ◌<◌, ◌≤◌, ◌+◌, pos, Ok};
-ghost use Rattle.st_model.specs.{Values.word, Calls.itself, Decoded.IsNumbered};
+ghost use Rattle.st_model.specs.{Values.word, inside.Calls.itself, Decoded.IsNumbered};
 ghost use Rattle.st_model.specs.declared.bytecode.Bytecode.TheVariants.{PrimitiveSend};
 ghost use Rattle.st_model.specs.declared.page.PageObject.TheVariants.{FalseObject, TrueObject};
-ghost use Rattle.st_control.specs.AtOnce.{IsStill, jump_at_once};
-ghost use Rattle.st_at_once.specs.AtOnce.{was_done, deed_left, StaysInContext, StillToForesee, respond_at_once, execute_at_once, send_from_at_once, send_at_once, literal_send_at_once, primitive_at_once, long_jump_at_once, return_receiver_at_once, return_constant_at_once, return_top_to_sender_at_once, return_top_to_caller_at_once, bytecode_at_once, kept, may_leave, step_at_once, changes_at_once};
+ghost use Rattle.st_control.specs.inside.AtOnce.{IsStill, jump_at_once};
+ghost use Rattle.st_at_once.specs.inside.AtOnce.{was_done, deed_left, StaysInContext, StillToForesee, respond_at_once, execute_at_once, send_from_at_once, send_at_once, literal_send_at_once, primitive_at_once, long_jump_at_once, return_receiver_at_once, return_constant_at_once, return_top_to_sender_at_once, return_top_to_caller_at_once, bytecode_at_once, kept, may_leave, step_at_once, changes_at_once};
 ghost use Rattle.st_at_once.specs.declared.ending.RowEnd.TheVariants.{Stays, Leaves};
-ghost use Rattle.st_frames.specs.Rows.{RowMoves, RowDoes, RowLeaves, Takes, registers_in, storage_changes};
+ghost use Rattle.st_frames.specs.inside.Rows.{RowMoves, RowDoes, RowLeaves, Takes, registers_in, storage_changes};
 
 use crate::arithmetic::arithmetic_at_once;
 use crate::ending::{RowEnd, done_if};
@@ -26,7 +26,7 @@ use st_model::{Bytecode, Call, Constant, Dead, Deed, PageObject, Tried, Word, de
 
 /// Does the code 176 + k, where that is 198, 199, or one of the two that compute a block's value.
 #[inline(never)]
-#[tactic(auto, using(st_frames::proofs::Doing::rows, crate::proofs::Kept::keeps), unfolding(crate::specs::AtOnce::primitive_at_once, st_control::specs::AtOnce::at_once))]
+#[tactic(auto, using(st_frames::proofs::Doing::rows, crate::proofs::Kept::keeps), unfolding(crate::specs::inside::AtOnce::primitive_at_once, st_control::specs::inside::AtOnce::at_once))]
 fn primitive_at_once<O: Objects>(
     m: &mut O,
     f: &mut Frame,
@@ -72,7 +72,7 @@ fn short_jump_at_once<O: Objects>(m: &O, r: &mut Registers, i: u8) -> Result<boo
 
 /// Pops, and jumps on false by i times 256 plus the next byte. Answers whether the word is a boolean.
 #[inline(never)]
-#[tactic(auto, using(st_frames::proofs::Doing::rows), unfolding(crate::specs::AtOnce::long_jump_at_once))]
+#[tactic(auto, using(st_frames::proofs::Doing::rows), unfolding(crate::specs::inside::AtOnce::long_jump_at_once))]
 fn jump_on_false_at_once<O: Objects>(m: &O, r: &mut Registers, i: u8) -> Result<bool, Dead>
     requires number { i < 4 }
     ensures does { RowMoves O.Objects.own (long_jump_at_once O.names FalseObject TrueObject i)
@@ -91,7 +91,7 @@ fn jump_on_false_at_once<O: Objects>(m: &O, r: &mut Registers, i: u8) -> Result<
 
 /// Pops, and jumps on true by i times 256 plus the next byte. Answers whether the word is a boolean.
 #[inline(never)]
-#[tactic(auto, using(st_frames::proofs::Doing::rows), unfolding(crate::specs::AtOnce::long_jump_at_once))]
+#[tactic(auto, using(st_frames::proofs::Doing::rows), unfolding(crate::specs::inside::AtOnce::long_jump_at_once))]
 fn jump_on_true_at_once<O: Objects>(m: &O, r: &mut Registers, i: u8) -> Result<bool, Dead>
     requires number { i < 4 }
     ensures does { RowMoves O.Objects.own (long_jump_at_once O.names TrueObject FalseObject i)
@@ -110,7 +110,7 @@ fn jump_on_true_at_once<O: Objects>(m: &O, r: &mut Registers, i: u8) -> Result<b
 
 /// Returns the receiver to the sender. Answers whether that is done at once.
 #[inline(never)]
-#[tactic(auto, using(st_control::proofs::Returning::returning), unfolding(crate::specs::AtOnce::return_receiver_at_once))]
+#[tactic(auto, using(st_control::proofs::Returning::returning), unfolding(crate::specs::inside::AtOnce::return_receiver_at_once))]
 fn return_receiver_at_once<O: Objects>(m: &mut O, r: &mut Registers) -> Result<bool, Dead>
     requires room { 3 ≤ O.room m.old }
     ensures does { RowDoes O.Objects.own (return_receiver_at_once O.names)
@@ -123,7 +123,7 @@ fn return_receiver_at_once<O: Objects>(m: &mut O, r: &mut Registers) -> Result<b
 
 /// Returns a constant to the sender. Answers whether that is done at once.
 #[inline(never)]
-#[tactic(auto, using(st_control::proofs::Returning::returning), unfolding(crate::specs::AtOnce::return_constant_at_once))]
+#[tactic(auto, using(st_control::proofs::Returning::returning), unfolding(crate::specs::inside::AtOnce::return_constant_at_once))]
 fn return_constant_at_once<O: Objects>(
     m: &mut O,
     r: &mut Registers,
@@ -141,7 +141,7 @@ fn return_constant_at_once<O: Objects>(
 
 /// Pops, and returns the word to the sender. Answers whether that is done at once.
 #[inline(never)]
-#[tactic(auto, using(st_control::proofs::Returning::returning), unfolding(crate::specs::AtOnce::return_top_to_sender_at_once))]
+#[tactic(auto, using(st_control::proofs::Returning::returning), unfolding(crate::specs::inside::AtOnce::return_top_to_sender_at_once))]
 fn return_top_to_sender_at_once<O: Objects>(m: &mut O, r: &mut Registers) -> Result<bool, Dead>
     requires room { 3 ≤ O.room m.old }
     ensures does { RowDoes O.Objects.own (return_top_to_sender_at_once O.names)
@@ -155,7 +155,7 @@ fn return_top_to_sender_at_once<O: Objects>(m: &mut O, r: &mut Registers) -> Res
 
 /// Pops, and returns the word to the caller. Answers whether that is done at once.
 #[inline(never)]
-#[tactic(auto, using(st_control::proofs::Returning::returning), unfolding(crate::specs::AtOnce::return_top_to_caller_at_once))]
+#[tactic(auto, using(st_control::proofs::Returning::returning), unfolding(crate::specs::inside::AtOnce::return_top_to_caller_at_once))]
 fn return_top_to_caller_at_once<O: Objects>(m: &mut O, r: &mut Registers) -> Result<bool, Dead>
     requires room { 3 ≤ O.room m.old }
     ensures does { RowDoes O.Objects.own (return_top_to_caller_at_once O.names)
@@ -168,7 +168,7 @@ fn return_top_to_caller_at_once<O: Objects>(m: &mut O, r: &mut Registers) -> Res
 }
 
 /// Does a method's primitive, where that is one that is tried at once, and doesn't fail.
-#[tactic(auto, using(st_frames::proofs::Doing::rows), unfolding(crate::specs::AtOnce::respond_at_once))]
+#[tactic(auto, using(st_frames::proofs::Doing::rows), unfolding(crate::specs::inside::AtOnce::respond_at_once))]
 fn respond_at_once<O: Objects>(
     m: &mut O,
     r: &mut Registers,
@@ -194,7 +194,7 @@ fn respond_at_once<O: Objects>(
 }
 
 /// Executes a method by its header's flag: one that answers the receiver or a field, responds by its primitive, or is activated.
-#[tactic(auto, using(st_frames::proofs::Doing::rows), unfolding(crate::specs::AtOnce::execute_at_once, crate::specs::AtOnce::execute_at_once_by, st_control::specs::AtOnce::at_once))]
+#[tactic(auto, using(st_frames::proofs::Doing::rows), unfolding(crate::specs::inside::AtOnce::execute_at_once, crate::specs::inside::AtOnce::execute_at_once_by, st_control::specs::inside::AtOnce::at_once))]
 fn execute_at_once<O: Objects>(
     m: &mut O,
     r: &mut Registers,
@@ -221,7 +221,7 @@ fn execute_at_once<O: Objects>(
 }
 
 /// Sends a message: the method that is found is executed; where none is, the message isn't understood.
-#[tactic(auto, using(st_frames::proofs::Doing::rows), unfolding(crate::specs::AtOnce::send_from_at_once, crate::specs::AtOnce::found_at_once))]
+#[tactic(auto, using(st_frames::proofs::Doing::rows), unfolding(crate::specs::inside::AtOnce::send_from_at_once, crate::specs::inside::AtOnce::found_at_once))]
 fn send_from_at_once<O: Objects>(
     m: &mut O,
     r: &mut Registers,
@@ -249,7 +249,7 @@ fn send_from_at_once<O: Objects>(
 }
 
 /// Sends the selector with n arguments to the word n words below the top.
-#[tactic(auto, using(st_frames::proofs::Doing::rows), unfolding(crate::specs::AtOnce::send_at_once))]
+#[tactic(auto, using(st_frames::proofs::Doing::rows), unfolding(crate::specs::inside::AtOnce::send_at_once))]
 fn send_at_once<O: Objects>(
     m: &mut O,
     r: &mut Registers,
@@ -277,7 +277,7 @@ fn send_at_once<O: Objects>(
 
 /// Sends literal i with n arguments.
 #[inline(never)]
-#[tactic(auto, using(st_frames::proofs::Doing::rows), unfolding(crate::specs::AtOnce::literal_send_at_once))]
+#[tactic(auto, using(st_frames::proofs::Doing::rows), unfolding(crate::specs::inside::AtOnce::literal_send_at_once))]
 fn literal_send_at_once<O: Objects>(
     m: &mut O,
     r: &mut Registers,
@@ -299,7 +299,7 @@ fn literal_send_at_once<O: Objects>(
 
 /// Does the row of a bytecode, where that is done at once. The frame keeps the registers of a row that stays in its context.
 #[inline(always)]
-#[tactic(auto, using(st_frames::proofs::Doing::rows, crate::proofs::Kept::keeps), unfolding(crate::specs::AtOnce::bytecode_at_once, st_control::specs::AtOnce::at_once))]
+#[tactic(auto, using(st_frames::proofs::Doing::rows, crate::proofs::Kept::keeps), unfolding(crate::specs::inside::AtOnce::bytecode_at_once, st_control::specs::inside::AtOnce::at_once))]
 fn bytecode_at_once<O: Objects>(
     m: &mut O,
     f: &mut Frame,
@@ -370,7 +370,7 @@ fn bytecode_at_once<O: Objects>(
 
 /// Does the next bytecode, where that is done at once. The frame keeps the registers of a row that stays in its context.
 #[inline(always)]
-#[tactic(auto, using(st_frames::proofs::Doing::rows), unfolding(crate::specs::AtOnce::step_at_once))]
+#[tactic(auto, using(st_frames::proofs::Doing::rows), unfolding(crate::specs::inside::AtOnce::step_at_once))]
 pub fn row_at_once<O: Objects>(
     m: &mut O,
     f: &mut Frame,

@@ -1,6 +1,6 @@
 ghost use Rattle.std.specs.Prelude.{◌≡◌, true};
 ghost use Rattle.st_model.specs.{Values.{value, word}, Table.table, Steps.are_there};
-ghost use Rattle.st_frames.specs.{Rows.registers_in, Shown.{IsFrame, StaysFrame, registers_of}};
+ghost use Rattle.st_frames.specs.{inside.Rows.registers_in, inside.Shown.{IsFrame, StaysFrame, registers_of}};
 
 use crate::looking::look;
 use crate::near::Near;

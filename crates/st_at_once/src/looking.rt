@@ -1,7 +1,7 @@
 ghost use Rattle.std.specs.Prelude.{◌<◌, ◌<ℤ◌};
 ghost use Rattle.st_model.specs.Values.{value, word};
-ghost use Rattle.st_frames.specs.Shown.{IsFrame};
-ghost use Rattle.st_at_once.specs.Known.{KnowsFields, KnowsCode, IsNear, IsThere, ArePlaced};
+ghost use Rattle.st_frames.specs.inside.Shown.{IsFrame};
+ghost use Rattle.st_at_once.specs.inside.Known.{KnowsFields, KnowsCode, IsNear, IsThere, ArePlaced};
 
 use crate::known::{Code, Fields, Known};
 use st_frames::Frame;

@@ -2,11 +2,11 @@
 //! may be, and that which stores an element and those on processes, which make nothing.
 
 ghost use Rattle.std.specs.Prelude.{◌≡◌, ◌≤◌, Ok, IfOk, false};
-ghost use Rattle.st_model.specs.{Calls.itself, Primitives.taking};
+ghost use Rattle.st_model.specs.{inside.Calls.itself, Primitives.taking};
 ghost use Rattle.st_model.specs.Storage.{primitive_at, primitive_at_put, primitive_new, primitive_new_with};
 ghost use Rattle.st_model.specs.Deeds.{is_done, deed_of_trial};
-ghost use Rattle.st_frames.specs.Rows.{RowReads, RowLeaves, Takes, storage_changes};
-ghost use Rattle.st_at_once.specs.AtOnce.{object_space, where_space, largest_number, largest_fixed, largest_indexed, respond_with};
+ghost use Rattle.st_frames.specs.inside.Rows.{RowReads, RowLeaves, Takes, storage_changes};
+ghost use Rattle.st_at_once.specs.inside.AtOnce.{object_space, where_space, largest_number, largest_fixed, largest_indexed, respond_with};
 
 use st_frames::Registers;
 use st_memory::Objects;
@@ -24,7 +24,7 @@ const LARGEST_FIXED: u32 = 2_049;
 const LARGEST_INDEXED: u32 = 65_535;
 
 /// Whether there is room for one object of so many words.
-#[tactic(auto, using(st_control::proofs::Space::spaces), unfolding(crate::specs::AtOnce::object_space))]
+#[tactic(auto, using(st_control::proofs::Space::spaces), unfolding(crate::specs::inside::AtOnce::object_space))]
 fn has_object_space<O: Objects>(m: &O, r: &Registers, words: u32) -> bool
     ensures { RowReads O.Objects.own (object_space O.names words) itself m.now r.now (Ok result) }
 {
@@ -33,7 +33,7 @@ fn has_object_space<O: Objects>(m: &O, r: &Registers, words: u32) -> bool
 }
 
 /// Primitive 60, where there is room for a number. It fails without just one argument, and then nothing is changed.
-#[tactic(auto, using(st_frames::proofs::Doing::rows), unfolding(crate::specs::AtOnce::where_space, st_model::specs::Primitives::taking))]
+#[tactic(auto, using(st_frames::proofs::Doing::rows), unfolding(crate::specs::inside::AtOnce::where_space, st_model::specs::Primitives::taking))]
 fn try_at<O: Objects>(m: &mut O, r: &mut Registers, n: u32) -> Result<Tried, Dead>
     requires room { 2 ≤ O.room m.old }
     ensures does { RowLeaves O.Objects.own
@@ -67,7 +67,7 @@ fn try_at_put<O: Objects>(m: &mut O, r: &mut Registers, n: u32) -> Result<Tried,
 }
 
 /// Primitive 70, where there is room. It fails with arguments, and then nothing is changed.
-#[tactic(auto, using(st_frames::proofs::Doing::rows), unfolding(crate::specs::AtOnce::where_space, st_model::specs::Primitives::taking))]
+#[tactic(auto, using(st_frames::proofs::Doing::rows), unfolding(crate::specs::inside::AtOnce::where_space, st_model::specs::Primitives::taking))]
 fn try_new<O: Objects>(m: &mut O, r: &mut Registers, n: u32) -> Result<Tried, Dead>
     requires room { 2 ≤ O.room m.old }
     ensures does { RowLeaves O.Objects.own
@@ -86,7 +86,7 @@ fn try_new<O: Objects>(m: &mut O, r: &mut Registers, n: u32) -> Result<Tried, De
 }
 
 /// Primitive 71, where there is room. It fails without just one argument, and then nothing is changed.
-#[tactic(auto, using(st_frames::proofs::Doing::rows), unfolding(crate::specs::AtOnce::where_space, st_model::specs::Primitives::taking))]
+#[tactic(auto, using(st_frames::proofs::Doing::rows), unfolding(crate::specs::inside::AtOnce::where_space, st_model::specs::Primitives::taking))]
 fn try_new_with<O: Objects>(m: &mut O, r: &mut Registers, n: u32) -> Result<Tried, Dead>
     requires room { storage_changes ≤ O.room m.old }
     ensures does { RowLeaves O.Objects.own
@@ -106,7 +106,7 @@ fn try_new_with<O: Objects>(m: &mut O, r: &mut Registers, n: u32) -> Result<Trie
 
 /// Tries a primitive that makes an object at most, where there is room for the largest, or stores an element, or one on processes.
 /// Where it fails, and where there is another or none, nothing is changed.
-#[tactic(auto, using(st_frames::proofs::Doing::rows), unfolding(crate::specs::AtOnce::respond_with))]
+#[tactic(auto, using(st_frames::proofs::Doing::rows), unfolding(crate::specs::inside::AtOnce::respond_with))]
 pub fn try_at_once<O: Objects>(
     m: &mut O,
     r: &mut Registers,

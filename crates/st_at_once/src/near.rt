@@ -1,8 +1,8 @@
 ghost use Rattle.std.specs.Prelude.{◌≡◌, ◌<◌, ◌≤◌, IfSome};
 ghost use Rattle.st_model.specs.{Values.{value, word}, View.{Has, SettlesTo}, Table.bounded_table};
-ghost use Rattle.st_model.specs.{Steps.store_field, Calls.{Changes, itself}};
-ghost use Rattle.st_frames.specs.Shown.{IsFrame};
-ghost use Rattle.st_at_once.specs.Known.{IsNear, ArePlaced, IsCodeAt, HasLiteral, HasNumber};
+ghost use Rattle.st_model.specs.{Steps.store_field, inside.Calls.{Changes, itself}};
+ghost use Rattle.st_frames.specs.inside.Shown.{IsFrame};
+ghost use Rattle.st_at_once.specs.inside.Known.{IsNear, ArePlaced, IsCodeAt, HasLiteral, HasNumber};
 
 use crate::known::{Body, Code, Known};
 use crate::looking::look;

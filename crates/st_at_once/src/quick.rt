@@ -1,6 +1,6 @@
 ghost use Rattle.std.specs.Prelude.{IfOk};
-ghost use Rattle.st_frames.specs.Shown.{IsReady, shown};
-ghost use Rattle.st_at_once.specs.AtOnce.{IsDoneAtOnce};
+ghost use Rattle.st_frames.specs.inside.Shown.{IsReady, shown};
+ghost use Rattle.st_at_once.specs.inside.AtOnce.{IsDoneAtOnce};
 
 use crate::at_once::row_at_once;
 use crate::ending::RowEnd;

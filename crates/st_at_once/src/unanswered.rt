@@ -1,8 +1,8 @@
 ghost use Rattle.std.specs.Prelude.{◌<◌, ◌≤◌, Ok};
-ghost use Rattle.st_model.specs.{Values.word, Calls.itself};
-ghost use Rattle.st_control.specs.AtOnce.{IsStill};
-ghost use Rattle.st_frames.specs.Rows.{RowReads, RowDoes, Takes};
-ghost use Rattle.st_at_once.specs.AtOnce.{changes_at_once, message_space, with_message_at_once, not_understood_at_once};
+ghost use Rattle.st_model.specs.{Values.word, inside.Calls.itself};
+ghost use Rattle.st_control.specs.inside.AtOnce.{IsStill};
+ghost use Rattle.st_frames.specs.inside.Rows.{RowReads, RowDoes, Takes};
+ghost use Rattle.st_at_once.specs.inside.AtOnce.{changes_at_once, message_space, with_message_at_once, not_understood_at_once};
 
 use st_control::{Called, Sent, activate, find_method, replace_by_message};
 use st_frames::{Registers, page};
@@ -11,7 +11,7 @@ use st_method::Header;
 use st_model::{Call, Dead, PageObject, Word};
 
 /// Whether there is room for a Message of n arguments with their Array, and for a context.
-#[tactic(auto, using(st_control::proofs::Space::spaces), unfolding(crate::specs::AtOnce::message_space))]
+#[tactic(auto, using(st_control::proofs::Space::spaces), unfolding(crate::specs::inside::AtOnce::message_space))]
 fn has_message_space<O: Objects>(m: &O, r: &Registers, n: u32) -> bool
     requires few { n < 16384 }
     ensures { RowReads O.Objects.own (message_space O.names n) itself m.now r.now (Ok result) }
@@ -22,7 +22,7 @@ fn has_message_space<O: Objects>(m: &O, r: &Registers, n: u32) -> bool
 
 /// A Message takes the place of the arguments, and a new context of the method becomes the active one, where there is room for
 /// that. Answers whether there is.
-#[tactic(auto, using(st_frames::proofs::Doing::rows), unfolding(crate::specs::AtOnce::with_message_at_once, crate::specs::AtOnce::enter_with_message, st_control::specs::AtOnce::at_once))]
+#[tactic(auto, using(st_frames::proofs::Doing::rows), unfolding(crate::specs::inside::AtOnce::with_message_at_once, crate::specs::inside::AtOnce::enter_with_message, st_control::specs::inside::AtOnce::at_once))]
 fn with_message_at_once<O: Objects>(
     m: &mut O,
     r: &mut Registers,
@@ -52,7 +52,7 @@ fn with_message_at_once<O: Objects>(
 /// The message isn't understood: the method for doesNotUnderstand: is activated with a Message, where there is one, it is one
 /// that is activated, and there is room for that. Answers whether that is so.
 #[inline(never)]
-#[tactic(auto, using(crate::proofs::Headers::answers), unfolding(crate::specs::AtOnce::not_understood_at_once))]
+#[tactic(auto, using(crate::proofs::Headers::answers), unfolding(crate::specs::inside::AtOnce::not_understood_at_once))]
 pub fn not_understood_at_once<O: Objects>(
     m: &mut O,
     r: &mut Registers,

@@ -5,7 +5,7 @@ use Rattle.std.proofs.lemmas.Nat.{shr-shr, shr_split, one_shl, pow_pos}
 use Rattle.std.proofs.lemmas.Nat.Bits.{bit_at_and, bit_at_or, bit_at_xor, bit_at_not, bit_at-lt, bit_at-zero, bit_at_above, bit_at_ones, bit_at_cat_low, bit_at_cat_high, bit_at_mask_inside, bit_at_mask_below, bit_at_mask_above}
 use Rattle.std.proofs.Math.Pow.{pow_mono}
 use Rattle.st_model.specs.Pixels.{combine}
-use Rattle.st_bitblt.specs.Rules.{IsSpread, number_of_words}
+use Rattle.st_bitblt.specs.inside.Rules.{IsSpread, number_of_words}
 
 -- What the bits of words are that were combined, joined and masked.
 -- What is chosen by a bit: of two others, by the first where it is 1 and else by the second.

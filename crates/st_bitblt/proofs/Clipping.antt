@@ -7,8 +7,8 @@ use Rattle.st_model.specs.BitBlt.{Axis, copies_to, has_line, is_among, line_from
 use Rattle.st_bitblt.specs.declared.direction.Direction.{Direction}
 use Rattle.st_bitblt.specs.declared.span.Lines.{Lines}
 use Rattle.st_bitblt.specs.declared.span.Span.{Span}
-use Rattle.st_bitblt.specs.Reading.{axis_of}
-use Rattle.st_bitblt.specs.Spans.{Takes, IsClipped, IsSpan}
+use Rattle.st_bitblt.specs.inside.Reading.{axis_of}
+use Rattle.st_bitblt.specs.inside.Spans.{Takes, IsClipped, IsSpan}
 use Rattle.std.proofs.lemmas.Bool.{and_parts, and_from}
 use Rattle.st_model.proofs.IntegerTests.{le_true, lt_true}
 

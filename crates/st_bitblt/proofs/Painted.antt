@@ -17,12 +17,12 @@ use Rattle.st_bitblt.specs.declared.rows.Layout.{Layout}
 use Rattle.st_bitblt.specs.declared.rows.Pen.{Pen}
 use Rattle.st_bitblt.specs.declared.span.Span.{Span}
 use Rattle.st_bitblt.specs.declared.direction.Direction.{Direction}
-use Rattle.st_bitblt.specs.Words.{words, HasWords, with_words}
-use Rattle.st_bitblt.specs.Copied.{pixel_from, shaded}
-use Rattle.st_bitblt.specs.Rows.{RowsCopied, tone_of, HasRoom}
-use Rattle.st_bitblt.specs.Reading.{IsBitBlt, copy_in, form_in, axis_of}
-use Rattle.st_bitblt.specs.Spans.{IsSpan}
-use Rattle.st_bitblt.specs.Painting.{bits_of, width_of, height_of, source_words, tone_at, IsLayoutOf}
+use Rattle.st_bitblt.specs.inside.Words.{words, HasWords, with_words}
+use Rattle.st_bitblt.specs.inside.Copied.{pixel_from, shaded}
+use Rattle.st_bitblt.specs.inside.Rows.{RowsCopied, tone_of, HasRoom}
+use Rattle.st_bitblt.specs.inside.Reading.{IsBitBlt, copy_in, form_in, axis_of}
+use Rattle.st_bitblt.specs.inside.Spans.{IsSpan}
+use Rattle.st_bitblt.specs.inside.Painting.{bits_of, width_of, height_of, source_words, tone_at, IsLayoutOf}
 use Rattle.st_bitblt.proofs.Bits.{ones_bit}
 use Rattle.st_bitblt.proofs.Words.{words_same}
 use Rattle.st_bitblt.proofs.RowLaws.{row_before}

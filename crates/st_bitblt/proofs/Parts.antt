@@ -12,8 +12,8 @@ use Rattle.st_model.specs.Pixels.{pixel, combine}
 use Rattle.st_model.proofs.Transfers.{same_or_not}
 use Rattle.st_bitblt.specs.declared.source.Source.{Source}
 use Rattle.st_bitblt.specs.declared.source.Source.TheVariants as source
-use Rattle.st_bitblt.specs.Words.{words, HasWords, with_words}
-use Rattle.st_bitblt.specs.Copied.{Put, Copied, shaded, pixel_from, HasSource, object_of_source}
+use Rattle.st_bitblt.specs.inside.Words.{words, HasWords, with_words}
+use Rattle.st_bitblt.specs.inside.Copied.{Put, Copied, shaded, pixel_from, HasSource, object_of_source}
 use Rattle.st_bitblt.proofs.Words.{words_twice, words_same}
 
 pub pixel_is : (ws : List ℕ) (k at : ℕ) → k / 16 ≡ at → pixel ws k ≡ bit_at (get_or ws at 0) (15 - k % 16)

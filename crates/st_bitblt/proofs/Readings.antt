@@ -13,14 +13,14 @@ use Rattle.st_model.specs.Table.{Table, table, entry, IsTabular}
 use Rattle.st_model.specs.Steps.{object, check, or_die, fetch_kind, fetch_word, fetch_field, of_page, same_value}
 use Rattle.st_model.specs.Deeds.{over_table}
 use Rattle.st_model.specs.View.{is_live, object_of, nothing}
-use Rattle.st_model.specs.Calls.{Reads, itself}
+use Rattle.st_model.specs.inside.Calls.{Reads, itself}
 use Rattle.st_model.specs.BitBlt.{Form, Axis, fetch_words, fetch_positive, read_form, read_unless, read_form_if_any, fetch_form, fetch_destination, fetch_halftone, fetch_rule, fetch_axis, read_copy}
 use Rattle.st_model.specs.Pixels.{row_words}
 use Rattle.std.proofs.lemmas.Bool.{cases_lt}
 use Rattle.st_model.proofs.Tabular.{object-as}
 use Rattle.st_model.proofs.Runs.{run-live}
 use Rattle.st_model.proofs.Words.{value_of-nil}
-use Rattle.st_bitblt.specs.Reading.{units_in, HasWordsIn, checked_words}
+use Rattle.st_bitblt.specs.inside.Reading.{units_in, HasWordsIn, checked_words}
 use Rattle.st_model.proofs.Looking.{object-went}
 
 -- the words of an object

@@ -10,9 +10,9 @@ use Rattle.st_model.specs.Pixels.{pixel, combine}
 use Rattle.st_model.proofs.Transfers.{same_or_not}
 use Rattle.st_bitblt.specs.declared.rows.Layout.{Layout}
 use Rattle.st_bitblt.specs.declared.rows.Pen.{Pen}
-use Rattle.st_bitblt.specs.Words.{words, HasWords}
-use Rattle.st_bitblt.specs.Copied.{Copied, shaded, pixel_from}
-use Rattle.st_bitblt.specs.Rows.{IsForward, FromTop, RowsCopied, tone_of}
+use Rattle.st_bitblt.specs.inside.Words.{words, HasWords}
+use Rattle.st_bitblt.specs.inside.Copied.{Copied, shaded, pixel_from}
+use Rattle.st_bitblt.specs.inside.Rows.{IsForward, FromTop, RowsCopied, tone_of}
 use Rattle.st_bitblt.proofs.Words.{words_same}
 use Rattle.st_bitblt.proofs.Parts.{rest_twice}
 

@@ -9,13 +9,13 @@ use Rattle.st_model.specs.Values.{Value, value}
 use Rattle.st_model.specs.View.{View}
 use Rattle.st_model.specs.Pixels.{AllFit, pixel, combine}
 use Rattle.st_model.proofs.Transfers.{same_or_not}
-use Rattle.st_memory.specs.Copied.{laid, with_units_in}
+use Rattle.st_memory.specs.inside.Copied.{laid, with_units_in}
 use Rattle.st_memory.proofs.Laying.{length-laid}
-use Rattle.st_bitblt.specs.Words.{words, HasWords, with_words}
+use Rattle.st_bitblt.specs.inside.Words.{words, HasWords, with_words}
 use Rattle.st_bitblt.specs.declared.source.Source.{Source}
 use Rattle.st_bitblt.specs.declared.source.Source.TheVariants as source
-use Rattle.st_bitblt.specs.Copied.{Copied, shaded, pixel_from, object_of_source}
-use Rattle.st_bitblt.specs.Stretches.{Combined, Restored, IsStretch}
+use Rattle.st_bitblt.specs.inside.Copied.{Copied, shaded, pixel_from, object_of_source}
+use Rattle.st_bitblt.specs.inside.Stretches.{Combined, Restored, IsStretch}
 use Rattle.st_model.proofs.Painting.{pixel_in}
 use Rattle.st_bitblt.proofs.Bits.{ones_bit}
 use Rattle.st_bitblt.proofs.Parts.{pixel_is, pixel_set, pixel_set_other}

@@ -8,16 +8,16 @@ use Rattle.st_model.specs.Machine.{State, after, ◌>>=◌}
 use Rattle.st_model.specs.Table.{Table, table, bounded_table, entry}
 use Rattle.st_model.specs.Steps.{set_units, fetch_field}
 use Rattle.st_model.specs.View.{is_live, object_of, nothing}
-use Rattle.st_model.specs.Calls.{Reads, itself}
+use Rattle.st_model.specs.inside.Calls.{Reads, itself}
 use Rattle.st_model.specs.Deeds.{over_table, table_left, table_after}
 use Rattle.st_model.specs.BitBlt.{painted, read_copy, store_painted, copy_bits}
 use Rattle.st_model.proofs.CopyingBits.{set_units-does, table-refused}
 use Rattle.st_model.proofs.Painting.{length-painted}
 use Rattle.st_model.proofs.Tabular.{read_copy-as, fetch_field-as}
-use Rattle.st_memory.specs.Copied.{with_units_in}
-use Rattle.st_memory.specs.Tabular.{bounded_tabular}
+use Rattle.st_memory.specs.inside.Copied.{with_units_in}
+use Rattle.st_memory.specs.inside.Tabular.{bounded_tabular}
 use Rattle.st_bitblt.specs.declared.bit_blt.BitBlt.{BitBlt}
-use Rattle.st_bitblt.specs.Reading.{units_in, HasBits, HasWordsIn, copy_in, has_gone}
+use Rattle.st_bitblt.specs.inside.Reading.{units_in, HasBits, HasWordsIn, copy_in, has_gone}
 
 stored_some : (t : Table) (n : ℕ) (us : List ℕ) (e : Option Object) → entry t n ≡ e → is_some e ≡ true → length us ≡ length (unwrap_or e nothing).units
     → table_left t ((set_units table (Ref n) us).run (over_table t)) ≡ with_units_in t (Ref n) us

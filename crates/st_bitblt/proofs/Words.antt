@@ -12,11 +12,11 @@ use Rattle.st_model.specs.Table.{Table, table, entry}
 use Rattle.st_model.specs.Pixels.{AllFit}
 use Rattle.st_model.proofs.Transfers.{same_or_not}
 use Rattle.st_model.proofs.KindTests.{words_fields}
-use Rattle.st_memory.specs.Copied.{with_units_in}
+use Rattle.st_memory.specs.inside.Copied.{with_units_in}
 use Rattle.st_memory.proofs.Laying.{live_in, object_here, object_other, units_again, units_none}
 use Rattle.st_memory.proofs.Bodies.{no_fields}
-use Rattle.st_bitblt.specs.Reading.{HasWordsIn}
-use Rattle.st_bitblt.specs.Words.{words, HasWords, with_words}
+use Rattle.st_bitblt.specs.inside.Reading.{HasWordsIn}
+use Rattle.st_bitblt.specs.inside.Words.{words, HasWords, with_words}
 
 sized : (o : Object) → is_words o.kind ≡ true → size_of o ≡ first_unit o + length o.units
 sized o e = sized_at o o.kind refl e

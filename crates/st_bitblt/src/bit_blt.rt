@@ -1,8 +1,8 @@
 ghost use Rattle.std.specs.Prelude.{◌≡◌, ◌<◌, IfOk};
 ghost use Rattle.st_model.specs.Values.{word};
 ghost use Rattle.st_model.specs.BitBlt.{fetch_rule, read_copy, fetch_destination};
-ghost use Rattle.st_model.specs.Calls.{Reads, itself};
-ghost use Rattle.st_bitblt.specs.Reading.{HasBits, IsBitBlt, IsForm, copy_in, form_in};
+ghost use Rattle.st_model.specs.inside.Calls.{Reads, itself};
+ghost use Rattle.st_bitblt.specs.inside.Reading.{HasBits, IsBitBlt, IsForm, copy_in, form_in};
 
 use crate::direction::{Direction, fetch_direction};
 use crate::form::{Form, fetch_form, fetch_halftone, read_form};

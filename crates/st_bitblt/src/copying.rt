@@ -1,7 +1,7 @@
 ghost use Rattle.std.specs.Prelude.{◌≡◌};
 ghost use Rattle.st_model.specs.{Values.value, Table.table, Deeds.{over_table, table_after}};
 ghost use Rattle.st_model.specs.BitBlt.{read_copy, copy_bits};
-ghost use Rattle.st_bitblt.specs.Reading.{has_gone};
+ghost use Rattle.st_bitblt.specs.inside.Reading.{has_gone};
 
 use crate::bit_blt::read_bit_blt;
 use crate::paint::paint;

@@ -1,8 +1,8 @@
 ghost use Rattle.std.specs.Prelude.{◌≡◌, ◌+◌, ◌<◌, ◌≤◌, IfOk};
 ghost use Rattle.st_model.specs.Values.{word};
 ghost use Rattle.st_model.specs.BitBlt.{fetch_axis};
-ghost use Rattle.st_model.specs.Calls.{Reads};
-ghost use Rattle.st_bitblt.specs.Reading.{IsDirection, axis_of};
+ghost use Rattle.st_model.specs.inside.Calls.{Reads};
+ghost use Rattle.st_bitblt.specs.inside.Reading.{IsDirection, axis_of};
 
 use crate::numbers::fetch_integer;
 use st_memory::Objects;

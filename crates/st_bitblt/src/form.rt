@@ -1,7 +1,7 @@
 ghost use Rattle.std.specs.{Prelude.{◌≡◌, ◌+◌, ◌*◌, ◌<◌, ◌≤◌, IfOk}, Option.option_map};
 ghost use Rattle.st_model.specs.{Values.word, Pixels.row_words};
-ghost use Rattle.st_model.specs.{BitBlt.{read_form, fetch_form, fetch_halftone}, Calls.Reads};
-ghost use Rattle.st_bitblt.specs.Reading.{IsForm, IsFormIfAny, HasPixels, HasSixteen, form_in};
+ghost use Rattle.st_model.specs.{BitBlt.{read_form, fetch_form, fetch_halftone}, inside.Calls.Reads};
+ghost use Rattle.st_bitblt.specs.inside.Reading.{IsForm, IsFormIfAny, HasPixels, HasSixteen, form_in};
 
 use crate::numbers::{check_words, fetch_positive};
 use st_memory::Objects;

@@ -1,7 +1,7 @@
 ghost use Rattle.std.specs.Prelude.{◌≡◌, ◌<◌, ◌^◌, IfOk};
 ghost use Rattle.st_model.specs.{Values.word, Steps.fetch_integer, Primitives.positive_small};
-ghost use Rattle.st_model.specs.{BitBlt.fetch_positive, Calls.{Reads, itself}};
-ghost use Rattle.st_bitblt.specs.Reading.{HasWordsIn, checked_words, lowered, units_in};
+ghost use Rattle.st_model.specs.{BitBlt.fetch_positive, inside.Calls.{Reads, itself}};
+ghost use Rattle.st_bitblt.specs.inside.Reading.{HasWordsIn, checked_words, lowered, units_in};
 
 use st_memory::Objects;
 use st_model::{Dead, Word};

@@ -1,9 +1,9 @@
 ghost use Rattle.std.specs.Prelude.{◌≡◌, ℕ, ◌+◌, ◌*◌, ◌<◌, ◌≤◌, length, slice_index, IfSome};
 ghost use Rattle.st_model.specs.{Values.{value, word}, Pixels.row_words, BitBlt.painted};
-ghost use Rattle.st_bitblt.specs.Copied.{HasSource, object_of_source};
-ghost use Rattle.st_bitblt.specs.Painting.{IsLayoutOf, bits_of, width_of, height_of, source_words, tone_at};
-ghost use Rattle.st_bitblt.specs.Reading.{IsForm, IsFormIfAny, HasSixteen, HasWordsIn, IsBitBlt, copy_in};
-ghost use Rattle.st_bitblt.specs.{Rows.FitsPlaces, Words.with_words};
+ghost use Rattle.st_bitblt.specs.inside.Copied.{HasSource, object_of_source};
+ghost use Rattle.st_bitblt.specs.inside.Painting.{IsLayoutOf, bits_of, width_of, height_of, source_words, tone_at};
+ghost use Rattle.st_bitblt.specs.inside.Reading.{IsForm, IsFormIfAny, HasSixteen, HasWordsIn, IsBitBlt, copy_in};
+ghost use Rattle.st_bitblt.specs.{inside.Rows.FitsPlaces, inside.Words.with_words};
 
 use crate::bit_blt::BitBlt;
 use crate::form::{Form, row_words};

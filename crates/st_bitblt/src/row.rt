@@ -1,6 +1,6 @@
 ghost use Rattle.std.specs.Prelude.{◌≡◌, ◌<◌, ◌≤◌, Some, IsTrue, ◌↔◌};
 ghost use Rattle.st_model.specs.Values.{value};
-ghost use Rattle.st_bitblt.specs.Copied.{CanCopy, Copied, object_of_source};
+ghost use Rattle.st_bitblt.specs.inside.Copied.{CanCopy, Copied, object_of_source};
 
 use crate::rule::Rule;
 use crate::source::{Ends, Places, Source};

@@ -1,8 +1,8 @@
 ghost use Rattle.std.specs.Prelude.{◌≡◌, ◌+◌, ◌*◌, ◌^◌, ◌<◌, ◌≤◌, length};
 ghost use Rattle.st_model.specs.Values.{value};
-ghost use Rattle.st_bitblt.specs.Copied.{HasSource, object_of_source};
-ghost use Rattle.st_bitblt.specs.Rows.{HasRoom, FitsPlaces, FromTop, RowsCopied, tone_of};
-ghost use Rattle.st_bitblt.specs.Words.{words, HasWords};
+ghost use Rattle.st_bitblt.specs.inside.Copied.{HasSource, object_of_source};
+ghost use Rattle.st_bitblt.specs.inside.Rows.{HasRoom, FitsPlaces, FromTop, RowsCopied, tone_of};
+ghost use Rattle.st_bitblt.specs.inside.Words.{words, HasWords};
 
 use crate::row::copy_row;
 use crate::rule::Rule;

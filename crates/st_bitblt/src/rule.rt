@@ -16,7 +16,7 @@ pub struct Rule {
 
 impl Model for Rule {
     ghost use Rattle.std.specs.Prelude.{ℕ};
-    ghost use Rattle.st_bitblt.specs.Rules.{AreSpread, number_of_words};
+    ghost use Rattle.st_bitblt.specs.inside.Rules.{AreSpread, number_of_words};
 
     ghost Value = { ℕ };
 

@@ -1,6 +1,6 @@
 ghost use Rattle.std.specs.Prelude.{◌≡◌, ◌<◌, IfSome};
-ghost use Rattle.st_bitblt.specs.Reading.{IsDirection, axis_of};
-ghost use Rattle.st_bitblt.specs.Spans.{IsSmall, IsClipped, IsSpan};
+ghost use Rattle.st_bitblt.specs.inside.Reading.{IsDirection, axis_of};
+ghost use Rattle.st_bitblt.specs.inside.Spans.{IsSmall, IsClipped, IsSpan};
 
 use crate::direction::Direction;
 

@@ -1,7 +1,7 @@
 ghost use Rattle.std.specs.Prelude.{◌≡◌, ℕ, ◌+◌, ◌*◌, ◌<◌, ◌≤◌, ◌/◌, length, take, slice_index};
 ghost use Rattle.st_model.specs.{Values.value, Pixels.AllFit};
-ghost use Rattle.st_bitblt.specs.Copied.{CanCopy, Copied, HasSource, object_of_source};
-ghost use Rattle.st_bitblt.specs.{Stretches.{Combined, IsStretch, Restored}, Words.{words, HasWords}};
+ghost use Rattle.st_bitblt.specs.inside.Copied.{CanCopy, Copied, HasSource, object_of_source};
+ghost use Rattle.st_bitblt.specs.{inside.Stretches.{Combined, IsStretch, Restored}, inside.Words.{words, HasWords}};
 
 use crate::rule::{Rule, joined, masked};
 use crate::source::{Ends, Places, Source};

@@ -14,7 +14,7 @@ use Rattle.st_scope.specs.Texts.{text_at}
 use Rattle.st_model.specs.View.{View, IsWhole, object_of}
 use Rattle.st_call.proofs.Escaping.{first_none, size_is, unit_is}
 use Rattle.st_browse.specs.Naming.{compared}
-use Rattle.st_browse.specs.Entries.{IsName}
+use Rattle.st_browse.specs.inside.Entries.{IsName}
 
 turn : (us vs : List ℕ) (i a b : ℕ) → slice_get us i ≡ Some a → slice_get vs i ≡ Some b
     → compared (drop i us) (drop i vs) ≡ ordering_then (nat_cmp a b) (compared (drop (suc i) us) (drop (suc i) vs))

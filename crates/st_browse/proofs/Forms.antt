@@ -21,7 +21,7 @@ use Rattle.st_model.specs.BitBlt.{Form, fetch_words, fetch_positive, read_form}
 use Rattle.st_model.specs.View.{is_live, object_of, nothing}
 use Rattle.st_browse.specs.Fields.{field_at}
 use Rattle.st_browse.specs.Display.{answer_of, answer_in, form_at, if_held}
-use Rattle.st_browse.specs.Shown.{HasWords, words_in}
+use Rattle.st_browse.specs.inside.Shown.{HasWords, words_in}
 
 -- a step answers this and changes nothing, or dies where it is nothing
 abbrev IsRun : {S A : Type 0} → Transition S A → Option A → S → Type 0

@@ -15,8 +15,8 @@ use Rattle.st_browse.specs.Classes.{is_class, classes, globals_in}
 use Rattle.st_browse.specs.Methods.{dictionary_of, methods, methods_in}
 use Rattle.st_browse.specs.Senders.{sends, senders}
 use Rattle.st_browse.specs.Replies.{object_reply, classes_text, methods_text, names_text, senders_text}
-use Rattle.st_browse.specs.Entries.{names_in}
-use Rattle.st_browse.specs.Founds.{listed_text}
+use Rattle.st_browse.specs.inside.Entries.{names_in}
+use Rattle.st_browse.specs.inside.Founds.{listed_text}
 use Rattle.st_browse.proofs.Going.{all_chosen}
 
 -- OBJECTS

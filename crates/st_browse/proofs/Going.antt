@@ -7,10 +7,10 @@ use Rattle.std.specs.declared.cmp.Ordering.TheVariants.{Less, Equal, Greater}
 use Rattle.st_host.specs.declared.host.Host.{Ghosts}
 use Rattle.st_host.specs.declared.host.SayFault.{SayFault}
 use Rattle.st_host.proofs.Telling.{OnlyNow}
-use Rattle.st_call.specs.Saying.{Pushes}
+use Rattle.st_call.specs.inside.Saying.{Pushes}
 use Rattle.st_call.proofs.Pushing.{push_none, push_then, push_begun, push_as}
 use Rattle.st_browse.specs.Naming.{Named, compared, in_order, placed, placed_beside}
-use Rattle.st_browse.specs.Listing.{behind, first, next_in_order}
+use Rattle.st_browse.specs.inside.Listing.{behind, first, next_in_order}
 use Rattle.st_browse.proofs.Ordered.{next_is, none_left}
 
 -- HOW MANY

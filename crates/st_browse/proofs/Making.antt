@@ -5,31 +5,33 @@ use Rattle.std.specs.Result.{result_ok}
 use Rattle.st_model.specs.Values.{Value}
 use Rattle.st_model.specs.Table.{Table, table}
 use Rattle.st_model.specs.Machine.{Step}
-use Rattle.st_model.specs.Calls.{Reads, itself}
+use Rattle.st_model.specs.inside.Calls.{Reads, itself}
 use Rattle.st_model.specs.Deeds.{over_table}
 use Rattle.st_model.specs.View.{View}
 use Rattle.st_scan.specs.Views.{MethodView}
 use Rattle.st_print.specs.Printed.{printed}
 use Rattle.st_emit.specs.declared.names.Names.{Names}
 use Rattle.st_emit.specs.Names.{NamesView}
-use Rattle.st_emit.specs.NameViews.{names_view}
+use Rattle.st_emit.specs.inside.NameViews.{names_view}
 use Rattle.st_code.specs.Methods.{PartsView, code}
 use Rattle.st_scope.specs.declared.fault.InstallFault.{InstallFault}
 use Rattle.st_scope.specs.declared.fault.InstallFault.TheVariants as fault
-use Rattle.st_scope.specs.Alike.{SeesAlike}
+use Rattle.st_scope.specs.inside.Alike.{SeesAlike}
 use Rattle.st_scope.specs.Calls.{names}
 use Rattle.st_scope.proofs.Alike.{code_alike}
-use Rattle.st_parts.specs.Keys.{AnswersFor, HasOneName, literals_in, mentioning, names_for}
+use Rattle.st_parts.specs.inside.NamesFor.{AnswersFor}
+use Rattle.st_parts.specs.Keys.{HasOneName, literals_in, mentioning, names_for}
 use Rattle.st_parts.specs.Parts.{Place, parts_at}
 use Rattle.st_parts.proofs.OneName.{one_name}
 use Rattle.st_parts.proofs.PartsAlike.{parts_alike}
 use Rattle.st_expression_stack.specs.Names.{name_in, calling_of}
 use Rattle.st_decompile.specs.Whole.{candidate}
-use Rattle.st_decompile.specs.Answers.{IsPrintedRead}
+use Rattle.st_decompile.specs.inside.Answers.{IsPrintedRead}
 use Rattle.st_decompile.proofs.CallsAlike.{calls_alike}
 use Rattle.st_browse.specs.Display.{answer_in, answer_of}
-use Rattle.st_browse.specs.Decompiling.{names_at, IsTextOf, IsTextOfParts, IsTextUnder, IsTextAt}
-use Rattle.st_browse.specs.Placing.{AreNamesAt}
+use Rattle.st_browse.specs.Decompiling.{names_at}
+use Rattle.st_browse.specs.inside.MadeTexts.{IsTextOf, IsTextOfParts, IsTextUnder, IsTextAt}
+use Rattle.st_browse.specs.inside.Placing.{AreNamesAt}
 
 -- NAMES
 

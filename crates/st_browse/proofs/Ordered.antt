@@ -7,7 +7,7 @@ use Rattle.std.specs.declared.cmp.Ordering.TheVariants.{Less, Equal, Greater}
 use Rattle.std.specs.Ordering.{is_lt, ordering_reverse}
 use Rattle.std.proofs.lemmas.Cmp.{nat_list_cmp_total}
 use Rattle.st_browse.specs.Naming.{Named, compared, placed, placed_beside, in_order, is_behind}
-use Rattle.st_browse.specs.Listing.{behind, first, those_left, lesser, lesser_by, taken, is_left}
+use Rattle.st_browse.specs.inside.Listing.{behind, first, those_left, lesser, lesser_by, taken, is_left}
 
 less : (o : Ordering) → is_lt o ≡ true → o ≡ Less
 less Less e = refl

@@ -6,8 +6,8 @@ use Rattle.st_model.specs.Values.{value}
 use Rattle.st_model.specs.Table.{Table}
 use Rattle.st_browse.specs.declared.named.Named.{Named as NamedRead}
 use Rattle.st_browse.specs.Naming.{Named, first_named}
-use Rattle.st_browse.specs.Listing.{first, next_in_order, taken, if_named}
-use Rattle.st_browse.specs.Entries.{IsName, named_if}
+use Rattle.st_browse.specs.inside.Listing.{first, next_in_order, taken, if_named}
+use Rattle.st_browse.specs.inside.Entries.{IsName, named_if}
 use Rattle.st_browse.proofs.Ordered.{first_with}
 
 -- of n places, those from one on

@@ -6,7 +6,7 @@ use Rattle.std.specs.List.{filter}
 use Rattle.st_model.specs.Table.{Table}
 use Rattle.st_browse.specs.Naming.{Named, in_order}
 use Rattle.st_browse.specs.Classes.{is_class}
-use Rattle.st_browse.specs.Listing.{first, next_in_order}
+use Rattle.st_browse.specs.inside.Listing.{first, next_in_order}
 use Rattle.st_browse.specs.Replies.{senders_count}
 use Rattle.st_browse.proofs.Ordered.{next_is}
 use Rattle.st_browse.proofs.Going.{none_next}

@@ -1,15 +1,16 @@
 -- There is one text that is asked for, and one answer.
 use Rattle.std.proofs.Common.{◌≡◌, ◌∙◌, ℕ, Bool, List, [], Ok, Err, refl, ap, subst}
 use Rattle.std.specs.Prelude.{Option, Some, None, Result, IsErr, unwrap_or}
-use Rattle.st_host.specs.Telling.{Says}
+use Rattle.st_host.specs.inside.Telling.{Says}
 use Rattle.st_host.proofs.Telling.{OnlyNow, says_none, says_begun}
 use Rattle.st_host.specs.declared.host.Host.{Ghosts}
 use Rattle.st_model.specs.View.{View}
 use Rattle.st_chunk.specs.Asks.{Side, Ask, Object, Display, Classes, Methods, Source, Bytecodes, Senders, Until}
 use Rattle.st_chunk.specs.Definitions.{Definition}
 use Rattle.st_changes.proofs.Texts.{one_text}
-use Rattle.st_browse.specs.Asked.{Answers, IsTextFor, reply}
-use Rattle.st_browse.specs.Decompiling.{IsMade, IsKeptOrMade, IsShown}
+use Rattle.st_browse.specs.inside.Answering.{Answers}
+use Rattle.st_browse.specs.Asked.{IsTextFor, reply}
+use Rattle.st_browse.specs.inside.MadeTexts.{IsMade, IsKeptOrMade, IsShown}
 
 pub one_reply : (v : View) (ds : List Definition) (ask : Ask) (a b : Option (List ℕ)) → IsTextFor ds ask a → IsTextFor ds ask b → reply v a ask ≡ reply v b ask
 unfolding reply

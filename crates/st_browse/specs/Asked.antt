@@ -1,9 +1,6 @@
 -- What an image answers to what is asked of it, with the text of the method's last definition where that is asked for; nothing where
 -- what is asked for is missing.
-use Rattle.std.specs.Prelude.{◌≡◌, ℕ, List, [], Option, Some, MatchOption, Bool, Result, IfOk, OnOk, is_some, unwrap_or, option_map, option_and_then, ⊤}
-use Rattle.st_host.specs.Runs.{SaysAll}
-use Rattle.st_host.specs.Telling.{Says}
-use Rattle.st_host.specs.declared.host.Host.{Ghosts}
+use Rattle.std.specs.Prelude.{ℕ, List, Option, Some, MatchOption, option_map, option_and_then, ⊤}
 use Rattle.st_model.specs.Values.{Value, value_of}
 use Rattle.st_model.specs.Table.{Table}
 use Rattle.st_model.specs.View.{View, object_of}
@@ -50,9 +47,3 @@ reply v text (Senders selector) = Some (senders_text v.objects selector (classes
 abbrev pub IsTextFor : List Definition → Ask → Option (List ℕ) → Type 0
 IsTextFor ds (Source side selector) text = MatchOption text (IsNowhere ds side.class side.meta selector) (IsLastText ds side.class side.meta selector)
 IsTextFor ds ask text = ⊤
-
--- A call that says what is answered, and whether it is there: where it is missing, nothing is said.
-pub record Answers {D E : Type 0} (host : Ghosts D) (answer : Option (List ℕ)) (old new : D) (result : Result Bool E) : Type 0 where
-  pub there : IfOk result (λ b. b ≡ is_some answer)
-  pub all : OnOk result (SaysAll host (unwrap_or answer []) old new)
-  pub says : Says host (unwrap_or answer []) old new

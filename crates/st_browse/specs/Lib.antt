@@ -6,12 +6,6 @@ pub mod Senders
 pub mod Replies
 pub mod Display
 pub mod Sources
-pub mod Shown
 pub mod Asked
-pub mod Questions
-pub mod Entries
-pub mod Listing
-pub mod Founds
 pub mod Decompiling
-pub mod Placing
-pub mod SourceFaults
+pub mod inside

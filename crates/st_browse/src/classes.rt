@@ -4,7 +4,7 @@ ghost use Rattle.std.specs.Prelude.{◌≡◌, ◌≤◌, true, IfSome};
 ghost use Rattle.st_model.specs.Values.{value};
 ghost use Rattle.st_model.specs.View.{is_live};
 ghost use Rattle.st_browse.specs.Classes.{global_at, globals_in, is_class, member, on_side};
-ghost use Rattle.st_browse.specs.Entries.{IsName, count_of, named_if, named_of, names_in};
+ghost use Rattle.st_browse.specs.inside.Entries.{IsName, count_of, named_if, named_of, names_in};
 
 use crate::comparing::is_same;
 use crate::fields::{count_fields, field_at, named};

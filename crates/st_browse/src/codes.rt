@@ -3,10 +3,10 @@
 ghost use Rattle.std.specs.Prelude.{◌≡◌, ◌<◌, ◌≤◌, ◌+◌, ◌*◌, Some, true, false, IfSome, IfNone, drop, length, slice_get, take};
 ghost use Rattle.std.specs.List.{list_any};
 ghost use Rattle.st_model.specs.{Values.value, Text.numbers_text, View.object_of};
-ghost use Rattle.st_call.specs.Saying.{Pushes};
+ghost use Rattle.st_call.specs.inside.Saying.{Pushes};
 ghost use Rattle.st_parts.specs.Cutting.{codes_of};
 ghost use Rattle.st_browse.specs.Methods.{has_method};
-ghost use Rattle.st_browse.specs.{Replies.{code_line, codes_text}, Senders.is_special, Entries.IsBody};
+ghost use Rattle.st_browse.specs.{Replies.{code_line, codes_text}, Senders.is_special, inside.Entries.IsBody};
 
 use st_call::{Output, Pushed, push_number};
 use st_host::Host;

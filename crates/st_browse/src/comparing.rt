@@ -3,7 +3,7 @@
 ghost use Rattle.std.specs.Prelude.{◌≡◌, bytes_eq};
 ghost use Rattle.st_model.specs.Values.{value};
 ghost use Rattle.st_scope.specs.{Tables.is_text, Texts.text_at};
-ghost use Rattle.st_browse.specs.{Naming.compared, Entries.{IsName, name_of}};
+ghost use Rattle.st_browse.specs.{Naming.compared, inside.Entries.{IsName, name_of}};
 
 use crate::fields::is_name;
 use st_memory::Memory;

@@ -2,11 +2,11 @@
 
 ghost use Rattle.std.specs.Prelude.{◌≡◌, true, IfOk, option_map};
 ghost use Rattle.st_model.specs.{Values.value, View.is_live};
-ghost use Rattle.st_emit.specs.NameViews.{names_view};
-ghost use Rattle.st_scope.specs.Findings.{text_of};
-ghost use Rattle.st_parts.specs.{Parts.parts_at, Places.place_of};
+ghost use Rattle.st_emit.specs.inside.NameViews.{names_view};
+ghost use Rattle.st_scope.specs.inside.Findings.{text_of};
+ghost use Rattle.st_parts.specs.{Parts.parts_at, inside.Places.place_of};
 ghost use Rattle.st_chunk.specs.Asks.{side_of};
-ghost use Rattle.st_browse.specs.{Decompiling.{IsMade, IsTextOfParts}, Placing.{AreNamesIf, IsCompiled}};
+ghost use Rattle.st_browse.specs.{inside.MadeTexts.{IsMade, IsTextOfParts}, inside.Placing.{AreNamesIf, IsCompiled}};
 
 use crate::sought::find_compiled;
 use st_chunk::Side;

@@ -4,9 +4,9 @@ ghost use Rattle.std.specs.Prelude.{◌≡◌, ◌<◌, ◌≤◌, ◌+◌, ◌*
 ghost use Rattle.std.specs.List.{flat_map};
 ghost use Rattle.st_model.specs.{Values.value, BitBlt.{fetch_positive, fetch_words}, Pixels.row_words};
 ghost use Rattle.st_model.specs.{Table.table, Text.hexadecimal};
-ghost use Rattle.st_call.specs.Saying.{Pushes};
+ghost use Rattle.st_call.specs.inside.Saying.{Pushes};
 ghost use Rattle.st_browse.specs.Display.{answer_in, form_at, form_text, if_held, row_line, row_of, rows_text, word_text};
-ghost use Rattle.st_browse.specs.Shown.{HasWords, IsForm, form_in, words_in};
+ghost use Rattle.st_browse.specs.inside.Shown.{HasWords, IsForm, form_in, words_in};
 
 use crate::fields::field_at;
 use st_call::{Output, Pushed, push_line};

@@ -3,7 +3,7 @@
 ghost use Rattle.std.specs.Prelude.{◌≡◌, ◌≤◌, true, false, Some, None, IfSome};
 ghost use Rattle.st_model.specs.{Values.value, View.IsKnown};
 ghost use Rattle.st_scope.specs.Texts.{found, text_at};
-ghost use Rattle.st_browse.specs.{Fields.{field_at, fields_in, named}, Entries.{IsName, name_of, named_if}};
+ghost use Rattle.st_browse.specs.{Fields.{field_at, fields_in, named}, inside.Entries.{IsName, name_of, named_if}};
 
 use crate::named::Named;
 use st_memory::Memory;

@@ -3,9 +3,9 @@
 ghost use Rattle.std.specs.Prelude.{◌≡◌};
 ghost use Rattle.st_model.specs.Values.{value};
 ghost use Rattle.st_chunk.specs.Groups.{side_text};
-ghost use Rattle.st_call.specs.Saying.{Pushes};
-ghost use Rattle.st_browse.specs.{Listing.line_text, Replies.{name_line, sender_line}};
-ghost use Rattle.st_browse.specs.Entries.{IsLine, IsName, name_of};
+ghost use Rattle.st_call.specs.inside.Saying.{Pushes};
+ghost use Rattle.st_browse.specs.{inside.Listing.line_text, Replies.{name_line, sender_line}};
+ghost use Rattle.st_browse.specs.inside.Entries.{IsLine, IsName, name_of};
 
 use st_call::{Output, Pushed, push_bytes};
 use st_host::Host;

@@ -2,9 +2,9 @@
 
 ghost use Rattle.std.specs.{Prelude.{◌≡◌, ◌≤◌, ◌∷◌, [], length}, List.filter};
 ghost use Rattle.st_model.specs.Values.{value};
-ghost use Rattle.st_call.specs.Saying.{Pushes};
-ghost use Rattle.st_browse.specs.Listing.{is_chosen, lines_text, listed};
-ghost use Rattle.st_browse.specs.Entries.{IsLine, IsName, count_of, named_of};
+ghost use Rattle.st_call.specs.inside.Saying.{Pushes};
+ghost use Rattle.st_browse.specs.inside.Listing.{is_chosen, lines_text, listed};
+ghost use Rattle.st_browse.specs.inside.Entries.{IsLine, IsName, count_of, named_of};
 
 use crate::choice::Choice;
 use crate::classes::is_class;

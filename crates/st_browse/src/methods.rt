@@ -5,7 +5,7 @@ ghost use Rattle.st_model.specs.Values.{value};
 ghost use Rattle.st_scope.specs.{Shapes.is_power_of_two, Texts.found};
 ghost use Rattle.st_browse.specs.Fields.{field_at};
 ghost use Rattle.st_browse.specs.Methods.{as_dictionary, dictionary_of, if_method, method_at, methods_in};
-ghost use Rattle.st_browse.specs.Entries.{IsName, count_of, dictionary_if, dictionary_read, named_if, names_in};
+ghost use Rattle.st_browse.specs.inside.Entries.{IsName, count_of, dictionary_if, dictionary_read, named_if, names_in};
 
 use crate::dictionary::Dictionary;
 use crate::fields::{count_fields, field_at, named};

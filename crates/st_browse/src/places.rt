@@ -3,8 +3,8 @@
 ghost use Rattle.std.specs.Prelude.{◌≡◌, ◌≤◌, IfSome};
 ghost use Rattle.st_model.specs.Values.{value};
 ghost use Rattle.st_browse.specs.Naming.{first_named};
-ghost use Rattle.st_browse.specs.Listing.{first, if_named, is_left, lesser, next_in_order, taken};
-ghost use Rattle.st_browse.specs.Entries.{IsName, count_of, name_at, name_if, named_if, named_of, names_in};
+ghost use Rattle.st_browse.specs.inside.Listing.{first, if_named, is_left, lesser, next_in_order, taken};
+ghost use Rattle.st_browse.specs.inside.Entries.{IsName, count_of, name_at, name_if, named_if, named_of, names_in};
 
 use crate::classes::global_at;
 use crate::comparing::{compare, has_text};

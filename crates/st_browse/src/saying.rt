@@ -3,17 +3,17 @@
 ghost use Rattle.std.specs.Prelude.{◌≡◌, ◌≤◌, ◌++◌, ℕ, List, Option, option_map, length, OnOk, IfErr, IsErrOf};
 ghost use Rattle.std.specs.List.{filter};
 ghost use Rattle.st_model.specs.{Values.value, View.object_of};
-ghost use Rattle.st_host.specs.{Counts.HasCause, Runs.SaysAll, Telling.Says};
-ghost use Rattle.st_call.specs.Saying.{Pushes};
+ghost use Rattle.st_host.specs.{Counts.HasCause, Runs.SaysAll, inside.Telling.Says};
+ghost use Rattle.st_call.specs.inside.Saying.{Pushes};
 ghost use Rattle.st_chunk.specs.Asks.{Source, ask_of, side_of};
-ghost use Rattle.st_browse.specs.{Naming.in_order, Classes.is_class, Listing.{lines_text, listed}};
+ghost use Rattle.st_browse.specs.{Naming.in_order, Classes.is_class, inside.Listing.{lines_text, listed}};
 ghost use Rattle.st_browse.specs.Replies.{bytecodes_text, count_text, senders_text};
-ghost use Rattle.st_browse.specs.{Asked.{Answers, IsTextFor, reply}, Questions.{question, side_meant}};
+ghost use Rattle.st_browse.specs.{inside.Answering.Answers, Asked.{IsTextFor, reply}, inside.Questions.{question, side_meant}};
 ghost use Rattle.st_browse.specs.declared.saying.BrowseFault.TheVariants.{Say};
 ghost use Rattle.st_browse.specs.declared.saying.SourceFault.TheVariants.{OutOfMemory as NoMemory};
-ghost use Rattle.st_browse.specs.{Decompiling.{IsMade, IsShown}, SourceFaults.HasSourceCause};
-ghost use Rattle.st_browse.specs.Entries.{IsBody, IsLine, count_of, names_in};
-ghost use Rattle.st_browse.specs.Founds.{IsSought, sought_text};
+ghost use Rattle.st_browse.specs.{inside.MadeTexts.{IsMade, IsShown}, inside.SourceFaults.HasSourceCause};
+ghost use Rattle.st_browse.specs.inside.Entries.{IsBody, IsLine, count_of, names_in};
+ghost use Rattle.st_browse.specs.inside.Founds.{IsSought, sought_text};
 
 use crate::ask::{Ask, Side};
 use crate::choice::Choice;

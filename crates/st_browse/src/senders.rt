@@ -2,10 +2,10 @@
 
 ghost use Rattle.std.specs.{Prelude.{◌≡◌, ◌≤◌, ◌+◌, ◌∷◌, [], true, length, sum_by}, List.{filter, flat_map}};
 ghost use Rattle.st_model.specs.{Values.value, View.is_live};
-ghost use Rattle.st_call.specs.Saying.{Pushes};
+ghost use Rattle.st_call.specs.inside.Saying.{Pushes};
 ghost use Rattle.st_browse.specs.{Naming.in_order, Classes.{is_class, on_side}, Senders.senders};
 ghost use Rattle.st_browse.specs.Replies.{both_lines, senders_count, senders_lines};
-ghost use Rattle.st_browse.specs.Entries.{IsName, count_of, named_of, names_in};
+ghost use Rattle.st_browse.specs.inside.Entries.{IsName, count_of, named_of, names_in};
 
 use crate::choice::Choice;
 use crate::classes::{is_class, on_side};

@@ -2,7 +2,7 @@
 
 ghost use Rattle.std.specs.{Prelude.{◌≡◌, ◌||◌, drop}, List.list_any};
 ghost use Rattle.st_model.specs.{Values.value, View.object_of};
-ghost use Rattle.st_browse.specs.{Senders.{is_sent, is_symbol, sends}, Entries.IsBody};
+ghost use Rattle.st_browse.specs.{Senders.{is_sent, is_symbol, sends}, inside.Entries.IsBody};
 
 use crate::codes::{Body, body_of, has_special};
 use st_emit::special_selector;

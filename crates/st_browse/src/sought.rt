@@ -6,8 +6,8 @@ ghost use Rattle.st_scope.specs.Texts.{found};
 ghost use Rattle.st_chunk.specs.Asks.{ask_of, side_of};
 ghost use Rattle.st_browse.specs.{Display.display_reply, Replies.{methods_text, object_reply}};
 ghost use Rattle.st_browse.specs.Asked.{class_of_side, code_text, method_in, method_of_side, reply, source_in};
-ghost use Rattle.st_browse.specs.{Entries.IsBody, Founds.{IsSought, sought_text}};
-ghost use Rattle.st_browse.specs.{Decompiling.method_place, Placing.{IsCompiled, place_if}};
+ghost use Rattle.st_browse.specs.{inside.Entries.IsBody, inside.Founds.{IsSought, sought_text}};
+ghost use Rattle.st_browse.specs.{Decompiling.method_place, inside.Placing.{IsCompiled, place_if}};
 
 use crate::classes::{globals, is_class, on_side};
 use crate::codes::{Body, body_of};

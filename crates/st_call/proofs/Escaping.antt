@@ -10,7 +10,7 @@ use Rattle.st_model.specs.Table.{Table, entry}
 use Rattle.st_model.specs.View.{View, IsWhole, is_live, object_of, nothing}
 use Rattle.st_model.specs.Text.{escaped, said_text}
 use Rattle.st_memory.proofs.Bodies.{no_fields}
-use Rattle.st_call.specs.Saying.{said_in}
+use Rattle.st_call.specs.inside.Saying.{said_in}
 use Rattle.st_model.proofs.KindTests.{text_fields, text_pointers}
 
 module _ {v : View} (whole : IsWhole v) (x : Value) (live : is_live v.objects x ≡ true) (kind : is_bytes (object_of v.objects x).kind ≡ true) where

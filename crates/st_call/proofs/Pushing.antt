@@ -5,12 +5,12 @@ use Rattle.std.specs.List.{flat_map}
 use Rattle.std.proofs.lemmas.List.{take_more, take-append-drop, length-map, get_or-map}
 use Rattle.std.proofs.lemmas.Option.{slice_get-get_or}
 use Rattle.st_host.specs.Runs.{SaysAll}
-use Rattle.st_host.specs.Telling.{Says}
+use Rattle.st_host.specs.inside.Telling.{Says}
 use Rattle.st_host.specs.declared.host.Host.{Ghosts}
 use Rattle.st_host.proofs.Joining.{all_join}
 use Rattle.st_host.proofs.Telling.{OnlyNow, says_begun, says_then, says_none}
 use Rattle.st_host.proofs.Rising.{cause_after}
-use Rattle.st_call.specs.Saying.{Adds, Pushes}
+use Rattle.st_call.specs.inside.Saying.{Adds, Pushes}
 
 -- what is held back between two texts is said with the second one
 carried : (p a q b s r t : List ℕ) → p ++ a ≡ s ++ q → q ++ b ≡ t ++ r → p ++ (a ++ b) ≡ (s ++ t) ++ r

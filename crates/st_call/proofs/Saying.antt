@@ -5,9 +5,9 @@ use Rattle.st_host.specs.declared.host.Host.{Ghosts}
 use Rattle.st_host.specs.declared.host.SayFault.{SayFault}
 use Rattle.st_host.specs.Counts.{HasCause}
 use Rattle.st_host.specs.Runs.{SaysAll}
-use Rattle.st_host.specs.Telling.{Says}
+use Rattle.st_host.specs.inside.Telling.{Says}
 use Rattle.st_protocol.specs.declared.status.Status.TheVariants as status
-use Rattle.st_call.specs.Telling.{Tells}
+use Rattle.st_call.specs.inside.Telling.{Tells}
 
 module _ {D : Type 0} (host : Ghosts D) where
   -- all of it was said

@@ -9,7 +9,7 @@ use Rattle.st_model.specs.View.{View}
 use Rattle.st_frames.specs.declared.frame.Frame.{Frame}
 use Rattle.st_image.specs.declared.head.HeadValues.{HeadValues}
 use Rattle.st_image.specs.HeadValues.{head_over}
-use Rattle.st_image.specs.Reading.{IsStart}
+use Rattle.st_image.specs.inside.Reading.{IsStart}
 use Rattle.st_call.specs.declared.file.FileRefusal.{FileRefusal}
 use Rattle.st_call.specs.declared.file.FileRefusal.TheVariants as file
 use Rattle.st_call.specs.declared.image_refusal.ImageRefusal.{ImageRefusal}

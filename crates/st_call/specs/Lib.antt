@@ -1,9 +1,6 @@
 pub mod Replies
-pub mod Lines
-pub mod Telling
 pub mod Arguments
 pub mod Words
-pub mod CommandViews
 pub mod LastLines
 pub mod Refusals
-pub mod Saying
+pub mod inside

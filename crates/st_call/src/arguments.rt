@@ -3,7 +3,7 @@ ghost use Rattle.std.specs.Prelude.{◌≡◌, ◌≤◌, ◌^◌, map, option_m
 ghost use Rattle.std.specs.String.{string_bytes};
 ghost use Rattle.st_call.specs.Arguments.{setting_named, value_of, with_value, is_option};
 ghost use Rattle.st_call.specs.Arguments.{with_operand, with_setting, with_option, with_any, with_next, arguments_of};
-ghost use Rattle.st_call.specs.CommandViews.{operands_view, arguments_view};
+ghost use Rattle.st_call.specs.inside.CommandViews.{operands_view, arguments_view};
 
 use st_chunk::read_number;
 use st_image::HeadValues;

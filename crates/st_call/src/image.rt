@@ -1,8 +1,8 @@
 ghost use Rattle.std.specs.Prelude.{◌≡◌, IsTrue, IfOk, IfErr, OnOk};
 ghost use Rattle.st_host.specs.{Files.bytes_of, Runs.{OnlyReads, ReadsAlike}};
 ghost use Rattle.st_model.specs.View.{no_devices};
-ghost use Rattle.st_frames.specs.Shown.{IsFrame};
-ghost use Rattle.st_image.specs.{Back.CanStart, HeadValues.head_over, Reading.IsStart};
+ghost use Rattle.st_frames.specs.inside.Shown.{IsFrame};
+ghost use Rattle.st_image.specs.{inside.Back.CanStart, HeadValues.head_over, inside.Reading.IsStart};
 ghost use Rattle.st_call.specs.Refusals.{IsImageRefusal, RefusalHasCause, IsReadableOver, IsFaultyOver};
 
 use crate::file::read_file;

@@ -1,6 +1,6 @@
 ghost use Rattle.std.specs.Prelude.{◌≡◌, OnOk};
-ghost use Rattle.st_host.specs.{Counts.HasCause, Runs.{ReadsAlike, ReadsAndSays, SaysAll}, Telling.Says};
-ghost use Rattle.st_call.specs.Saying.{Pushes};
+ghost use Rattle.st_host.specs.{Counts.HasCause, Runs.{ReadsAlike, ReadsAndSays, SaysAll}, inside.Telling.Says};
+ghost use Rattle.st_call.specs.inside.Saying.{Pushes};
 ghost use Rattle.st_call.specs.LastLines.{fault_line, place_line, store_line, last_line, SaysLastLine};
 
 use crate::lines::{push_line, push_long_line};

@@ -1,7 +1,7 @@
 ghost use Rattle.std.specs.Prelude.{◌≡◌, ◌++◌, codes, decimal, map};
 ghost use Rattle.st_model.specs.Values.{value};
 ghost use Rattle.st_model.specs.Text.{values_text, numbers_text};
-ghost use Rattle.st_call.specs.Saying.{Pushes};
+ghost use Rattle.st_call.specs.inside.Saying.{Pushes};
 
 use crate::output::{Output, Pushed};
 use crate::report_words::{push_long_number, push_number, push_value};

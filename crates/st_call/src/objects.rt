@@ -2,7 +2,7 @@ ghost use Rattle.std.specs.Prelude.{◌≡◌, ◌/◌, ◌++◌, codes, length,
 ghost use Rattle.st_model.specs.{Values.value, View.{is_live, object_of}};
 ghost use Rattle.st_model.specs.Text.{values_text, numbers_text, kind_text, colon_text};
 ghost use Rattle.st_model.specs.Text.{heading_text, object_head, object_body, object_text, objects_text};
-ghost use Rattle.st_call.specs.Saying.{Pushes};
+ghost use Rattle.st_call.specs.inside.Saying.{Pushes};
 
 use crate::output::{Output, Pushed};
 use crate::report_words::{push_number, push_value};

@@ -1,8 +1,8 @@
 ghost use Rattle.std.specs.Prelude.{◌≡◌, ◌<◌, ◌++◌, [], ◌∷◌, length, OnOk};
 ghost use Rattle.st_host.specs.Counts.{HasCause};
 ghost use Rattle.st_host.specs.Runs.{SaysAll};
-ghost use Rattle.st_host.specs.Telling.{Says};
-ghost use Rattle.st_call.specs.Saying.{Pushes};
+ghost use Rattle.st_host.specs.inside.Telling.{Says};
+ghost use Rattle.st_call.specs.inside.Saying.{Pushes};
 
 use st_host::{Host, SayFault, say_all};
 use std::marker::Model;

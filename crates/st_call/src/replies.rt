@@ -1,8 +1,8 @@
 ghost use Rattle.st_chunk.specs.Groups.{side_text};
-ghost use Rattle.st_call.specs.Saying.{Pushes};
-ghost use Rattle.st_call.specs.Lines.{reply_text};
+ghost use Rattle.st_call.specs.inside.Saying.{Pushes};
+ghost use Rattle.st_call.specs.inside.Lines.{reply_text};
 ghost use Rattle.st_call.specs.Replies.{accepted_line, refused_text, why_text};
-ghost use Rattle.st_call.specs.Telling.{Tells};
+ghost use Rattle.st_call.specs.inside.Telling.{Tells};
 
 use crate::lines::{push_line, push_long_line};
 use crate::output::{Output, Pushed};

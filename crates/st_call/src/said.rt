@@ -1,7 +1,7 @@
 ghost use Rattle.std.specs.Prelude.{◌≡◌, ◌<◌, [], true, OnOk};
 ghost use Rattle.st_model.specs.{Values.value, Objects.is_bytes, View.{is_live, object_of}};
 ghost use Rattle.st_model.specs.Text.{hexadecimal, escaped_byte, escaped};
-ghost use Rattle.st_call.specs.Saying.{Pushes, said_in};
+ghost use Rattle.st_call.specs.inside.Saying.{Pushes, said_in};
 
 use crate::output::{Output, Pushed};
 use st_host::Host;

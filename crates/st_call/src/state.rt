@@ -1,7 +1,7 @@
 ghost use Rattle.std.specs.Prelude.{◌≡◌};
 ghost use Rattle.st_model.specs.Text.{pointers_text, registers_text, input_text, held_text, used_text, state_text};
-ghost use Rattle.st_frames.specs.Shown.{IsFrame, IsReady, registers_of, shown};
-ghost use Rattle.st_call.specs.Saying.{Pushes};
+ghost use Rattle.st_frames.specs.inside.Shown.{IsFrame, IsReady, registers_of, shown};
+ghost use Rattle.st_call.specs.inside.Saying.{Pushes};
 
 use crate::lines::{push_line, push_values, push_values_line};
 use crate::objects::push_objects;

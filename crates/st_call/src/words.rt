@@ -3,7 +3,7 @@ ghost use Rattle.std.specs.String.{string_bytes};
 ghost use Rattle.st_chunk.specs.Lines.{number};
 ghost use Rattle.st_call.specs.Words.{Once, Import, Export, Clean, Condense, Session, Build, Drill};
 ghost use Rattle.st_call.specs.Words.{of_operand, of_operands, has_values, command_named, command_of};
-ghost use Rattle.st_call.specs.CommandViews.{operands_view, arguments_view, command_view};
+ghost use Rattle.st_call.specs.inside.CommandViews.{operands_view, arguments_view, command_view};
 
 use crate::arguments::{Arguments, Operands, read_arguments};
 use st_chunk::read_number;

@@ -1,6 +1,6 @@
 -- Words and bytes that are written, worked out.
 use Rattle.std.proofs.Common.{◌≡◌, [], ◌∷◌, refl}
-use Rattle.st_cells.specs.Words.{byte_of, with_run, with_bytes}
+use Rattle.st_cells.specs.inside.Words.{byte_of, with_run, with_bytes}
 
 two_words : with_run (1 ∷ 2 ∷ 3 ∷ 4 ∷ []) 1 (7 ∷ 8 ∷ []) ≡ 1 ∷ 7 ∷ 8 ∷ 4 ∷ []
 two_words = refl

@@ -1,6 +1,6 @@
 -- Words that are written one behind the other.
 use Rattle.std.proofs.Common.{◌≡◌, ℕ, zero, suc, ◌+◌, ◌/◌, ◌≤◌, List, [], ◌∷◌, ◌++◌, length, take, drop, get_or, set, refl, sym, ap, ◌∙◌, arith, length-set}
-use Rattle.st_cells.specs.Words.{with_run, with_byte, with_bytes}
+use Rattle.st_cells.specs.inside.Words.{with_run, with_byte, with_bytes}
 
 pub length-with_run : (us : List ℕ) (at : ℕ) (ws : List ℕ) → length (with_run us at ws) ≡ length us
 length-with_run us at [] = refl

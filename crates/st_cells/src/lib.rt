@@ -2,7 +2,7 @@
 #![tactic(auto)]
 
 ghost use Rattle.std.specs.Prelude.{◌≡◌, ℕ, ◌+◌, ◌<◌, ◌≤◌, ◌/◌, length, replicate, take, drop, slice_index, slice_set, IfOk};
-ghost use Rattle.st_cells.specs.Words.{slid, with_run, byte_of, ReadsBytes, with_byte, with_bytes};
+ghost use Rattle.st_cells.specs.inside.Words.{slid, with_run, byte_of, ReadsBytes, with_byte, with_bytes};
 
 mod region;
 

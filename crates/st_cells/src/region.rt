@@ -3,7 +3,7 @@ ghost use Rattle.std.specs.Prelude.{◌≡◌, ℕ, ◌*◌, ◌^◌, ◌<◌, L
 ghost use Rattle.std.specs.Borrow.{sem, full_share, Array, u16};
 ghost use Rattle.std.specs.Ptr.{lies_at};
 ghost use Rattle.std.specs.declared.alloc.Global.{Global as Handle};
-ghost use Rattle.st_cells.specs.Owned.{block_of_words, words_owned, words_lent};
+ghost use Rattle.st_cells.specs.inside.Owned.{block_of_words, words_owned, words_lent};
 
 use std::alloc::{AllocError, Allocator, Global};
 use std::marker::Model;
@@ -23,7 +23,7 @@ impl Model for Region {
 }
 
 impl Region {
-    ghost use Rattle.st_cells.specs.Lent.{LendsWords};
+    ghost use Rattle.st_cells.specs.inside.Lent.{LendsWords};
 
     /// So many words, which are all 0.
     pub(crate) fn zeros(alloc: &Global, len: usize) -> Result<Region, AllocError>

@@ -7,7 +7,7 @@ use Rattle.st_chunk.specs.Groups.{header_text}
 use Rattle.st_chunk.specs.Definitions.{Definition, IsDefinition, header_for, line_feed, method_part, entry, entries}
 use Rattle.st_chunk.proofs.Entries.{others}
 use Rattle.st_store.specs.declared.root.Root.{Root}
-use Rattle.st_changes.specs.Runs.{IsRun}
+use Rattle.st_changes.specs.inside.Runs.{IsRun}
 use Rattle.st_changes.specs.Entries.{BeginsWith}
 use Rattle.st_changes.specs.Lists.{StandsAt, Lists, IsWrongEntry, IsDamaged, EndsShort}
 use Rattle.st_changes.proofs.EntryTexts.{head_run, head_same, entry_head, entry_method, method_run, method_same}

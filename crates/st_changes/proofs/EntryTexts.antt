@@ -8,7 +8,7 @@ use Rattle.std.proofs.lemmas.List.{drop-drop}
 use Rattle.st_chunk.specs.Texts.{mark, most, doubled, is_blank}
 use Rattle.st_chunk.specs.Groups.{begins, Header, header_text}
 use Rattle.st_chunk.specs.Definitions.{Definition, header_for, IsDefinition, line_feed, entry, method_part}
-use Rattle.st_changes.specs.Runs.{doubled_by, IsRun}
+use Rattle.st_changes.specs.inside.Runs.{doubled_by, IsRun}
 use Rattle.st_changes.specs.Entries.{side_front, IsHead, IsMethod, BeginsWith, is_text}
 use Rattle.st_changes.proofs.Marks.{doubled_is, one_run, by-append, word_plain, twice_long, doubled_least}
 use Rattle.st_changes.proofs.HeaderTexts.{ended, header_shape}

@@ -2,7 +2,7 @@
 use Rattle.std.proofs.Common.{◌≡◌, ◌-◌, arith, length-drop, true, List, ℕ, ◌++◌, length, take, drop, sym, ap, ◌∙◌, subst}
 use Rattle.std.specs.List.{starts_with}
 use Rattle.std.specs.Prelude.{nat_eq, Option, None}
-use Rattle.st_changes.specs.Runs.{FindsRun, IsRun}
+use Rattle.st_changes.specs.inside.Runs.{FindsRun, IsRun}
 use Rattle.st_changes.specs.declared.run.Run.{Run}
 use Rattle.std.specs.Cmp.Lexicographic.{bytes_decides}
 use Rattle.std.proofs.lemmas.List.{take-append-drop, take_all}

@@ -15,7 +15,7 @@ use Rattle.st_store.specs.Stored.{Stored, Begins, Opens, IsFirm, IsChosen}
 use Rattle.st_store.proofs.Turning.{came}
 use Rattle.st_store.proofs.Others.{changes_roots, image_changes}
 use Rattle.st_store.specs.declared.root.Root.{Root}
-use Rattle.st_changes.specs.States.{grown}
+use Rattle.st_changes.specs.inside.States.{grown}
 
 -- a file that keeps its first bytes begins as before
 begins_kept : (n : ℕ) (bytes : List ℕ) (old new : Option (List ℕ)) → Begins n bytes old → KeepsBelow n old new → Begins n bytes new

@@ -8,7 +8,7 @@ use Rattle.std.proofs.Math.Seq.{drop-append_seam}
 use Rattle.std.proofs.lemmas.Bool.{and_parts}
 use Rattle.st_chunk.proofs.Cases.{by_test}
 use Rattle.st_chunk.specs.Groups.{begins, is_name, Header, header_text, quotes_doubled}
-use Rattle.st_changes.specs.Runs.{doubled_by, IsRun}
+use Rattle.st_changes.specs.inside.Runs.{doubled_by, IsRun}
 use Rattle.st_changes.specs.Entries.{side_front, IsSide, IsHeader}
 use Rattle.st_changes.proofs.Marks.{quotes_are, one_run}
 

@@ -14,8 +14,9 @@ use Rattle.st_chunk.specs.Groups.{header_text}
 use Rattle.st_chunk.specs.Definitions.{Definition, IsDefinition, header_for, line_feed, method_part, entry, entries, definitions_in}
 use Rattle.st_chunk.proofs.Entries.{read_back}
 use Rattle.st_changes.specs.declared.span.Span.{Span}
-use Rattle.st_changes.specs.IndexStates.{IndexState, HasName, updated}
-use Rattle.st_changes.specs.Last.{HasSelector, FindsSelector, IsOf, IsNowhere, IsLast, Answers, IsPrepared, IsReady, text_place, span_of}
+use Rattle.st_changes.specs.inside.IndexStates.{IndexState, HasName, updated}
+use Rattle.st_changes.specs.Last.{HasSelector, FindsSelector, IsOf, IsNowhere, IsLast, Answers, text_place, span_of}
+use Rattle.st_changes.specs.inside.Prepared.{IsPrepared, IsReady}
 use Rattle.st_changes.proofs.ListTexts.{more_of, all_more}
 
 pub one_selector : (text s t : List ℕ) → HasSelector text s → HasSelector text t → s ≡ t

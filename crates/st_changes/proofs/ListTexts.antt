@@ -6,7 +6,7 @@ use Rattle.std.proofs.lemmas.List.{append-nil, map-append, take_more, take-appen
 use Rattle.std.proofs.lemmas.Bool.{cases_lt, eqb-true, eq-eqb}
 use Rattle.st_chunk.specs.Definitions.{Definition, IsDefinition, entry, entries}
 use Rattle.st_changes.specs.declared.definition.Definition as declared
-use Rattle.st_changes.specs.Views.{definition_of, definitions_of}
+use Rattle.st_changes.specs.inside.Views.{definition_of, definitions_of}
 use Rattle.st_changes.specs.Entries.{BeginsWith}
 use Rattle.st_changes.specs.Lists.{StandsAt}
 

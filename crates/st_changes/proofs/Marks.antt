@@ -9,7 +9,7 @@ use Rattle.std.proofs.Math.Seq.{take-suc}
 use Rattle.st_chunk.proofs.Cases.{by_test}
 use Rattle.st_chunk.specs.Texts.{mark, doubled}
 use Rattle.st_chunk.specs.Groups.{begins, quotes_doubled}
-use Rattle.st_changes.specs.Runs.{doubled_by, IsRun}
+use Rattle.st_changes.specs.inside.Runs.{doubled_by, IsRun}
 
 abbrev pub starts : ℕ → List ℕ → Bool
 starts q text = begins (λ b. b == q) text

@@ -10,7 +10,7 @@ use Rattle.std.proofs.lemmas.Bool.{and_parts, eqb-true}
 use Rattle.std.proofs.lemmas.Bool.Decides.{Decides-eqb, Decides-and, same_from_decides}
 use Rattle.std.proofs.lemmas.List.Quantifiers.{position-Some}
 use Rattle.st_changes.specs.declared.span.Span.{Span}
-use Rattle.st_changes.specs.IndexStates.{IndexState, number, same_key, found, updated, IsBounded}
+use Rattle.st_changes.specs.inside.IndexStates.{IndexState, number, same_key, found, updated, IsBounded}
 
 -- two names of one number are one
 same_name : (names : List (Vec ℕ Global)) (a b : List ℕ) (i : ℕ) → number names a ≡ Some i → number names b ≡ Some i → a ≡ b

@@ -14,7 +14,7 @@ use Rattle.st_store.proofs.Beside.{beside_kept, beside_makes}
 use Rattle.st_store.proofs.Others.{changes_roots, image_changes, changes_apart}
 use Rattle.st_chunk.specs.Definitions.{Definition, entry, entries}
 use Rattle.st_changes.specs.declared.definition.Definition as declared
-use Rattle.st_changes.specs.Views.{definition_of, definitions_of}
+use Rattle.st_changes.specs.inside.Views.{definition_of, definitions_of}
 use Rattle.st_changes.specs.Condensing.{Stays, Condenses, condensed, turned}
 use Rattle.st_changes.specs.Condensing as stays
 use Rattle.st_changes.proofs.Lasts.{entry_parts}

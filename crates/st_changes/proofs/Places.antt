@@ -5,7 +5,7 @@ use Rattle.std.proofs.Math.ListN.{length-map}
 use Rattle.std.proofs.lemmas.Bool.{cases_lt}
 use Rattle.st_chunk.specs.Definitions.{Definition, entry, entries}
 use Rattle.st_changes.specs.declared.definition.Definition as declared
-use Rattle.st_changes.specs.Views.{definition_of, definitions_of}
+use Rattle.st_changes.specs.inside.Views.{definition_of, definitions_of}
 use Rattle.st_changes.specs.Lists.{StandsAt}
 use Rattle.st_changes.proofs.ListTexts.{entries_more, entries_append, item_more}
 

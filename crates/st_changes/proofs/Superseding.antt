@@ -7,7 +7,7 @@ use Rattle.std.proofs.lemmas.Bool.Decides.{nat_tests}
 use Rattle.st_chunk.specs.Definitions.{Definition, entry, entries}
 use Rattle.st_changes.specs.declared.span.Span.{Span}
 use Rattle.st_changes.specs.declared.definition.Definition as declared
-use Rattle.st_changes.specs.Views.{definition_of, definitions_of}
+use Rattle.st_changes.specs.inside.Views.{definition_of, definitions_of}
 use Rattle.st_changes.specs.Last.{HasSelector, IsOf, IsNowhere, IsLast, text_place, span_of}
 use Rattle.st_changes.specs.Condensing.{IsSuperseded, IsNewest, Tells, Stays, kept_by}
 use Rattle.st_changes.specs.Condensing as stays

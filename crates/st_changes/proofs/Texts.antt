@@ -5,7 +5,7 @@ use Rattle.std.proofs.lemmas.List.{map-append, take-append-drop, take_all}
 use Rattle.st_chunk.specs.Definitions.{Definition, entry, entries}
 use Rattle.st_changes.specs.declared.span.Span.{Span}
 use Rattle.st_changes.specs.declared.definition.Definition as declared
-use Rattle.st_changes.specs.Views.{definition_of, definitions_of}
+use Rattle.st_changes.specs.inside.Views.{definition_of, definitions_of}
 use Rattle.st_changes.specs.Lists.{IsAt}
 use Rattle.st_changes.specs.Last.{IsOf, IsNowhere, IsLast, IsLastText}
 use Rattle.st_changes.proofs.Lasts.{entry_parts}

@@ -3,11 +3,9 @@ use Rattle.std.specs.Prelude.{◌≡◌, ℕ, ◌≤◌, ◌&&◌, Bool, not, na
 use Rattle.st_chunk.specs.Texts.{mark, most, doubled, is_blank}
 use Rattle.st_chunk.specs.Groups.{begins, is_name, Header, header_text, side_text}
 use Rattle.st_chunk.specs.Definitions.{Definition, IsDefinition, line_feed, entry}
-use Rattle.st_changes.specs.Views.{definition_of}
 use Rattle.st_changes.specs.declared.header.Header as headers
 use Rattle.st_changes.specs.declared.entry.Head.{Head}
 use Rattle.st_changes.specs.declared.entry.Method.{Method}
-use Rattle.st_changes.specs.declared.entry.Found.{Found}
 
 -- HEADERS
 
@@ -73,12 +71,3 @@ FindsMethod text (Some method) = IsFoundMethod text method
 pub record BeginsWith (d : Definition) (text behind : List ℕ) : Type 0 where
   pub good : IsDefinition d
   pub is : text ≡ entry d ++ behind
-
-pub record IsFound (text : List ℕ) (found : Found) : Type 0 where
-  pub is : BeginsWith (definition_of found.definition) text (drop found.length text)
-  pub within : found.length ≤ length text
-
--- the definition whose entry the text begins with was found, or it begins with none
-abbrev pub FindsEntry : List ℕ → Option Found → Type 0
-FindsEntry text None = (d : Definition) (behind : List ℕ) → BeginsWith d text behind → ⊥
-FindsEntry text (Some found) = IsFound text found

@@ -1,14 +1,13 @@
 -- The last definition of a class, a side of it and a selector, and where its text stands in the changes file.
-use Rattle.std.specs.Prelude.{◌≡◌, ℕ, ◌+◌, ◌-◌, ◌≤◌, Bool, List, ◌∷◌, ◌++◌, length, Option, Some, None, Ok, MatchOption, All, Vec}
+use Rattle.std.specs.Prelude.{◌≡◌, ℕ, ◌+◌, ◌-◌, Bool, List, ◌∷◌, ◌++◌, length, Option, Some, None, Ok, MatchOption, All, Vec}
 use Rattle.std.specs.Global.{Global}
-use Rattle.std.specs.Option.{ForSome, option_map}
+use Rattle.std.specs.Option.{option_map}
 use Rattle.std.specs.List.{AllZip}
 use Rattle.st_scan.specs.Views.{MethodView}
 use Rattle.st_grammar.specs.Syntax.{syntax}
 use Rattle.st_chunk.specs.Texts.{doubled}
 use Rattle.st_chunk.specs.Groups.{header_text}
-use Rattle.st_chunk.specs.Definitions.{Definition, IsDefinition, header_for, entry, entries}
-use Rattle.st_changes.specs.IndexStates.{IndexState, HasName}
+use Rattle.st_chunk.specs.Definitions.{Definition, header_for, entries}
 use Rattle.st_changes.specs.declared.span.Span.{Span}
 
 -- the text means a tree of this selector
@@ -76,18 +75,3 @@ Answers ds f = (class : List ℕ) (meta : Bool) (selector : List ℕ) → MatchO
 -- where a definition's text stands if its entry ends at this place
 abbrev pub span_of : Definition → ℕ → Span
 span_of d end = let n = length (doubled d.text) in record { at = end - 4 - n; length = n }
-
--- the index has room for this class and selector
-pub record HasPlace (index : IndexState) (class selector : List ℕ) : Type 0 where
-  pub class_named : HasName index class
-  pub selector_named : HasName index selector
-  pub room : 1 ≤ index.room
-
--- this is the definition's selector, or it has none, and the index has room for it
-pub record IsPrepared (index : IndexState) (d : Definition) (selector : Option (List ℕ)) : Type 0 where
-  pub finds : FindsSelector d.text selector
-  pub place : ForSome selector (HasPlace index d.class)
-
--- what was prepared, for the definition whose entry these bytes are
-abbrev pub IsReady : IndexState → List ℕ → Option (List ℕ) → Type 0
-IsReady index bytes selector = (d : Definition) → IsDefinition d → bytes ≡ entry d → IsPrepared index d selector

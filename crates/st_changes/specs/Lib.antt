@@ -1,11 +1,5 @@
-pub mod Runs
-pub mod Views
 pub mod Entries
 pub mod Lists
 pub mod Last
-pub mod Readying
-pub mod States
-pub mod IndexStates
-pub mod Indexing
 pub mod Condensing
-pub mod Writing
+pub mod inside

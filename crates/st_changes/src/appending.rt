@@ -4,7 +4,7 @@ ghost use Rattle.st_host.specs.{Counts.HasCause, Runs.{Changes as ChangesFile, C
 ghost use Rattle.st_store.specs.{Names.{roots_file, changes_file}, Stored.{Stored, Opens, IsFirm, IsKept}};
 ghost use Rattle.st_store.specs.Faults.{RestsUnlessGate};
 ghost use Rattle.st_chunk.specs.Definitions.{IsDefinition, entry, entries};
-ghost use Rattle.st_changes.specs.{Views.definition_of, States.{grown, next_store, FitsBehind}};
+ghost use Rattle.st_changes.specs.{inside.Views.definition_of, inside.States.{grown, next_store, FitsBehind}};
 
 use crate::Definition;
 use crate::changes::{Changes, Ready};

@@ -32,12 +32,12 @@ pub struct Changes {
 impl Model for Changes {
     ghost use Rattle.std.specs.Prelude.{All, string_bytes};
     ghost use Rattle.std.specs.Vec.{vec_len, vec_capacity};
-    ghost use Rattle.st_changes.specs.Views.{definitions_of};
-    ghost use Rattle.st_changes.specs.States.{ChangesState, IsTotal, HasRoom};
-    ghost use Rattle.st_changes.specs.Readying.{reserved_of, IsReadyFor};
+    ghost use Rattle.st_changes.specs.inside.Views.{definitions_of};
+    ghost use Rattle.st_changes.specs.inside.States.{ChangesState, IsTotal, HasRoom};
+    ghost use Rattle.st_changes.specs.inside.Readying.{reserved_of, IsReadyFor};
     ghost use Rattle.st_changes.specs.Last.{Answers};
     ghost use Rattle.st_chunk.specs.Definitions.{IsDefinition};
-    ghost use Rattle.st_changes.specs.IndexStates.{found};
+    ghost use Rattle.st_changes.specs.inside.IndexStates.{found};
 
     ghost Value = { ChangesState };
 
@@ -61,8 +61,8 @@ const LIMIT: u64 = 1 << 30;
 impl Changes {
     ghost use Rattle.std.specs.Prelude.{◌≡◌, ◌≤◌, ◌↔◌, Some, All, IsTrue, OnOk, OnErr, MatchOption, length, take};
     ghost use Rattle.st_chunk.specs.Definitions.{IsDefinition, entry, entries};
-    ghost use Rattle.st_changes.specs.Views.{definition_of, definitions_of};
-    ghost use Rattle.st_changes.specs.States.{FitsBehind};
+    ghost use Rattle.st_changes.specs.inside.Views.{definition_of, definitions_of};
+    ghost use Rattle.st_changes.specs.inside.States.{FitsBehind};
     ghost use Rattle.st_changes.specs.Lists.{StandsAt};
     ghost use Rattle.std.specs.Option.{option_map};
     ghost use Rattle.st_changes.specs.Last.{FindsSelector, IsNowhere, IsLast, IsLastText};

@@ -1,12 +1,12 @@
 // Dropping the definitions that later ones supersede.
 ghost use Rattle.std.specs.Prelude.{◌≡◌, ◌⊎◌, ◌≤◌, ◌+◌, ◌<◌, ◌^◌, ◌++◌, ◌∷◌, [], List, All, IfOk, get_or, true, Some, Err, IsTrue, IsErr, OnErr, OnOk, nat_lt, length, take, drop};
-ghost use Rattle.st_host.specs.Pieces.{end_of, Pushes};
+ghost use Rattle.st_host.specs.inside.Pieces.{end_of, Pushes};
 ghost use Rattle.st_host.specs.Runs.{IsSynced, WritesAbove, Makes, ChangesBoth, IsAtRest};
 ghost use Rattle.st_host.specs.declared.file_fault.FileFault.TheVariants.{OutOfMemory};
 ghost use Rattle.st_store.specs.{Names.{roots_file, changes_file}, Stored.{Stored, Opens, IsKept}};
 ghost use Rattle.st_store.specs.Faults.{RestsUnlessGate};
-ghost use Rattle.st_changes.specs.{Writing.{Extends, CondenseHasCause}, Lists.StandsAt, IndexStates.found};
-ghost use Rattle.st_changes.specs.{Views.{definition_of, definitions_of}, Last.Answers};
+ghost use Rattle.st_changes.specs.{inside.Writing.{Extends, CondenseHasCause}, Lists.StandsAt, inside.IndexStates.found};
+ghost use Rattle.st_changes.specs.{inside.Views.{definition_of, definitions_of}, Last.Answers};
 ghost use Rattle.st_changes.specs.Condensing.{Tells, Stays, kept_by, turned, Condenses, condensed};
 ghost use Rattle.st_chunk.specs.Definitions.{Definition as Defined, IsDefinition, entry, entries};
 

@@ -1,7 +1,7 @@
 // Definitions by places of their changes file: how many stand before one, and the one whose entry has it.
 ghost use Rattle.std.specs.Prelude.{◌≡◌, ◌≤◌, All, length, take};
 ghost use Rattle.st_chunk.specs.Definitions.{Definition as Defined, IsDefinition, entries};
-ghost use Rattle.st_changes.specs.Views.{definition_of, definitions_of};
+ghost use Rattle.st_changes.specs.inside.Views.{definition_of, definitions_of};
 ghost use Rattle.st_changes.specs.Lists.{StandsAt, IsAt};
 
 use crate::Definition;

@@ -1,7 +1,8 @@
 // The entries of a changes file.
 ghost use Rattle.std.specs.Prelude.{IfOk, ◌≡◌};
 ghost use Rattle.st_chunk.specs.Texts.{is_blank};
-ghost use Rattle.st_changes.specs.Entries.{FindsHead, FindsMethod, FindsEntry, is_text};
+ghost use Rattle.st_changes.specs.Entries.{FindsHead, FindsMethod, is_text};
+ghost use Rattle.st_changes.specs.inside.FoundEntries.{FindsEntry};
 
 use crate::Definition;
 use crate::header::{Header, find_header};

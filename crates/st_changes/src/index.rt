@@ -1,6 +1,6 @@
 // An index of spans.
 ghost use Rattle.std.specs.Prelude.{◌≡◌, ◌≤◌, ℕ, Bool, List, OnOk, Some, None};
-ghost use Rattle.st_changes.specs.IndexStates.{found, HasName, updated};
+ghost use Rattle.st_changes.specs.inside.IndexStates.{found, HasName, updated};
 
 use crate::Span;
 use indexmap::{IndexMap, IndexSet};
@@ -18,7 +18,7 @@ pub struct Index {
 
 impl Model for Index {
     ghost use Rattle.std.specs.HashMap.{spare};
-    ghost use Rattle.st_changes.specs.IndexStates.{IndexState, IsBounded};
+    ghost use Rattle.st_changes.specs.inside.IndexStates.{IndexState, IsBounded};
 
     ghost Value = { IndexState };
 

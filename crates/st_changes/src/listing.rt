@@ -1,6 +1,6 @@
 // The definitions of a changes file, in order.
 ghost use Rattle.std.specs.Prelude.{◌≡◌, ◌++◌, ◌∷◌, [], IfOk, OnOk, MatchResult};
-ghost use Rattle.st_changes.specs.Views.{definitions_of};
+ghost use Rattle.st_changes.specs.inside.Views.{definitions_of};
 ghost use Rattle.st_changes.specs.Lists.{Lists, IsDamaged};
 
 use crate::Definition;
@@ -58,8 +58,8 @@ pub struct Listing {
 
 impl Model for Listing {
     ghost use Rattle.std.specs.Prelude.{All, string_bytes};
-    ghost use Rattle.st_changes.specs.Views.{definitions_of};
-    ghost use Rattle.st_changes.specs.States.{ChangesState, IsTotal, unreserved};
+    ghost use Rattle.st_changes.specs.inside.Views.{definitions_of};
+    ghost use Rattle.st_changes.specs.inside.States.{ChangesState, IsTotal, unreserved};
     ghost use Rattle.st_chunk.specs.Definitions.{IsDefinition};
 
     ghost Value = { ChangesState };
@@ -73,7 +73,7 @@ impl Model for Listing {
 impl Listing {
     ghost use Rattle.std.specs.Prelude.{◌≡◌, ◌++◌, IfOk, length};
     ghost use Rattle.st_chunk.specs.Definitions.{entries};
-    ghost use Rattle.st_changes.specs.{Views.definitions_of, Lists.StandsAt, Last.FindsLast};
+    ghost use Rattle.st_changes.specs.{inside.Views.definitions_of, Lists.StandsAt, Last.FindsLast};
 
     /// The definitions before a place of the changes file, and those from it on. The place, in bytes from 0, is the first byte of an
     /// entry, or the end.

@@ -2,8 +2,8 @@
 ghost use Rattle.std.specs.Prelude.{◌≡◌, ◌≤◌, ◌+◌, ◌<◌, ◌^◌, ◌++◌, ◌∷◌, [], ℕ, Bool, List, All, IfOk, OnOk, length};
 ghost use Rattle.std.specs.Option.{option_map};
 ghost use Rattle.st_chunk.specs.Definitions.{Definition as Defined, IsDefinition, entry, entries};
-ghost use Rattle.st_changes.specs.{IndexStates.{found, HasName}, Views.{definition_of, definitions_of}};
-ghost use Rattle.st_changes.specs.{Last.{IsPrepared, Answers, FindsSelector, FindsLast, span_of}, Indexing.Indexes};
+ghost use Rattle.st_changes.specs.{inside.IndexStates.{found, HasName}, inside.Views.{definition_of, definitions_of}};
+ghost use Rattle.st_changes.specs.{inside.Prepared.IsPrepared, Last.{Answers, FindsSelector, FindsLast, span_of}, inside.Indexing.Indexes};
 
 use crate::Definition;
 use crate::index::Index;

@@ -1,6 +1,6 @@
 // Bytes up to a mark that stands alone, where two marks stand for one.
 ghost use Rattle.std.specs.Prelude.{IfOk};
-ghost use Rattle.st_changes.specs.Runs.{FindsRun};
+ghost use Rattle.st_changes.specs.inside.Runs.{FindsRun};
 
 use st_scan::Text;
 use std::alloc::{AllocError, Global};

@@ -1,7 +1,7 @@
 // The text of an entry, and its length.
 ghost use Rattle.std.specs.Prelude.{◌≡◌, ◌≤◌, ◌++◌, ◌^◌, IfOk, OnOk, length};
 ghost use Rattle.st_chunk.specs.{Groups.header_text, Definitions.{header_for, IsDefinition, entry}};
-ghost use Rattle.st_changes.specs.{Runs.doubled_by, Views.definition_of, Entries.side_front};
+ghost use Rattle.st_changes.specs.{inside.Runs.doubled_by, inside.Views.definition_of, Entries.side_front};
 
 use crate::Definition;
 use st_scan::Text;

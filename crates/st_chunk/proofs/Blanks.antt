@@ -5,7 +5,7 @@ use Rattle.std.proofs.lemmas.List.{reverse-append, reverse-reverse, take_all}
 use Rattle.std.proofs.Math.Seq.{take-suc}
 use Rattle.st_chunk.specs.Texts.{is_blank}
 use Rattle.st_chunk.specs.Groups.{after_blanks}
-use Rattle.st_chunk.specs.Headings.{before_blanks}
+use Rattle.st_chunk.specs.inside.Headings.{before_blanks}
 use Rattle.st_chunk.proofs.Cases.{by_test}
 
 one : (n : ℕ) → 1 + n ≡ suc n

@@ -4,7 +4,7 @@ use Rattle.std.specs.Prelude.{Option, Some, None, codes}
 use Rattle.std.specs.Option.{option_map, option_and_then}
 use Rattle.std.proofs.lemmas.List.{take_all, drop_all, take-append-le, drop-append-le, take-append-drop}
 use Rattle.st_chunk.specs.Groups.{is_name, word_of, behind_word, behind, behind_blanks, inside_quotes, unquoted, with_category, with_side, header_in}
-use Rattle.st_chunk.specs.Headings.{class_side_in, category_in, heading_in}
+use Rattle.st_chunk.specs.inside.Headings.{class_side_in, category_in, heading_in}
 use Rattle.st_chunk.proofs.Cases.{by_test}
 
 pub no_name : (text : List ℕ) → is_name (word_of text) ≡ false → header_in text ≡ None

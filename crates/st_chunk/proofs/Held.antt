@@ -11,7 +11,7 @@ use Rattle.st_chunk.specs.declared.progress.Progress.{Progress}
 use Rattle.st_chunk.specs.Asks.{Ask}
 use Rattle.st_chunk.specs.Lines.{line_ask}
 use Rattle.st_chunk.specs.Reading.{behind_line}
-use Rattle.st_chunk.specs.Progress.{heading_of, place_in}
+use Rattle.st_chunk.specs.inside.Progress.{heading_of, place_in}
 use Rattle.st_chunk.specs.Scripts.{method_of, IsBrowsed, HasAsk, IsDefined, IsSound}
 use Rattle.st_chunk.proofs.Blanks.{tail_whole}
 

@@ -10,7 +10,7 @@ use Rattle.st_chunk.specs.Feeding.{State}
 use Rattle.st_chunk.specs.Groups.{begins, is_name, after_blanks, trimmed, word_of, behind_word, behind, behind_blanks, quotes_doubled, inside_quotes, behind_quote, unquoted, Header, side_text, header_text, with_category, with_side, header_in, header_of}
 use Rattle.st_chunk.specs.Definitions.{IsDefinition}
 use Rattle.st_chunk.specs.Scripts.{method_of, IsHeading}
-use Rattle.st_chunk.specs.Headings.{class_side_in, category_in}
+use Rattle.st_chunk.specs.inside.Headings.{class_side_in, category_in}
 use Rattle.st_chunk.proofs.Cases.{by_test}
 
 -- PARTS OF A HEADER

@@ -4,7 +4,7 @@ use Rattle.st_host.specs.Files.{bytes_of}
 use Rattle.st_host.specs.Runs.{Writes}
 use Rattle.st_host.specs.declared.host.Host.{Ghosts}
 use Rattle.st_host.proofs.Touching.{write_above, above_join}
-use Rattle.st_chunk.specs.Writing.{WritesBehind}
+use Rattle.st_chunk.specs.inside.Writing.{WritesBehind}
 
 module _ {D : Type 0} (host : Ghosts D) (name : List ℕ) where
   -- one write at the place

@@ -2,11 +2,8 @@ pub mod Texts
 pub mod Feeding
 pub mod Groups
 pub mod Definitions
-pub mod Writing
 pub mod Asks
 pub mod Lines
 pub mod Reading
 pub mod Scripts
-pub mod Headings
-pub mod Progress
-pub mod ScriptDefinitions
+pub mod inside

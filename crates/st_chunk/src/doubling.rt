@@ -5,7 +5,7 @@ ghost use Rattle.st_host.specs.Counts.{HasCause};
 ghost use Rattle.st_host.specs.Files.{IsWritten};
 ghost use Rattle.st_host.specs.Runs.{Writes};
 ghost use Rattle.st_chunk.specs.Texts.{doubled};
-ghost use Rattle.st_chunk.specs.Writing.{WritesBehind};
+ghost use Rattle.st_chunk.specs.inside.Writing.{WritesBehind};
 
 use st_host::{Host, HostFault, write_bytes};
 

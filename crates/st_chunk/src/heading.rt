@@ -5,7 +5,7 @@ ghost use Rattle.std.specs.Char.{is_ascii_alphanumeric};
 ghost use Rattle.std.specs.Option.{option_map};
 ghost use Rattle.st_chunk.specs.Texts.{is_blank, most};
 ghost use Rattle.st_chunk.specs.Groups.{begins, after_blanks, trimmed, is_name, word_of, behind_word, behind, behind_blanks, with_side, with_category};
-ghost use Rattle.st_chunk.specs.Headings.{before_blanks, FindsHeading, Unquotes, class_side_in, category_in};
+ghost use Rattle.st_chunk.specs.inside.Headings.{before_blanks, FindsHeading, Unquotes, class_side_in, category_in};
 
 use crate::buffer::Buffer;
 use crate::line::is_blank;

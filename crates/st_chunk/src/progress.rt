@@ -7,7 +7,7 @@ ghost use Rattle.st_chunk.specs.Groups.{header_of};
 ghost use Rattle.st_chunk.specs.Reading.{is_last, wrong, line_ended, line_byte, opened_byte, too_long, header_ended, header_byte};
 ghost use Rattle.st_chunk.specs.Reading.{method_ended, method_byte, blanks_byte, behind_blanks_byte, header_at_end, method_at_end};
 ghost use Rattle.st_chunk.specs.Reading.{byte_in, read, end_read};
-ghost use Rattle.st_chunk.specs.Progress.{heading_of, place_in, reading_of, Tells, IsKept};
+ghost use Rattle.st_chunk.specs.inside.Progress.{heading_of, place_in, reading_of, Tells, IsKept};
 ghost use Rattle.st_chunk.specs.Lines.{line_request};
 
 use crate::buffer::Buffer;

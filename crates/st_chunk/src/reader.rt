@@ -38,7 +38,7 @@ pub struct Reader {
 impl Model for Reader {
     ghost use Rattle.st_chunk.specs.Reading.{Reading};
     ghost use Rattle.st_chunk.specs.Scripts.{IsSound};
-    ghost use Rattle.st_chunk.specs.Progress.{reading_of, IsKept};
+    ghost use Rattle.st_chunk.specs.inside.Progress.{reading_of, IsKept};
 
     ghost Value = { Reading };
 
@@ -49,7 +49,7 @@ impl Model for Reader {
 
 impl Reader {
     ghost use Rattle.st_chunk.specs.Asks.{ask_of};
-    ghost use Rattle.st_chunk.specs.ScriptDefinitions.{definition_of};
+    ghost use Rattle.st_chunk.specs.inside.ScriptDefinitions.{definition_of};
 
     /// The beginning of a script.
     pub fn new(alloc: Global) -> Result<Reader, AllocError>

@@ -16,7 +16,7 @@ use Rattle.st_model.specs.View.{View, IsWhole, is_live, object_of, nothing}
 use Rattle.st_model.proofs.Roots.{any_either, any_left, any_right}
 use Rattle.st_model.proofs.WholeLemmas.{live_used}
 use Rattle.st_clean.specs.declared.state.Found.{Found}
-use Rattle.st_clean.specs.Found.{Notes, Has, names_in, page_names, first_names}
+use Rattle.st_clean.specs.inside.Found.{Notes, Has, names_in, page_names, first_names}
 use Rattle.st_clean.specs.Reach as reaches
 use Rattle.st_clean.specs.Reach.{Reaches, IsReach, IsClosed}
 

@@ -17,7 +17,7 @@ use Rattle.st_model.specs.Start.{idle_state}
 use Rattle.st_model.specs.Table.{Table, table, entry, settled_table, total_used}
 use Rattle.st_model.specs.View.{View, Held, IsWhole, is_live, held_at, nothing_held, no_devices, idle_devices}
 use Rattle.st_model.proofs.SettledLemmas.{settled-entry}
-use Rattle.st_image.specs.Back.{CanStart}
+use Rattle.st_image.specs.inside.Back.{CanStart}
 use Rattle.st_image.specs.HeadValues.{no_values, head_over}
 use Rattle.st_image.proofs.Back.{formed}
 use Rattle.st_model.specs.Faults.{IsWellFormed}

@@ -9,7 +9,7 @@ use Rattle.st_model.specs.Values.{Value, Small, Ref, value, is_small}
 use Rattle.st_model.specs.Settled.{AnyRefTo, is_marked}
 use Rattle.st_model.proofs.Roots.{any_either, any_left, any_right}
 use Rattle.st_clean.specs.declared.state.Found.{Found}
-use Rattle.st_clean.specs.Found.{Notes, left, Has, IsOneOf}
+use Rattle.st_clean.specs.inside.Found.{Notes, left, Has, IsOneOf}
 
 -- MARKS
 

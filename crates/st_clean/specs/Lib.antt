@@ -1,4 +1,4 @@
 pub mod Reach
-pub mod Found
 pub mod Filling
 pub mod Cleaning
+pub mod inside

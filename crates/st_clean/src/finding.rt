@@ -1,7 +1,7 @@
 ghost use Rattle.std.specs.Prelude.{◌≡◌, ◌∷◌, [], ℕ, length, map, IfOk, OnOk, true, false};
 ghost use Rattle.st_model.specs.{Values.value, Settled.is_marked, Machine.table_root};
 ghost use Rattle.st_model.specs.View.{is_live, object_of, table_of};
-ghost use Rattle.st_clean.specs.Found.{Notes, names_in, page_names, first_names};
+ghost use Rattle.st_clean.specs.inside.Found.{Notes, names_in, page_names, first_names};
 
 use crate::marks::no_marks;
 use crate::state::Found;

@@ -2,7 +2,7 @@
 
 ghost use Rattle.std.specs.Prelude.{◌≡◌, ℕ, Bool, IsTrue};
 ghost use Rattle.st_model.specs.{Machine.Head, Table.Table, Faults.IsWellFormed, View.{View, IsWhole}};
-ghost use Rattle.st_image.specs.{Back.CanStart, HeadValues.{head_over, no_values}};
+ghost use Rattle.st_image.specs.{inside.Back.CanStart, HeadValues.{head_over, no_values}};
 ghost use Rattle.st_clean.specs.{Cleaning.image_only, Filling.only, Reach.{IsReach, IsClosed}};
 
 /// What is reached is closed under referring, and lies in every set that is.

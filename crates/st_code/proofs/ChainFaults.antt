@@ -2,11 +2,11 @@
 -- messages from the inside out. So the walk is two loops.
 use Rattle.std.proofs.Common.{◌≡◌, List, [], ◌∷◌, Option, Some, None, refl, sym, ap, ◌∙◌}
 use Rattle.st_scan.specs.Views.{ExpressionView}
-use Rattle.st_scan.specs.Chains.{LinkView, assigned, sent, with_link, linked}
+use Rattle.st_scan.specs.inside.Chains.{LinkView, assigned, sent, with_link, linked}
 use Rattle.st_code.specs.declared.fault.Fault.{Fault}
 use Rattle.st_emit.specs.Names.{NamesView, Scope, or_else}
 use Rattle.st_code.specs.Faults.{store_fault, expression_fault, messages_fault}
-use Rattle.st_code.specs.ChainFaults.{targets_fault, all_sent_fault}
+use Rattle.st_code.specs.inside.ChainFaults.{targets_fault, all_sent_fault}
 
 pub or_none : (f : Option Fault) → or_else f None ≡ f
 or_none None = refl

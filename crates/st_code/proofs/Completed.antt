@@ -7,12 +7,12 @@ use Rattle.st_emit.specs.declared.level.Level.{Level}
 use Rattle.st_emit.specs.Names.{NamesView}
 use Rattle.st_emit.specs.Literals.{LiteralView}
 use Rattle.st_emit.specs.Steps.{all_bytes}
-use Rattle.st_emit.specs.Views.{literal_view, literals_view}
+use Rattle.st_emit.specs.inside.Views.{literal_view, literals_view}
 use Rattle.st_code.specs.declared.simple.Simple.{Simple}
 use Rattle.st_code.specs.declared.method.MethodDraft.{MethodDraft}
 use Rattle.st_code.specs.Methods.{PartsView, body, steps, literals, variables, depth, simple, flag_of, count_of, room_bit, header, parts}
-use Rattle.st_code.specs.Simple.{simple_by}
-use Rattle.st_code.specs.MethodDrafts.{IsWhole, header_of}
+use Rattle.st_code.specs.inside.Simple.{simple_by}
+use Rattle.st_code.specs.inside.MethodDrafts.{IsWhole, header_of}
 use Rattle.st_code.proofs.ShortCode.{simple_by_nodes}
 
 -- what a method's instructions say of it

@@ -5,12 +5,12 @@ use Rattle.std.proofs.lemmas.List.{at_drop_more, take_more, length-map, length-t
 use Rattle.st_scan.specs.declared.tree.Name.{Name}
 use Rattle.st_scan.specs.declared.chain.Link.{Link}
 use Rattle.st_scan.specs.Views.{NameView, name_view, names_view}
-use Rattle.st_scan.specs.Chains.{LinkView, link_view, links_view}
+use Rattle.st_scan.specs.inside.Chains.{LinkView, link_view, links_view}
 use Rattle.st_code.specs.declared.fault.Fault.{Fault}
 use Rattle.st_code.specs.declared.fault.Cause.TheVariants.{Twice}
 use Rattle.st_emit.specs.Names.{NamesView, Scope, Declared, numbered, declared, declared_as, or_else, is_among}
 use Rattle.st_code.specs.Faults.{declare_fault, fault_at}
-use Rattle.st_code.specs.ChainFaults.{among_fault, target_fault, targets_fault}
+use Rattle.st_code.specs.inside.ChainFaults.{among_fault, target_fault, targets_fault}
 use Rattle.st_code.specs.declared.fault.CodeFault.{CodeFault}
 use Rattle.st_code.specs.Reported.{IsFault}
 use Rattle.st_code.proofs.ChainFaults.{or_assoc}

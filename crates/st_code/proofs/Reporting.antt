@@ -4,10 +4,10 @@ use Rattle.st_code.specs.declared.fault.Fault.{Fault}
 use Rattle.st_code.specs.declared.fault.CodeFault.{CodeFault}
 use Rattle.st_code.specs.declared.fault.CodeFault.TheVariants.{At, OutOfMemory}
 use Rattle.st_scan.specs.Views.{ExpressionView}
-use Rattle.st_scan.specs.Chains.{LinkView, linked}
+use Rattle.st_scan.specs.inside.Chains.{LinkView, linked}
 use Rattle.st_emit.specs.Names.{NamesView, Scope, or_else}
 use Rattle.st_code.specs.Faults.{expression_fault}
-use Rattle.st_code.specs.ChainFaults.{targets_fault, all_sent_fault}
+use Rattle.st_code.specs.inside.ChainFaults.{targets_fault, all_sent_fault}
 use Rattle.st_code.proofs.ChainFaults.{chain_fault}
 use Rattle.st_code.specs.Reported.{IsFault, Reports}
 

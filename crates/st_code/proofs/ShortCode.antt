@@ -10,7 +10,7 @@ use Rattle.st_emit.specs.Nodes.{Node, Body, nothing, last, next, returned, Messa
 use Rattle.st_emit.specs.Nodes as nodes
 use Rattle.st_emit.specs.Emitting.{for_value, for_effect, code_of, messages_code, method_code, return_code}
 use Rattle.st_code.specs.Methods.{simple}
-use Rattle.st_code.specs.Simple.{simple_by}
+use Rattle.st_code.specs.inside.Simple.{simple_by}
 
 -- SOME INSTRUCTIONS
 

@@ -4,7 +4,7 @@ ghost use Rattle.std.specs.Prelude.{◌≡◌, ◌≤◌, ◌++◌, true, IfOk, 
 ghost use Rattle.st_emit.specs.Steps.{reaches, all_reach, sends_super, push_bytes, pop_bytes, long_place};
 ghost use Rattle.st_emit.specs.Steps.{constant_byte, small_byte, return_byte, send_bytes, long_send};
 ghost use Rattle.st_emit.specs.Steps.{long_jump, jump_bytes, bytes_of, all_bytes};
-ghost use Rattle.st_code.specs.Coded.{code_view};
+ghost use Rattle.st_code.specs.inside.Coded.{code_view};
 
 use st_emit::{Constant, Place, Step};
 use st_scan::Text;

@@ -5,13 +5,13 @@ ghost use Rattle.std.specs.Prelude.{◌≡◌, []};
 ghost use Rattle.st_scan.specs.Views.{number, name_view, names_view as list_view, content_view};
 ghost use Rattle.st_scan.specs.Views.{elements_view, expression_view, expressions_view, messages_view};
 ghost use Rattle.st_scan.specs.Views.{statements_view};
-ghost use Rattle.st_scan.specs.Chains.{link_view, links_view, IsStart};
+ghost use Rattle.st_scan.specs.inside.Chains.{link_view, links_view, IsStart};
 ghost use Rattle.st_code.specs.Faults.{read_fault, store_fault, declare_fault, content_fault, elements_fault};
 ghost use Rattle.st_code.specs.Faults.{expression_fault, expressions_fault, messages_fault, statements_fault};
-ghost use Rattle.st_emit.specs.NameViews.{scope_view};
-ghost use Rattle.st_code.specs.ChainFaults.{target_fault, targets_fault, all_sent_fault};
+ghost use Rattle.st_emit.specs.inside.NameViews.{scope_view};
+ghost use Rattle.st_code.specs.inside.ChainFaults.{target_fault, targets_fault, all_sent_fault};
 ghost use Rattle.st_code.specs.Reported.{Reports};
-ghost use Rattle.st_code.specs.Arounds.{looked_up, walked, once_fault, block_around, chained};
+ghost use Rattle.st_code.specs.inside.Arounds.{looked_up, walked, once_fault, block_around, chained};
 
 use crate::fault::{Cause, CodeFault, Fault};
 use st_emit::{

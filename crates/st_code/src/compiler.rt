@@ -2,10 +2,10 @@
 
 ghost use Rattle.std.specs.Prelude.{◌≡◌, ◌+◌, ◌*◌, ◌++◌, None, IfOk, IfErr, OnOk};
 ghost use Rattle.st_scan.specs.Views.{method_view};
-ghost use Rattle.st_emit.specs.NameViews.{names_view};
-ghost use Rattle.st_emit.specs.Views.{literal_view};
+ghost use Rattle.st_emit.specs.inside.NameViews.{names_view};
+ghost use Rattle.st_emit.specs.inside.Views.{literal_view};
 ghost use Rattle.st_code.specs.Methods.{extension, primitive_fault, fault};
-ghost use Rattle.st_code.specs.MethodDrafts.{HasLast, IsWhole, IsWithin, header_of, IsCodeOf};
+ghost use Rattle.st_code.specs.inside.MethodDrafts.{HasLast, IsWhole, IsWithin, header_of, IsCodeOf};
 ghost use Rattle.st_code.specs.Reported.{IsFault, Reports};
 
 use crate::bytes::{all_bytes, sends_super};

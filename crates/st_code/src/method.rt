@@ -2,9 +2,9 @@
 
 ghost use Rattle.std.specs.Prelude.{◌≡◌, ◌++◌, IfOk};
 ghost use Rattle.st_scan.specs.Views.{method_view, names_view as list_view};
-ghost use Rattle.st_emit.specs.NameViews.{names_view, frame_view, scope_view};
+ghost use Rattle.st_emit.specs.inside.NameViews.{names_view, frame_view, scope_view};
 ghost use Rattle.st_code.specs.Faults.{declare_fault, method_fault};
-ghost use Rattle.st_code.specs.MethodDrafts.{IsBody};
+ghost use Rattle.st_code.specs.inside.MethodDrafts.{IsBody};
 ghost use Rattle.st_code.specs.Reported.{Reports};
 
 use crate::checking::{declare, statements};

@@ -3,7 +3,7 @@
 ghost use Rattle.std.specs.Prelude.{◌≡◌, ◌≤◌};
 ghost use Rattle.st_scan.specs.Views.{method_view};
 ghost use Rattle.st_code.specs.Methods.{simple_flag, flag_of, count_of};
-ghost use Rattle.st_code.specs.Simple.{simple_by};
+ghost use Rattle.st_code.specs.inside.Simple.{simple_by};
 
 use st_emit::{Constant, Place, Step};
 use st_scan::MethodTree;

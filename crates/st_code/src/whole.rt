@@ -2,7 +2,7 @@
 
 ghost use Rattle.std.specs.Prelude.{◌≡◌, ◌+◌, ◌*◌, ◌≤◌, IfOk, OnOk};
 ghost use Rattle.st_code.specs.Methods.{passes, symbols_fault, primitive_fault, room_bit};
-ghost use Rattle.st_code.specs.MethodDrafts.{bounds_of, size_with, IsWithin};
+ghost use Rattle.st_code.specs.inside.MethodDrafts.{bounds_of, size_with, IsWithin};
 ghost use Rattle.st_code.specs.Reported.{Reports, reported};
 
 use crate::bytes::all_reach;

@@ -4,7 +4,7 @@ use Rattle.st_model.specs.Machine.{World}
 use Rattle.st_model.specs.View.{View, Held}
 use Rattle.st_frames.specs.declared.frame.Frame.{Frame}
 use Rattle.st_frames.specs.Naming.{naming}
-use Rattle.st_frames.specs.Shown.{IsFrame, IsReady}
+use Rattle.st_frames.specs.inside.Shown.{IsFrame, IsReady}
 
 held_by : (v u : View) (f : Frame) (k : Held) → k.active ≡ v.held.active → k.home ≡ v.held.home → k.method ≡ v.held.method → k.receiver ≡ v.held.receiver
     → u.held ≡ k → IsFrame v f → IsFrame u f

@@ -6,10 +6,10 @@ use Rattle.st_model.specs.Steps.{get_active, get_home}
 use Rattle.st_model.specs.Table.{Table}
 use Rattle.st_model.specs.Returns.{return_to_sender, return_to_caller}
 use Rattle.st_frames.specs.declared.registers.Registers.{Registers as Words}
-use Rattle.st_frames.specs.Rows.{row_state}
+use Rattle.st_frames.specs.inside.Rows.{row_state}
 use Rattle.st_frames.proofs.Doing.{rows}
-use Rattle.st_control.specs.Returning.{return_past}
-use Rattle.st_control.specs.AtOnce.{return_past_at_once, return_to_sender_at_once, return_to_caller_at_once}
+use Rattle.st_control.specs.inside.Returning.{return_past}
+use Rattle.st_control.specs.inside.AtOnce.{return_past_at_once, return_to_sender_at_once, return_to_caller_at_once}
 
 module _ (m : ObjectMemory Table) (t : Table) (a : Head) (r : Words) (v : Value) where
   pub past-home : (return_to_sender m v).run (row_state t a r) ≡ (return_past m (word r.home) v).run (row_state t a r)

@@ -5,9 +5,9 @@ use Rattle.st_model.specs.declared.demand.Demand.{Demand}
 use Rattle.st_model.specs.Machine.{ObjectMemory, Head, Went}
 use Rattle.st_model.specs.Steps.{get_free}
 use Rattle.st_model.specs.Table.{Table}
-use Rattle.st_model.specs.Calls.{Changes, itself}
+use Rattle.st_model.specs.inside.Calls.{Changes, itself}
 use Rattle.st_frames.specs.declared.registers.Registers.{Registers as Words}
-use Rattle.st_frames.specs.Rows.{row_state}
+use Rattle.st_frames.specs.inside.Rows.{row_state}
 use Rattle.st_frames.proofs.Doing.{rows, row-memory, row-head, row-stored}
 
 pub free-is : (m : ObjectMemory Table) (t : Table) (a : Head) (r : Words) (d : Demand) → Changes (get_free m) itself t a (Ok d) t → (get_free m).run (row_state t a r) ≡ Went d (row_state t a r)

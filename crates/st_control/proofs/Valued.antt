@@ -15,12 +15,12 @@ use Rattle.st_model.specs.Blocks.{check_context, home_of_block, new_block, primi
 use Rattle.st_model.specs.Table.{Table}
 use Rattle.st_model.proofs.Runs.{check-at_most, run-passed, run-failed, run-tried_went, run-tried_died}
 use Rattle.st_frames.specs.declared.registers.Registers.{Registers as Words}
-use Rattle.st_frames.specs.Rows.{row_state}
-use Rattle.st_frames.specs.Answering.{succeed_by}
+use Rattle.st_frames.specs.inside.Rows.{row_state}
+use Rattle.st_frames.specs.inside.Answering.{succeed_by}
 use Rattle.st_frames.proofs.Doing.{rows, checks, row-memory, row-ip}
 use Rattle.st_frames.proofs.Tries.{primitive-done}
 use Rattle.st_control.specs.declared.passing.Passing.{Passing as CodePassing}
-use Rattle.st_control.specs.Passed.{first_of, passing_of}
+use Rattle.st_control.specs.inside.Passed.{first_of, passing_of}
 use Rattle.st_model.proofs.IntegerTests.{le_true, le_false}
 use Rattle.std.proofs.lemmas.Bool.{or_from, or_left}
 

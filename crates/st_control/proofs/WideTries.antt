@@ -6,7 +6,7 @@ use Rattle.st_model.specs.Machine.{ObjectMemory, State, Transition, Went}
 use Rattle.st_model.specs.Table.{Table}
 use Rattle.st_model.specs.Primitives.{number}
 use Rattle.st_model.specs.Arithmetic.{large_answer, value_of_large, large_arithmetic, shift_answer, shift_large}
-use Rattle.st_frames.specs.Answering.{succeed_by}
+use Rattle.st_frames.specs.inside.Answering.{succeed_by}
 use Rattle.st_frames.proofs.Tries.{primitive-done}
 
 pub large-done : (m : ObjectMemory Table) (n : ℕ) (a : LargeAnswer) (s : State Table) (y : Transition (State Table) Bool) → (large_answer m n).run s ≡ Went a s

@@ -1,4 +1,1 @@
-pub mod AtOnce
-pub mod Foreseen
-pub mod Passed
-pub mod Returning
+pub mod inside

@@ -1,9 +1,9 @@
 ghost use Rattle.std.specs.Prelude.{◌≡◌, ◌<◌, ◌≤◌, ◌+◌, Ok};
 ghost use Rattle.st_model.specs.Values.{word};
 ghost use Rattle.st_model.specs.Contexts.{fill_context, new_context, pass_words, activate};
-ghost use Rattle.st_model.specs.Calls.{itself};
-ghost use Rattle.st_control.specs.AtOnce.{IsStill, enter_context, context_space, activate_at_once};
-ghost use Rattle.st_frames.specs.Rows.{RowReads, RowDoes, Takes, activation_changes};
+ghost use Rattle.st_model.specs.inside.Calls.{itself};
+ghost use Rattle.st_control.specs.inside.AtOnce.{IsStill, enter_context, context_space, activate_at_once};
+ghost use Rattle.st_frames.specs.inside.Rows.{RowReads, RowDoes, Takes, activation_changes};
 
 use crate::called::Called;
 use st_frames::{Registers, drop_words, look_at_words, page, small, switch};
@@ -62,7 +62,7 @@ fn pass_words<O: Objects>(m: &mut O, r: &mut Registers, context: Word, n: u32) -
 }
 
 /// A new context of the method becomes the active one.
-#[tactic(auto, using(st_frames::proofs::Doing::rows), unfolding(crate::specs::AtOnce::enter_context))]
+#[tactic(auto, using(st_frames::proofs::Doing::rows), unfolding(crate::specs::inside::AtOnce::enter_context))]
 fn enter_context<O: Objects>(m: &mut O, r: &mut Registers, called: Called) -> Result<(), Dead>
     requires room { activation_changes ≤ O.room m.old }
     ensures does { RowDoes O.Objects.own
@@ -76,7 +76,7 @@ fn enter_context<O: Objects>(m: &mut O, r: &mut Registers, called: Called) -> Re
 }
 
 /// Whether there is room for a context.
-#[tactic(auto, using(crate::proofs::Space::spaces), unfolding(crate::specs::AtOnce::context_space))]
+#[tactic(auto, using(crate::proofs::Space::spaces), unfolding(crate::specs::inside::AtOnce::context_space))]
 fn has_context_space<O: Objects>(m: &O, r: &Registers) -> bool
     ensures { RowReads O.Objects.own (context_space O.names) itself m.now r.now (Ok result) }
 {
@@ -86,7 +86,7 @@ fn has_context_space<O: Objects>(m: &O, r: &Registers) -> bool
 
 /// A new context of the method becomes the active one, where there is room for it. Answers whether there is. Dead where it has no
 /// places for the arguments or the temporary variables.
-#[tactic(auto, using(st_frames::proofs::Doing::checks), unfolding(crate::specs::AtOnce::activate_at_once, crate::specs::AtOnce::at_once))]
+#[tactic(auto, using(st_frames::proofs::Doing::checks), unfolding(crate::specs::inside::AtOnce::activate_at_once, crate::specs::inside::AtOnce::at_once))]
 pub fn activate_at_once<O: Objects>(
     m: &mut O,
     r: &mut Registers,

@@ -3,11 +3,11 @@ ghost use Rattle.st_model.specs.declared.dead.Dead.TheVariants as dead;
 ghost use Rattle.st_model.specs.Steps.{or_die};
 ghost use Rattle.st_model.specs.Values.{word, small_integer};
 ghost use Rattle.st_model.specs.Integers.{binary};
-ghost use Rattle.st_model.specs.Calls.{itself};
+ghost use Rattle.st_model.specs.inside.Calls.{itself};
 ghost use Rattle.st_model.specs.Primitives.{succeed, answer_with};
 ghost use Rattle.st_model.specs.Arithmetic.{arithmetic_number, new_point, value_of_answer, integer_under, integer_answer};
-ghost use Rattle.st_ints.specs.Answers.{IsSmall, IsOfSmall};
-ghost use Rattle.st_frames.specs.Rows.{RowReads, RowDoes, Takes};
+ghost use Rattle.st_ints.specs.inside.Answers.{IsSmall, IsOfSmall};
+ghost use Rattle.st_frames.specs.inside.Rows.{RowReads, RowDoes, Takes};
 
 use st_frames::{Registers, page, pop, push, small_integer, under};
 use st_ints::{IntAnswer, binary};

@@ -1,9 +1,9 @@
 ghost use Rattle.std.specs.Prelude.{◌≡◌, ◌≤◌, ◌+◌, pos};
 ghost use Rattle.st_model.specs.Values.{word};
 ghost use Rattle.st_model.specs.Steps.{jump};
-ghost use Rattle.st_model.specs.Calls.{itself};
-ghost use Rattle.st_control.specs.AtOnce.{IsStill, at_once, jump_at_once, return_past_at_once};
-ghost use Rattle.st_frames.specs.Rows.{RowMoves, RowDoes, Takes};
+ghost use Rattle.st_model.specs.inside.Calls.{itself};
+ghost use Rattle.st_control.specs.inside.AtOnce.{IsStill, at_once, jump_at_once, return_past_at_once};
+ghost use Rattle.st_frames.specs.inside.Rows.{RowMoves, RowDoes, Takes};
 
 use crate::returns::return_into;
 use st_frames::{Registers, jump, page, pop};
@@ -11,7 +11,7 @@ use st_memory::Objects;
 use st_model::{Dead, PageObject, Word};
 
 /// Jumps forward at once.
-#[tactic(auto, using(st_frames::proofs::Doing::rows), unfolding(crate::specs::AtOnce::at_once))]
+#[tactic(auto, using(st_frames::proofs::Doing::rows), unfolding(crate::specs::inside::AtOnce::at_once))]
 fn jump_forward_at_once<O: Objects>(m: &O, r: &mut Registers, d: u32) -> Result<bool, Dead>
     requires short { d ≤ 1023 }
     ensures does { RowMoves O.Objects.own (at_once (jump (pos d))) itself m.now r.old result r.new }
@@ -21,7 +21,7 @@ fn jump_forward_at_once<O: Objects>(m: &O, r: &mut Registers, d: u32) -> Result<
 }
 
 /// Pops, and jumps forward where the word is the wanted boolean. Answers whether it is a boolean.
-#[tactic(auto, using(st_frames::proofs::Doing::rows), unfolding(crate::specs::AtOnce::jump_at_once))]
+#[tactic(auto, using(st_frames::proofs::Doing::rows), unfolding(crate::specs::inside::AtOnce::jump_at_once))]
 pub fn jump_at_once<O: Objects>(
     m: &O,
     r: &mut Registers,
@@ -43,7 +43,7 @@ pub fn jump_at_once<O: Objects>(
 }
 
 /// Returns the answer past a context, to its sender or caller, unless that is nil or was left for good. Answers whether it did.
-#[tactic(auto, using(st_frames::proofs::Doing::rows), unfolding(crate::specs::AtOnce::return_past_at_once, crate::specs::AtOnce::return_at_once, crate::specs::AtOnce::return_to_context_at_once, crate::specs::AtOnce::at_once))]
+#[tactic(auto, using(st_frames::proofs::Doing::rows), unfolding(crate::specs::inside::AtOnce::return_past_at_once, crate::specs::inside::AtOnce::return_at_once, crate::specs::inside::AtOnce::return_to_context_at_once, crate::specs::inside::AtOnce::at_once))]
 pub fn return_past_at_once<O: Objects>(
     m: &mut O,
     r: &mut Registers,

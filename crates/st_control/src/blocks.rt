@@ -1,10 +1,10 @@
 ghost use Rattle.std.specs.Prelude.{◌≡◌, ◌<◌, ◌≤◌, ◌+◌, ◌≤ℤ◌, ◌+ℤ◌, pos, true, IfOk};
 ghost use Rattle.st_model.specs.Values.{word, small_integer};
 ghost use Rattle.st_model.specs.Blocks.{check_context, home_of_block, fill_block, new_block, primitive_block_copy, blocks};
-ghost use Rattle.st_model.specs.Calls.{itself};
+ghost use Rattle.st_model.specs.inside.Calls.{itself};
 ghost use Rattle.st_model.specs.Deeds.{is_done, deed_of_trial};
-ghost use Rattle.st_frames.specs.Answering.{succeed_by};
-ghost use Rattle.st_frames.specs.Rows.{RowReads, RowDoes, RowLeaves, Takes, tried_changes, block_changes};
+ghost use Rattle.st_frames.specs.inside.Answering.{succeed_by};
+ghost use Rattle.st_frames.specs.inside.Rows.{RowReads, RowDoes, RowLeaves, Takes, tried_changes, block_changes};
 
 use crate::values::{primitive_value, primitive_value_with};
 use st_frames::{
@@ -100,7 +100,7 @@ fn new_block<O: Objects>(m: &mut O, r: &Registers, shape: Shape) -> Result<Word,
 }
 
 /// A new block takes the place of receiver and argument.
-#[tactic(auto, using(st_frames::proofs::Doing::rows), unfolding(st_frames::specs::Answering::succeed_by, st_frames::specs::Answering::succeed_with))]
+#[tactic(auto, using(st_frames::proofs::Doing::rows), unfolding(st_frames::specs::inside::Answering::succeed_by, st_frames::specs::inside::Answering::succeed_with))]
 fn answer_block<O: Objects>(m: &mut O, r: &mut Registers, shape: Shape) -> Result<(), Dead>
     requires within { r.old.ip ≤ℤ pos 16380 }
     requires room { 38 ≤ O.room m.old }

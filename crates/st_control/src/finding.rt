@@ -1,9 +1,9 @@
 ghost use Rattle.std.specs.Prelude.{◌≡◌};
 ghost use Rattle.st_model.specs.Values.{word};
 ghost use Rattle.st_model.specs.Lookup.{find};
-ghost use Rattle.st_lookup.specs.Places.{found_word};
-ghost use Rattle.st_control.specs.AtOnce.{AreStill};
-ghost use Rattle.st_frames.specs.Rows.{RowDoes, Takes};
+ghost use Rattle.st_lookup.specs.inside.Places.{found_word};
+ghost use Rattle.st_control.specs.inside.AtOnce.{AreStill};
+ghost use Rattle.st_frames.specs.inside.Rows.{RowDoes, Takes};
 
 use st_frames::Registers;
 use st_lookup::look_up;

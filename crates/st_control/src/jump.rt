@@ -1,7 +1,7 @@
 ghost use Rattle.std.specs.Prelude.{◌≡◌, ◌<◌, ◌≤ℤ◌, pos, negsuc};
 ghost use Rattle.st_model.specs.Bytecodes.{short_unconditional_jump, long_offset, long_unconditional_jump};
-ghost use Rattle.st_model.specs.Calls.{itself};
-ghost use Rattle.st_frames.specs.Rows.{RowMoves};
+ghost use Rattle.st_model.specs.inside.Calls.{itself};
+ghost use Rattle.st_frames.specs.inside.Rows.{RowMoves};
 
 use st_frames::{Registers, jump, next_byte};
 use st_memory::Objects;

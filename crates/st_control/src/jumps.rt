@@ -3,7 +3,7 @@ ghost use Rattle.st_model.specs.Values.{word};
 ghost use Rattle.st_model.specs.Steps.{jump};
 ghost use Rattle.st_model.specs.Sends.{call_of, call_if_any};
 ghost use Rattle.st_model.specs.Returns.{calls_nothing, must_be_boolean, jump_on};
-ghost use Rattle.st_frames.specs.Rows.{RowMoves, RowDoes, Takes, jump_changes};
+ghost use Rattle.st_frames.specs.inside.Rows.{RowMoves, RowDoes, Takes, jump_changes};
 
 use crate::sends::send;
 use st_frames::{Registers, jump, page, pop, push};

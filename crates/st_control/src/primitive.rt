@@ -1,7 +1,7 @@
 ghost use Rattle.st_model.specs.Values.{word};
 ghost use Rattle.st_model.specs.Methods.{primitive_number, method_primitive};
-ghost use Rattle.st_model.specs.Calls.{itself};
-ghost use Rattle.st_frames.specs.Rows.{RowReads};
+ghost use Rattle.st_model.specs.inside.Calls.{itself};
+ghost use Rattle.st_frames.specs.inside.Rows.{RowReads};
 
 use st_frames::Registers;
 use st_memory::Objects;

@@ -1,8 +1,8 @@
 ghost use Rattle.std.specs.Prelude.{◌≡◌, ◌<◌, ◌≤◌, ◌+◌};
-ghost use Rattle.st_model.specs.Calls.{itself};
+ghost use Rattle.st_model.specs.inside.Calls.{itself};
 ghost use Rattle.st_model.specs.Executing.{answer_field};
 ghost use Rattle.st_model.specs.Arithmetic.{equivalence, receiver_class, flush_cache};
-ghost use Rattle.st_frames.specs.Rows.{RowMoves, RowDoes, Takes};
+ghost use Rattle.st_frames.specs.inside.Rows.{RowMoves, RowDoes, Takes};
 
 use crate::arithmetic::answer_pair;
 use st_frames::{Registers, drop_words, look_at_words, page, pop, push, top, under};

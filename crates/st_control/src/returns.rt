@@ -2,9 +2,9 @@ ghost use Rattle.std.specs.Prelude.{◌≡◌, ◌<◌, ◌≤◌, ◌+◌};
 ghost use Rattle.st_model.specs.Values.{word};
 ghost use Rattle.st_model.specs.Sends.{call_of, call_if_any};
 ghost use Rattle.st_model.specs.Returns.{cannot_return, return_into};
-ghost use Rattle.st_model.specs.Calls.{itself};
-ghost use Rattle.st_control.specs.Returning.{return_past};
-ghost use Rattle.st_frames.specs.Rows.{RowDoes, Takes, return_changes};
+ghost use Rattle.st_model.specs.inside.Calls.{itself};
+ghost use Rattle.st_control.specs.inside.Returning.{return_past};
+ghost use Rattle.st_frames.specs.inside.Rows.{RowDoes, Takes, return_changes};
 
 use crate::sends::send;
 use st_frames::{Registers, fetch_context_registers, page, push};
@@ -46,7 +46,7 @@ pub fn return_into<O: Objects>(
 }
 
 /// Returns the answer past a context, to its sender or caller, unless that is nil or was left for good.
-#[tactic(auto, using(st_frames::proofs::Doing::rows), unfolding(crate::specs::Returning::return_past, st_model::specs::Returns::return_to, st_model::specs::Returns::return_to_context, st_model::specs::Returns::calls, st_model::specs::Returns::calls_nothing))]
+#[tactic(auto, using(st_frames::proofs::Doing::rows), unfolding(crate::specs::inside::Returning::return_past, st_model::specs::Returns::return_to, st_model::specs::Returns::return_to_context, st_model::specs::Returns::calls, st_model::specs::Returns::calls_nothing))]
 pub fn return_past<O: Objects>(
     m: &mut O,
     r: &mut Registers,

@@ -1,7 +1,7 @@
 ghost use Rattle.std.specs.Prelude.{◌≡◌, ◌<◌, ◌≤◌, ◌+◌};
 ghost use Rattle.st_model.specs.Values.{word};
 ghost use Rattle.st_model.specs.Sends.{not_understood, send_from, send, class_above, send_to_super, special_send, call_of};
-ghost use Rattle.st_frames.specs.Rows.{RowReads, RowDoes, Takes, send_changes};
+ghost use Rattle.st_frames.specs.inside.Rows.{RowReads, RowDoes, Takes, send_changes};
 
 use crate::finding::find_method;
 use crate::messages::replace_by_message;

@@ -1,8 +1,8 @@
 ghost use Rattle.std.specs.Prelude.{◌≡◌, ◌<◌, ◌≤◌, ◌+◌, ◌≤ℤ◌};
 ghost use Rattle.st_model.specs.Decoded.{IsNumberedOperand};
 ghost use Rattle.st_model.specs.Bytecodes.{push_operand, store_and_pop, push_receiver, push_constant, extended_push, extended_store, extended_store_and_pop, pop_stack, duplicate_top, push_active_context};
-ghost use Rattle.st_model.specs.Calls.{itself};
-ghost use Rattle.st_frames.specs.Rows.{RowMoves, RowDoes, Takes};
+ghost use Rattle.st_model.specs.inside.Calls.{itself};
+ghost use Rattle.st_frames.specs.inside.Rows.{RowMoves, RowDoes, Takes};
 
 use crate::operands::{constant_value, fetch_operand, store_operand};
 use st_frames::{Registers, next_byte, pop, push, top};

@@ -1,10 +1,10 @@
 ghost use Rattle.std.specs.Prelude.{◌≡◌, ◌<◌, ◌≤◌, ◌+◌, true, false, IfOk};
 ghost use Rattle.st_model.specs.Values.{word};
 ghost use Rattle.st_model.specs.Blocks.{start_of, enter_block, value_with_words, primitive_value, passing, value_with_fields, primitive_value_with};
-ghost use Rattle.st_model.specs.Calls.{itself};
+ghost use Rattle.st_model.specs.inside.Calls.{itself};
 ghost use Rattle.st_model.specs.Deeds.{is_done, deed_of_trial};
-ghost use Rattle.st_control.specs.Passed.{first_of, passing_of};
-ghost use Rattle.st_frames.specs.Rows.{RowReads, RowDoes, RowLeaves, Takes, tried_changes, block_changes};
+ghost use Rattle.st_control.specs.inside.Passed.{first_of, passing_of};
+ghost use Rattle.st_frames.specs.inside.Rows.{RowReads, RowDoes, RowLeaves, Takes, tried_changes, block_changes};
 
 use crate::passing::Passing;
 use st_frames::{

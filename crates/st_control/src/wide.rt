@@ -2,12 +2,12 @@ ghost use Rattle.std.specs.Prelude.{◌≡◌, ◌<◌, ◌≤◌, ◌+◌, fals
 ghost use Rattle.st_model.specs.declared.dead.Dead.TheVariants as dead;
 ghost use Rattle.st_model.specs.Steps.{or_die};
 ghost use Rattle.st_model.specs.Integers.{large, large_shift};
-ghost use Rattle.st_model.specs.Calls.{itself};
+ghost use Rattle.st_model.specs.inside.Calls.{itself};
 ghost use Rattle.st_model.specs.Values.{word};
 ghost use Rattle.st_model.specs.Deeds.{is_done, deed_of_trial, copies_pixels};
 ghost use Rattle.st_model.specs.Arithmetic.{large_under, large_answer, value_of_large, large_arithmetic, shift_answer, shift_large};
-ghost use Rattle.st_frames.specs.Answering.{succeed_by, answer_word, answer_deed};
-ghost use Rattle.st_frames.specs.Rows.{RowReads, RowLeaves, Takes};
+ghost use Rattle.st_frames.specs.inside.Answering.{succeed_by, answer_word, answer_deed};
+ghost use Rattle.st_frames.specs.inside.Rows.{RowReads, RowLeaves, Takes};
 
 use crate::arithmetic::integer_under;
 use st_frames::{Answer, Registers, number, page, succeed_leaving, under, value_within};
@@ -81,7 +81,7 @@ fn value_of_large<O: Objects>(m: &mut O, r: &Registers, answer: LargeAnswer) -> 
 }
 
 /// What a primitive on two integers answers takes their place.
-#[tactic(auto, using(st_frames::proofs::Doing::rows), unfolding(st_frames::specs::Answering::succeed_by))]
+#[tactic(auto, using(st_frames::proofs::Doing::rows), unfolding(st_frames::specs::inside::Answering::succeed_by))]
 fn answer_large<O: Objects>(
     m: &mut O,
     r: &mut Registers,

@@ -6,10 +6,10 @@ use Rattle.std.proofs.lemmas.Bool.Decides.{nat_tests}
 use Rattle.st_model.specs.Table.{Table, entry}
 use Rattle.st_heap.specs.declared.store.Store.{Store}
 use Rattle.st_heap.specs.declared.objects.Objects.{Objects}
-use Rattle.st_heap.specs.Tables.{objects_of}
-use Rattle.st_counted.specs.Counts.{is_unused}
-use Rattle.st_counted.specs.Links.{Holds, IsEnd, with_member}
-use Rattle.st_counted.specs.References.{IsTallied}
+use Rattle.st_heap.specs.inside.Tables.{objects_of}
+use Rattle.st_counted.specs.inside.Counts.{is_unused}
+use Rattle.st_counted.specs.inside.Links.{Holds, IsEnd, with_member}
+use Rattle.st_counted.specs.inside.References.{IsTallied}
 use Rattle.st_counted.proofs.Linked.{same_test, other_test}
 use Rattle.st_counted.proofs.ZeroList.{holds_alike, first_passes}
 use Rattle.st_counted.proofs.Dropping.{no_reference, unused_within}

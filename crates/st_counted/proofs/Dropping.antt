@@ -11,9 +11,9 @@ use Rattle.st_model.specs.View.{View, view_roots, is_live, SettlesTo}
 use Rattle.st_model.proofs.SettledIs.{or_cases, root_is, is_root-of, or_left, or_right}
 use Rattle.st_model.proofs.Settling.{DropsTo, left, left_is, settled}
 use Rattle.st_model.proofs.Rounds.{KeepsNeeded, moved_roots}
-use Rattle.st_counted.specs.Counts.{count_at, is_zero, is_unused}
+use Rattle.st_counted.specs.inside.Counts.{count_at, is_zero, is_unused}
 use Rattle.st_counted.proofs.ZeroList.{counted_within, test_of}
-use Rattle.st_counted.specs.References.{times, object_uses, uses, page_values, all_roots, references, IsTallied, IsCounted}
+use Rattle.st_counted.specs.inside.References.{times, object_uses, uses, page_values, all_roots, references, IsTallied, IsCounted}
 use Rattle.st_counted.proofs.Linked.{same_test}
 use Rattle.st_counted.proofs.Tallying.{one_if, tally_number, tally_entered}
 use Rattle.st_counted.proofs.Referring.{number_cases, times_append, uses_set, entry-set_same, entry-set_other}

@@ -20,8 +20,8 @@ use Rattle.st_model.specs.Show.{IsUsed}
 use Rattle.st_model.specs.View.{View, Held, held_at, is_live, IsKnown, IsWhole}
 use Rattle.st_model.proofs.SettledIs.{root_is}
 use Rattle.st_model.proofs.WholeLemmas.{used_live}
-use Rattle.st_counted.specs.Counts.{count_at, number_at}
-use Rattle.st_counted.specs.References.{times, object_uses, uses, uses_below, page_values, all_roots, references, IsTallied, IsEntered, IsCounted, raised_by}
+use Rattle.st_counted.specs.inside.Counts.{count_at, number_at}
+use Rattle.st_counted.specs.inside.References.{times, object_uses, uses, uses_below, page_values, all_roots, references, IsTallied, IsEntered, IsCounted, raised_by}
 use Rattle.st_counted.proofs.Tallying.{one_if, known_other, tally_same, tally_number, tally_entered, tally_most, entered_tally, tally_raised}
 use Rattle.st_counted.proofs.Referring.{number_cases, times_append}
 use Rattle.st_counted.proofs.Rooting.{held_times, roots_parts}

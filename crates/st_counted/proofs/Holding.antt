@@ -8,8 +8,8 @@ use Rattle.st_model.specs.declared.place.RootPlace.TheVariants.{Pending}
 use Rattle.st_model.specs.Values.{value}
 use Rattle.st_model.specs.View.{with_held}
 use Rattle.st_counted.specs.declared.roots.Places.{Places}
-use Rattle.st_counted.specs.Held.{held_words}
-use Rattle.st_counted.specs.Words.{nil_word}
+use Rattle.st_counted.specs.inside.Held.{held_words}
+use Rattle.st_counted.specs.inside.Words.{nil_word}
 
 pub held_words-pending : (p : Places) (xs : List Oop) (k : ℕ) (x : Oop) → held_words p (set xs k x) ≡ with_held (held_words p xs) (Pending k) (value x)
 held_words-pending p xs k x = λ i. record (held_words p xs) { devices = record (held_words p xs).devices { pending = map-set value xs k x i } }

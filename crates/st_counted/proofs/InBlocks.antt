@@ -5,12 +5,12 @@ use Rattle.std.specs.Option.{option_map}
 use Rattle.st_model.specs.Objects.{Object}
 use Rattle.st_model.specs.Table.{Table, entry}
 use Rattle.st_model.specs.Values.{Value}
-use Rattle.st_heap.specs.Stored.{Stored, slot}
-use Rattle.st_heap.specs.Forms.{cell, object_from, objects_in, AllSound}
+use Rattle.st_heap.specs.inside.Stored.{Stored, slot}
+use Rattle.st_heap.specs.inside.Forms.{cell, object_from, objects_in, AllSound}
 use Rattle.st_heap.proofs.Living.{entry-stored}
-use Rattle.st_counted.specs.Counts.{count_at}
-use Rattle.st_counted.specs.References.{times, uses, references, IsCounted}
-use Rattle.st_counted.specs.Standing.{StandsInBlock}
+use Rattle.st_counted.specs.inside.Counts.{count_at}
+use Rattle.st_counted.specs.inside.References.{times, uses, references, IsCounted}
+use Rattle.st_counted.specs.inside.Standing.{StandsInBlock}
 
 none_is : (o : Object) → None ≡ Some o → ⊥
 none_is o e = cc

@@ -4,26 +4,26 @@ use Rattle.std.specs.Prelude.{None}
 use Rattle.st_model.specs.declared.oop.Oop.{Oop}
 use Rattle.st_model.specs.Values.{Value, value}
 use Rattle.st_model.specs.Formed.{IsHeader, unit_limit}
-use Rattle.st_model.specs.Loading.{IsLoading}
+use Rattle.st_model.specs.inside.Loading.{IsLoading}
 use Rattle.st_model.specs.Objects.{with_units}
 use Rattle.st_model.specs.Table.{Table, changed}
 use Rattle.st_model.specs.View.{IsWhole, IsKnown, is_live, object_of, with_unit, with_stored, head_of}
 use Rattle.st_model.proofs.LoadingLemmas.{loading_unit, loading_stored}
 use Rattle.st_model.proofs.Pointers.{IsWord-value_of}
 use Rattle.st_model.proofs.WholeLemmas.{whole_unit, whole_stored}
-use Rattle.st_memory.specs.Copied.{with_units_in}
-use Rattle.st_cells.specs.Words.{with_run}
+use Rattle.st_memory.specs.inside.Copied.{with_units_in}
+use Rattle.st_cells.specs.inside.Words.{with_run}
 use Rattle.st_heap.specs.declared.objects.Objects.{Objects}
-use Rattle.st_heap.specs.Links.{SameLinks}
-use Rattle.st_heap.specs.Tables.{objects_of, room_of}
+use Rattle.st_heap.specs.inside.Links.{SameLinks}
+use Rattle.st_heap.specs.inside.Tables.{objects_of, room_of}
 use Rattle.st_counted.specs.declared.contents.Contents.{Contents}
 use Rattle.st_counted.specs.declared.contents.Head.{Head}
 use Rattle.st_counted.specs.declared.memory.CountedMemory.{CountedMemory}
 use Rattle.st_counted.specs.declared.loader.CountedLoader.{CountedLoader}
-use Rattle.st_counted.specs.Counts.{count_at}
-use Rattle.st_counted.specs.Links.{IsListed}
-use Rattle.st_counted.specs.References.{all_roots, references, IsCounted}
-use Rattle.st_counted.specs.Counted.{counted_view, numbers_of, HasRoom, AllCounted}
+use Rattle.st_counted.specs.inside.Counts.{count_at}
+use Rattle.st_counted.specs.inside.Links.{IsListed}
+use Rattle.st_counted.specs.inside.References.{all_roots, references, IsCounted}
+use Rattle.st_counted.specs.inside.Counted.{counted_view, numbers_of, HasRoom, AllCounted}
 use Rattle.st_counted.proofs.Listing.{relinked, tally_stored}
 use Rattle.st_counted.proofs.Referring.{counted_unit}
 use Rattle.st_counted.proofs.Stretches.{changed_is, whole_run, counted_run}

@@ -10,22 +10,22 @@ use Rattle.st_model.specs.Objects.{Object, with_field}
 use Rattle.st_model.specs.Table.{Table, entry, first_free, placed}
 use Rattle.st_model.proofs.TableLemmas.{placed-first, placed-other}
 use Rattle.st_model.specs.View.{is_live, object_of, with_stored}
-use Rattle.st_table.specs.Entries.{place}
+use Rattle.st_table.specs.inside.Entries.{place}
 use Rattle.st_heap.specs.declared.store.Store.{Store}
 use Rattle.st_heap.specs.declared.objects.Objects.{Objects}
-use Rattle.st_heap.specs.Links.{next_of, before_of, SameLinks, SameOtherLinks}
-use Rattle.st_heap.specs.Tables.{objects_of}
-use Rattle.st_heap.specs.Stores.{stored_of}
-use Rattle.st_heap.specs.Heaps.{words_of, blocks_of}
-use Rattle.st_heap.specs.Stored.{slot, stored_all}
+use Rattle.st_heap.specs.inside.Links.{next_of, before_of, SameLinks, SameOtherLinks}
+use Rattle.st_heap.specs.inside.Tables.{objects_of}
+use Rattle.st_heap.specs.inside.Stores.{stored_of}
+use Rattle.st_heap.specs.inside.Heaps.{words_of, blocks_of}
+use Rattle.st_heap.specs.inside.Stored.{slot, stored_all}
 use Rattle.st_heap.specs.declared.block.Block.{Block}
 use Rattle.st_table.specs.declared.entry.Entry.{Entry}
 use Rattle.st_heap.proofs.Living.{is_some-entry}
 use Rattle.st_counted.specs.declared.counts.Counts.{Counts}
-use Rattle.st_counted.specs.Counts.{count_at, is_counted, is_zero, is_unused}
-use Rattle.st_counted.specs.Contents.{counts_of}
-use Rattle.st_counted.specs.Links.{times, Listed, Holds, IsEnd, AreStored, IsListed, with_member, without_member}
-use Rattle.st_counted.specs.References.{IsTallied}
+use Rattle.st_counted.specs.inside.Counts.{count_at, is_counted, is_zero, is_unused}
+use Rattle.st_counted.specs.inside.Contents.{counts_of}
+use Rattle.st_counted.specs.inside.Links.{times, Listed, Holds, IsEnd, AreStored, IsListed, with_member, without_member}
+use Rattle.st_counted.specs.inside.References.{IsTallied}
 use Rattle.st_counted.proofs.Linked.{same_test, other_test, follows, precedes, first_before, never_zero, stays, member}
 use Rattle.st_counted.proofs.ZeroList.{first_passes, zero_counted, absent_zero, counted_within, relisted, listed_still}
 use Rattle.st_counted.proofs.Tallying.{tally_entered}

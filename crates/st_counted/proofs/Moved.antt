@@ -4,13 +4,13 @@ use Rattle.std.specs.Prelude.{Option, None, slice_set}
 use Rattle.st_model.specs.Values.{Value}
 use Rattle.st_model.specs.Table.{Table}
 use Rattle.st_model.specs.View.{View, head_of}
-use Rattle.st_heap.specs.Tables.{objects_of, room_of}
+use Rattle.st_heap.specs.inside.Tables.{objects_of, room_of}
 use Rattle.st_counted.specs.declared.contents.Contents.{Contents}
 use Rattle.st_counted.specs.declared.contents.Head.{Head}
 use Rattle.st_counted.specs.declared.roots.Roots.{Roots}
-use Rattle.st_counted.specs.Held.{held_of}
-use Rattle.st_counted.specs.References.{all_roots, IsCounted}
-use Rattle.st_counted.specs.Counted.{counted_view, SameButLinks}
+use Rattle.st_counted.specs.inside.Held.{held_of}
+use Rattle.st_counted.specs.inside.References.{all_roots, IsCounted}
+use Rattle.st_counted.specs.inside.Counted.{counted_view, SameButLinks}
 
 abbrev view_with : Table → Roots → Head → View
 view_with t r h = record { objects = t; held = held_of r; head = head_of h.capacity h.globals h.symbols }

@@ -5,8 +5,8 @@ use Rattle.st_model.specs.declared.oop.Oop.{Oop}
 use Rattle.st_model.specs.Values.{value, value_of}
 use Rattle.st_model.specs.Objects.{nil}
 use Rattle.st_model.specs.View.{nothing_held, no_devices}
-use Rattle.st_counted.specs.Held.{held_words}
-use Rattle.st_counted.specs.Words.{nil_word}
+use Rattle.st_counted.specs.inside.Held.{held_words}
+use Rattle.st_counted.specs.inside.Words.{nil_word}
 
 pub all_nil : (xs : List Oop) (n : ℕ) → length xs ≡ n → ((k : ℕ) → slice_index_or xs k nil_word ≡ nil_word) → map value xs ≡ replicate n nil
 unfolding value_of

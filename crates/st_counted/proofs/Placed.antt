@@ -5,11 +5,11 @@ use Rattle.std.proofs.lemmas.Bool.{false≢true}
 use Rattle.st_model.specs.Values.{Value, Small, Ref}
 use Rattle.st_model.specs.Table.{Table, entry}
 use Rattle.st_model.specs.View.{is_live}
-use Rattle.st_memory.specs.Places.{KeepsPlaces, KeepsPlacesIn}
+use Rattle.st_memory.specs.inside.Places.{KeepsPlaces, KeepsPlacesIn}
 use Rattle.st_heap.specs.declared.objects.Objects.{Objects}
-use Rattle.st_heap.specs.Places.{SamePlaces, SameOtherPlaces, Stands}
-use Rattle.st_heap.specs.Tables.{objects_of}
-use Rattle.st_counted.specs.Links.{SameObjects}
+use Rattle.st_heap.specs.inside.Places.{SamePlaces, SameOtherPlaces, Stands}
+use Rattle.st_heap.specs.inside.Tables.{objects_of}
+use Rattle.st_counted.specs.inside.Links.{SameObjects}
 use Rattle.st_counted.proofs.Referring.{entry-set_other}
 
 pub all_stand : (o o' : Objects) → SamePlaces o.store o'.store → KeepsPlaces (Stands o) (Stands o')

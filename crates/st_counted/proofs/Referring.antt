@@ -10,8 +10,8 @@ use Rattle.st_model.specs.Table.{Table, entry, changed, exchanged_objects, first
 use Rattle.st_model.specs.View.{is_live, object_of, with_stored, with_unit, with_exchanged}
 use Rattle.st_model.proofs.TableLemmas.{changed-some, changed-other, placed-first, placed-other}
 use Rattle.st_model.proofs.WholeLemmas.{named}
-use Rattle.st_counted.specs.Counts.{count_at}
-use Rattle.st_counted.specs.References.{times, object_uses, uses, nils_of, references, IsCounted}
+use Rattle.st_counted.specs.inside.Counts.{count_at}
+use Rattle.st_counted.specs.inside.References.{times, object_uses, uses, nils_of, references, IsCounted}
 use Rattle.st_counted.proofs.Tallying.{counted_alike}
 use Rattle.std.proofs.lemmas.List.{get_or-set_same, get_or-set_other}
 

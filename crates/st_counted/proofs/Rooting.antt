@@ -15,8 +15,8 @@ use Rattle.st_model.specs.Machine.{Head, table_root, head_roots, device_roots}
 use Rattle.st_model.specs.Table.{Table, entry, total_used}
 use Rattle.st_model.specs.Settled.{names}
 use Rattle.st_model.specs.View.{View, Held, view_roots, held_at, with_held, IsPlace, IsWhole}
-use Rattle.st_counted.specs.Counts.{number_at}
-use Rattle.st_counted.specs.References.{times, object_uses, uses, page_values, all_roots, references, IsCounted}
+use Rattle.st_counted.specs.inside.Counts.{number_at}
+use Rattle.st_counted.specs.inside.References.{times, object_uses, uses, page_values, all_roots, references, IsCounted}
 use Rattle.st_counted.proofs.Tallying.{counted_alike, tally_most}
 use Rattle.st_counted.proofs.Referring.{times_append, times_set}
 

@@ -3,8 +3,8 @@ use Rattle.std.proofs.Common.{◌≡◌, ◌≢◌, ℕ, zero, suc, ◌<◌, Boo
 use Rattle.std.specs.Prelude.{unwrap_or, nat_eq}
 use Rattle.std.proofs.lemmas.List.{map-set, get_or-map}
 use Rattle.st_counted.specs.declared.counts.Slot.{Slot}
-use Rattle.st_counted.specs.Counts.{count_at, is_counted, number_at, is_zero, is_unused}
-use Rattle.st_counted.specs.Slots.{no_count, count_in, counts_in}
+use Rattle.st_counted.specs.inside.Counts.{count_at, is_counted, number_at, is_zero, is_unused}
+use Rattle.st_counted.specs.inside.Slots.{no_count, count_in, counts_in}
 use Rattle.st_counted.proofs.ZeroList.{counted_within, none_still, not_here}
 
 pub length_counts : (ss : List Slot) → length (counts_in ss) ≡ length ss

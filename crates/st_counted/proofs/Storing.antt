@@ -15,11 +15,11 @@ use Rattle.st_model.specs.Table.{Table, entry, first_free, placed}
 use Rattle.st_model.specs.View.{View, is_live, object_of, with_stored, with_held, held_at, IsKnown, IsPlace}
 use Rattle.st_model.proofs.Pointers.{value_of-even}
 use Rattle.st_model.proofs.TableLemmas.{first_free-none}
-use Rattle.st_counted.specs.Counts.{is_counted, number_at, raised, lowered}
-use Rattle.st_heap.specs.Tables.{objects_of}
+use Rattle.st_counted.specs.inside.Counts.{is_counted, number_at, raised, lowered}
+use Rattle.st_heap.specs.inside.Tables.{objects_of}
 use Rattle.st_counted.specs.declared.contents.Contents.{Contents}
-use Rattle.st_counted.specs.Counted.{counted_view, numbers_of, AllCounted}
-use Rattle.st_counted.specs.References.{all_roots, nils_of, references, IsCounted, raised_by, lowered_by}
+use Rattle.st_counted.specs.inside.Counted.{counted_view, numbers_of, AllCounted}
+use Rattle.st_counted.specs.inside.References.{all_roots, nils_of, references, IsCounted, raised_by, lowered_by}
 use Rattle.st_counted.proofs.Linked.{test_same, test_other}
 use Rattle.st_counted.proofs.Tallying.{known_counted, times_replicate, hand_known, live_known, counted_raised, counted_lowered, counted_less, counted_alike, tally_entered, tally_number}
 use Rattle.st_counted.proofs.Rooting.{counted_held}

@@ -10,11 +10,11 @@ use Rattle.st_model.specs.View.{View, IsWhole, is_live, object_of}
 use Rattle.st_model.proofs.FormedLemmas.{formed_unit, words_of-object_with_unit}
 use Rattle.st_model.proofs.Pointers.{value_of-even}
 use Rattle.st_model.proofs.WholeLemmas.{named, whole_as, whole_changed}
-use Rattle.st_memory.specs.Copied.{laid, with_units_in}
+use Rattle.st_memory.specs.inside.Copied.{laid, with_units_in}
 use Rattle.st_memory.proofs.Bodies.{live_small}
-use Rattle.st_cells.specs.Words.{with_run}
+use Rattle.st_cells.specs.inside.Words.{with_run}
 use Rattle.st_cells.proofs.Written.{run_behind}
-use Rattle.st_counted.specs.References.{IsCounted}
+use Rattle.st_counted.specs.inside.References.{IsCounted}
 use Rattle.st_counted.proofs.Referring.{live_changed, uses_changed}
 use Rattle.st_counted.proofs.Tallying.{counted_alike}
 

@@ -10,7 +10,7 @@ use Rattle.st_model.specs.Settled.{IsRoot, IsReferredFrom, SupportsItself, IsSet
 use Rattle.st_model.proofs.SettledIs.{or_cases, below_true, object_is, is_object, root_is, is_root-of, or_left, or_right, true_below, both, and_true, not_so}
 use Rattle.st_model.proofs.SettledLemmas.{some_is}
 use Rattle.st_model.proofs.BirthLemmas.{borne_before}
-use Rattle.st_counted.specs.Taking.{IsUnsupported, without, TakesAway, TakesNoneSupported, LeftSupportsItself, TakingSettles}
+use Rattle.st_counted.specs.inside.Taking.{IsUnsupported, without, TakesAway, TakesNoneSupported, LeftSupportsItself, TakingSettles}
 use Rattle.st_model.proofs.Reclaiming.{table_finite}
 
 bool_cases : (b : Bool) → IsTrue b ⊎ (b ≡ false)

@@ -5,7 +5,7 @@ use Rattle.st_model.specs.Objects.{Object}
 use Rattle.st_model.specs.declared.kind.Kind.TheVariants as kind
 use Rattle.st_model.specs.Table.{Table, table}
 use Rattle.st_model.specs.Settled.{is_root, is_supported}
-use Rattle.st_counted.specs.Taking.{IsUnsupported, without, TakesAway}
+use Rattle.st_counted.specs.inside.Taking.{IsUnsupported, without, TakesAway}
 use Rattle.st_counted.proofs.Taking.{unsupported, without_below}
 use Rattle.st_model.proofs.Reclaiming.{table_finite}
 

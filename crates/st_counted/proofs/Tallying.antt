@@ -7,10 +7,10 @@ use Rattle.st_model.specs.Table.{Table, entry}
 use Rattle.st_model.specs.Settled.{names}
 use Rattle.st_model.specs.View.{is_live, IsKnown}
 use Rattle.st_model.proofs.Pointers.{value_of-even}
-use Rattle.st_counted.specs.Counts.{count_at, is_counted, number_at, raised, lowered}
+use Rattle.st_counted.specs.inside.Counts.{count_at, is_counted, number_at, raised, lowered}
 use Rattle.st_counted.proofs.Linked.{test_other, test_same, same_test, other_test}
 use Rattle.st_counted.proofs.ZeroList.{counted_within}
-use Rattle.st_counted.specs.References.{times, IsTallied, references, IsCounted, IsEntered, raised_by, lowered_by}
+use Rattle.st_counted.specs.inside.References.{times, IsTallied, references, IsCounted, IsEntered, raised_by, lowered_by}
 
 abbrev pub one_if : Bool → ℕ
 one_if b = cond b 1 0

@@ -5,7 +5,7 @@ use Rattle.st_model.specs.declared.kind.Kind.{Kind}
 use Rattle.st_model.specs.Values.{Value, value_of, is_small}
 use Rattle.st_model.specs.Objects.{Object, one, words_of, is_words}
 use Rattle.st_model.specs.Formed.{IsHeader, IsMakeable, fresh, unit_limit}
-use Rattle.st_model.specs.Loading.{IsLoading}
+use Rattle.st_model.specs.inside.Loading.{IsLoading}
 use Rattle.st_model.specs.Table.{total_used}
 use Rattle.st_model.specs.View.{View, IsWhole, is_live, object_of, with_object}
 use Rattle.st_model.proofs.FormedLemmas.{unit_limit-byte, unit_limit-word, formed_fresh}

@@ -5,9 +5,9 @@ use mathlib.Core.Bool.{Bool-set}
 use Rattle.std.proofs.Math.Logic.{∥∥₁_elim, ∥∥₁_map}
 use Rattle.std.proofs.lemmas.List.{get_or-set_same, get_or-set_other}
 use Rattle.st_heap.specs.declared.store.Store.{Store}
-use Rattle.st_heap.specs.Links.{next_of, before_of}
-use Rattle.st_counted.specs.Links.{times, IsLinked, Listed, Holds}
-use Rattle.st_counted.specs.Counts.{count_at, number_at, is_counted, is_zero, is_unused}
+use Rattle.st_heap.specs.inside.Links.{next_of, before_of}
+use Rattle.st_counted.specs.inside.Links.{times, IsLinked, Listed, Holds}
+use Rattle.st_counted.specs.inside.Counts.{count_at, number_at, is_counted, is_zero, is_unused}
 use Rattle.st_counted.proofs.Linked.{same_test, other_test, test_other, begins}
 
 -- the same places pass

@@ -3,12 +3,12 @@ ghost use Rattle.st_model.specs.Values.{value, Ref};
 ghost use Rattle.st_model.specs.Formed.{IsHeader, IsMakeable, fresh};
 ghost use Rattle.st_model.specs.Table.{first_free, placed};
 ghost use Rattle.st_model.specs.View.{empty_view, head_of, fits, IsWhole, IsPlace, IsKnown, is_live, object_of, with_held, demand_of};
-ghost use Rattle.st_table.specs.Entries.{place as place_at};
-ghost use Rattle.st_heap.specs.Places.{SamePlaces, SameOtherPlaces, Stands};
-ghost use Rattle.st_counted.specs.Counts.{count_at, is_counted, number_at, is_unused, raised};
-ghost use Rattle.st_counted.specs.Links.{SameObjects, IsListed};
-ghost use Rattle.st_counted.specs.Contents.{counts_of};
-ghost use Rattle.st_counted.specs.References.{all_roots, nils_of, IsCounted};
+ghost use Rattle.st_table.specs.inside.Entries.{place as place_at};
+ghost use Rattle.st_heap.specs.inside.Places.{SamePlaces, SameOtherPlaces, Stands};
+ghost use Rattle.st_counted.specs.inside.Counts.{count_at, is_counted, number_at, is_unused, raised};
+ghost use Rattle.st_counted.specs.inside.Links.{SameObjects, IsListed};
+ghost use Rattle.st_counted.specs.inside.Contents.{counts_of};
+ghost use Rattle.st_counted.specs.inside.References.{all_roots, nils_of, IsCounted};
 
 use crate::counting::{count_store, lower, names_unused, raise};
 use crate::counts::Counts;
@@ -43,8 +43,8 @@ pub struct Contents {
 }
 
 impl Contents {
-    ghost use Rattle.st_counted.specs.Counted.{counted_view, numbers_of, HasRoom, AllCounted, SameButLinks, StoresPointer};
-    ghost use Rattle.st_counted.specs.Links.{IsListed};
+    ghost use Rattle.st_counted.specs.inside.Counted.{counted_view, numbers_of, HasRoom, AllCounted, SameButLinks, StoresPointer};
+    ghost use Rattle.st_counted.specs.inside.Links.{IsListed};
 
     /// No objects under a head, and nothing held.
     pub fn new(alloc: Global, head: Head) -> Result<Contents, AllocError>

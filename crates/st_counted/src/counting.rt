@@ -1,10 +1,10 @@
 ghost use Rattle.std.specs.Prelude.{◌≡◌, ◌≢◌, ◌<◌, ◌+◌, true, false, if◌then◌else◌};
 ghost use Rattle.st_model.specs.Values.{value, is_small};
-ghost use Rattle.st_table.specs.Entries.{place};
-ghost use Rattle.st_counted.specs.Counts.{is_counted, number_at, is_unused};
-ghost use Rattle.st_counted.specs.Links.{SameObjects, IsListed};
-ghost use Rattle.st_counted.specs.Contents.{counts_of};
-ghost use Rattle.st_counted.specs.References.{raised_by, lowered_by};
+ghost use Rattle.st_table.specs.inside.Entries.{place};
+ghost use Rattle.st_counted.specs.inside.Counts.{is_counted, number_at, is_unused};
+ghost use Rattle.st_counted.specs.inside.Links.{SameObjects, IsListed};
+ghost use Rattle.st_counted.specs.inside.Contents.{counts_of};
+ghost use Rattle.st_counted.specs.inside.References.{raised_by, lowered_by};
 
 use crate::counts::Counts;
 use st_heap::Objects;

@@ -1,9 +1,9 @@
 ghost use Rattle.std.specs.Prelude.{◌≡◌, ◌≢◌, ◌<◌, ◌≤◌, ◌+◌, ℕ, Bool, length, replicate, true, false, Some, None, is_some, slice_set, IfOk};
 ghost use Rattle.st_model.specs.Table.{entry};
-ghost use Rattle.st_table.specs.Entries.{place};
-ghost use Rattle.st_heap.specs.Tables.{objects_of};
-ghost use Rattle.st_counted.specs.Counts.{count_at, is_counted, number_at, is_unused, raised, lowered};
-ghost use Rattle.st_counted.specs.Slots.{counts_in, no_count};
+ghost use Rattle.st_table.specs.inside.Entries.{place};
+ghost use Rattle.st_heap.specs.inside.Tables.{objects_of};
+ghost use Rattle.st_counted.specs.inside.Counts.{count_at, is_counted, number_at, is_unused, raised, lowered};
+ghost use Rattle.st_counted.specs.inside.Slots.{counts_in, no_count};
 
 use crate::links::{link, pointer_of, unlink};
 use st_heap::Objects;
@@ -31,8 +31,8 @@ pub struct Counts {
 }
 
 impl Counts {
-    ghost use Rattle.st_counted.specs.Contents.{counts_of};
-    ghost use Rattle.st_counted.specs.Links.{SameObjects, Holds, IsListed, IsEnd, with_member};
+    ghost use Rattle.st_counted.specs.inside.Contents.{counts_of};
+    ghost use Rattle.st_counted.specs.inside.Links.{SameObjects, Holds, IsListed, IsEnd, with_member};
 
     /// No place is counted.
     pub fn new(alloc: Global) -> Result<Counts, AllocError>

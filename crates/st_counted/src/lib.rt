@@ -14,7 +14,7 @@ mod tally;
 
 ghost use Rattle.st_model.specs.Births.{births};
 ghost use Rattle.st_model.specs.Table.{table};
-ghost use Rattle.st_counted.specs.Taking.{TakesNoneSupported, LeftSupportsItself, TakingSettles};
+ghost use Rattle.st_counted.specs.inside.Taking.{TakesNoneSupported, LeftSupportsItself, TakingSettles};
 
 pub use contents::Head;
 pub use loader::CountedLoader;

@@ -2,10 +2,10 @@ ghost use Rattle.std.specs.Prelude.{◌≡◌, ◌≢◌, ◌<◌, ◌*◌, ℕ,
 ghost use Rattle.st_model.specs.Values.{value};
 ghost use Rattle.st_model.specs.Table.{entry};
 ghost use Rattle.st_model.specs.View.{is_live};
-ghost use Rattle.st_table.specs.Entries.{place};
-ghost use Rattle.st_heap.specs.Links.{next_of, before_of};
-ghost use Rattle.st_heap.specs.Tables.{objects_of};
-ghost use Rattle.st_counted.specs.Links.{SameObjects, Holds, IsEnd, with_member, without_member};
+ghost use Rattle.st_table.specs.inside.Entries.{place};
+ghost use Rattle.st_heap.specs.inside.Links.{next_of, before_of};
+ghost use Rattle.st_heap.specs.inside.Tables.{objects_of};
+ghost use Rattle.st_counted.specs.inside.Links.{SameObjects, Holds, IsEnd, with_member, without_member};
 
 use st_heap::Objects;
 use st_model::Oop;

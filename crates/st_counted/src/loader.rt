@@ -1,8 +1,8 @@
 ghost use Rattle.std.specs.Prelude.{◌≡◌, ℕ, None};
-ghost use Rattle.st_model.specs.Loading.{IsLoading};
-ghost use Rattle.st_model.specs.Props.{IsLoading-prop};
-ghost use Rattle.st_counted.specs.Counted.{counted_view, numbers_of, HasRoom};
-ghost use Rattle.st_counted.specs.Counts.{count_at};
+ghost use Rattle.st_model.specs.inside.Loading.{IsLoading};
+ghost use Rattle.st_model.specs.inside.Props.{IsLoading-prop};
+ghost use Rattle.st_counted.specs.inside.Counted.{counted_view, numbers_of, HasRoom};
+ghost use Rattle.st_counted.specs.inside.Counts.{count_at};
 
 use crate::contents::{Contents, Head};
 use crate::memory::CountedMemory;

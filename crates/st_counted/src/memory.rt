@@ -1,10 +1,10 @@
 ghost use Rattle.std.specs.Prelude.{◌≡◌};
 ghost use Rattle.st_model.specs.View.{IsWhole, SettlesTo};
-ghost use Rattle.st_model.specs.Props.{IsWhole-prop};
-ghost use Rattle.st_memory.specs.Places.{KeepsPlacesIn};
-ghost use Rattle.st_heap.specs.Places.{Stands};
-ghost use Rattle.st_counted.specs.Counted.{counted_view, HasRoom, AllCounted};
-ghost use Rattle.st_counted.specs.Links.{IsListed};
+ghost use Rattle.st_model.specs.inside.Props.{IsWhole-prop};
+ghost use Rattle.st_memory.specs.inside.Places.{KeepsPlacesIn};
+ghost use Rattle.st_heap.specs.inside.Places.{Stands};
+ghost use Rattle.st_counted.specs.inside.Counted.{counted_view, HasRoom, AllCounted};
+ghost use Rattle.st_counted.specs.inside.Links.{IsListed};
 
 use crate::contents::Contents;
 use st_memory::Memory;

@@ -2,7 +2,7 @@ ghost use Rattle.std.specs.Prelude.{◌≡◌, ◌≢◌, ◌<◌, ◌≤◌, �
 ghost use Rattle.st_model.specs.declared.place.RootPlace.TheVariants.{Pending};
 ghost use Rattle.st_model.specs.Values.{value};
 ghost use Rattle.st_model.specs.View.{held_at, with_held, IsPlace, nothing_held};
-ghost use Rattle.st_counted.specs.Words.{nil_word};
+ghost use Rattle.st_counted.specs.inside.Words.{nil_word};
 
 use st_model::{Oop, RootPlace};
 use std::alloc::{AllocError, Global};
@@ -89,7 +89,7 @@ fn nil_words(alloc: Global, len: usize) -> Result<Vec<Oop>, AllocError>
 }
 
 impl Roots {
-    ghost use Rattle.st_counted.specs.Held.{held_of};
+    ghost use Rattle.st_counted.specs.inside.Held.{held_of};
 
     /// Nothing held.
     pub fn new(alloc: Global) -> Result<Roots, AllocError>

@@ -1,4 +1,4 @@
-ghost use Rattle.st_counted.specs.Standing.{StandsInBlocks, CountsReferences};
+ghost use Rattle.st_counted.specs.inside.Standing.{StandsInBlocks, CountsReferences};
 
 use crate::memory::CountedMemory;
 

@@ -6,10 +6,10 @@ ghost use Rattle.st_model.specs.Machine.{table_root};
 ghost use Rattle.st_model.specs.Table.{entry};
 ghost use Rattle.st_model.specs.View.{IsWhole, IsKnown, is_live, object_of, held_at, table_of};
 ghost use Rattle.st_model.specs.declared.place.RootPlace.{RootPlace};
-ghost use Rattle.st_counted.specs.Counts.{count_at, number_at};
-ghost use Rattle.st_counted.specs.References.{object_uses, uses, IsTallied, IsEntered, AddsReferences};
-ghost use Rattle.st_counted.specs.Counted.{counted_view, numbers_of, AllCounted, SameButLinks};
-ghost use Rattle.st_counted.specs.Links.{IsListed};
+ghost use Rattle.st_counted.specs.inside.Counts.{count_at, number_at};
+ghost use Rattle.st_counted.specs.inside.References.{object_uses, uses, IsTallied, IsEntered, AddsReferences};
+ghost use Rattle.st_counted.specs.inside.Counted.{counted_view, numbers_of, AllCounted, SameButLinks};
+ghost use Rattle.st_counted.specs.inside.Links.{IsListed};
 
 use crate::contents::Contents;
 use crate::counting::add;

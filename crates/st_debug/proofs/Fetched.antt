@@ -6,7 +6,7 @@ use Rattle.st_model.specs.declared.dead.Dead.{Dead}
 use Rattle.st_model.specs.Machine.{State, Transition, Died, Went, answer, after, ◌>>=◌, ◌>>◌}
 use Rattle.st_model.specs.Table.{Table, bounded_table}
 use Rattle.st_model.specs.Steps.{next_byte, byte_at, get_method, get_ip, set_ip}
-use Rattle.st_model.specs.Calls.{transition_of, itself}
+use Rattle.st_model.specs.inside.Calls.{transition_of, itself}
 use Rattle.st_debug.specs.Watched.{At, seen_at, watched}
 
 module _ (s : State Table) where

@@ -7,7 +7,7 @@ use Rattle.st_host.specs.declared.host.SayFault.{SayFault}
 use Rattle.st_host.proofs.Telling.{OnlyNow}
 use Rattle.st_model.specs.Values.{Value}
 use Rattle.st_model.specs.Table.{Table}
-use Rattle.st_call.specs.Saying.{Pushes}
+use Rattle.st_call.specs.inside.Saying.{Pushes}
 use Rattle.st_call.proofs.Pushing.{push_none, push_then, push_begun, push_as}
 use Rattle.st_debug.specs.Stack.{Call, call_in, calls, frame_line}
 

@@ -1,3 +1,3 @@
 pub mod Watched
 pub mod Stack
-pub mod Calls
+pub mod inside

@@ -2,7 +2,7 @@
 ghost use Rattle.std.specs.Prelude.{◌≡◌, ◌<◌, option_map};
 ghost use Rattle.st_model.specs.Values.{value};
 ghost use Rattle.st_debug.specs.Stack.{call_in, field_of, has_fields, home_in, method_in};
-ghost use Rattle.st_debug.specs.Calls.{call_of};
+ghost use Rattle.st_debug.specs.inside.Calls.{call_of};
 
 use st_memory::Memory;
 use st_model::Oop;

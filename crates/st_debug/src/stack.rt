@@ -1,8 +1,8 @@
 // The lines of the stack.
 ghost use Rattle.std.specs.{Prelude.{◌≡◌, ◌≤◌, length, IfOk, OnOk}, List.flat_map};
-ghost use Rattle.st_host.specs.{Counts.HasCause, Runs.SaysAll, Telling.Says};
+ghost use Rattle.st_host.specs.{Counts.HasCause, Runs.SaysAll, inside.Telling.Says};
 ghost use Rattle.st_model.specs.Values.{value};
-ghost use Rattle.st_call.specs.Saying.{Pushes};
+ghost use Rattle.st_call.specs.inside.Saying.{Pushes};
 ghost use Rattle.st_debug.specs.Stack.{calls, frame_line, stack_text};
 
 use crate::context::call_at;

@@ -1,8 +1,8 @@
 // The bytecode that comes next.
 ghost use Rattle.std.specs.Prelude.{◌≡◌, option_map};
 ghost use Rattle.st_model.specs.{Values.value, Machine.World};
-ghost use Rattle.st_frames.specs.Shown.{IsFrame, shown};
-ghost use Rattle.st_call.specs.Saying.{Pushes};
+ghost use Rattle.st_frames.specs.inside.Shown.{IsFrame, shown};
+ghost use Rattle.st_call.specs.inside.Saying.{Pushes};
 ghost use Rattle.st_debug.specs.Watched.{at_of, at_text, is_entered, is_first, watched};
 
 use st_call::{Output, Pushed, push_integer, push_number, push_values};

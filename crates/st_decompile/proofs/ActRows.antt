@@ -14,7 +14,7 @@ use Rattle.st_expression_stack.specs.Items.{Item, piece, leaf, Acted, goes_on}
 use Rattle.st_expression_stack.specs.Items as items
 use Rattle.st_expression_stack.specs.Messages.{sends}
 use Rattle.st_decompile.specs.Reading.{pushed_tree, popped_into, makes_block}
-use Rattle.st_decompile.specs.Read.{name_by, literals_by, region_by, act_by, makes_block_by, pushes_by, popped_into_by, special_sends_by}
+use Rattle.st_decompile.specs.inside.Read.{name_by, literals_by, region_by, act_by, makes_block_by, pushes_by, popped_into_by, special_sends_by}
 
 module _ (name_of : Place → List ℕ) (literals : List LiteralView) (a b : ℕ → List Step → Option (List Item)) where
   pushed_any : (p : Place) → pushed_tree name_of literals a p ≡ pushed_tree name_of literals b p

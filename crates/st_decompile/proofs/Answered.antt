@@ -7,15 +7,15 @@ use Rattle.st_emit.specs.Names.{NamesView}
 use Rattle.st_code.specs.Methods.{PartsView, code}
 use Rattle.st_grammar.specs.Leaves.{leaves_of}
 use Rattle.st_grammar.specs.Faults.{highest, most}
-use Rattle.st_grammar.specs.Texts.{Means}
+use Rattle.st_grammar.specs.inside.Meant.{Means}
 use Rattle.st_grammar.proofs.FormedLeaves.{Each}
 use Rattle.st_grammar.proofs.FormedTrees.{means_formed, each_of}
-use Rattle.st_print.specs.Printing.{IsPrintedBack}
+use Rattle.st_print.specs.inside.Printing.{IsPrintedBack}
 use Rattle.st_print.proofs.Nesting.{statements_nesting}
 use Rattle.st_print.proofs.Deep.{method_deep}
 use Rattle.st_print.proofs.Printing.{shallow_back}
 use Rattle.st_resolved.proofs.Placeless.{no_places}
-use Rattle.st_decompile.specs.Calling.{AreNames}
+use Rattle.st_decompile.specs.inside.Calling.{AreNames}
 use Rattle.st_decompile.proofs.ReadTrees.{AreWords, IsRead, all_read}
 
 -- what a text means nests no deeper than a text may

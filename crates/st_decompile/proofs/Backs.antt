@@ -7,12 +7,12 @@ use Rattle.st_emit.specs.Names.{NamesView, Scope}
 use Rattle.st_emit.specs.Literals.{LiteralView, Named}
 use Rattle.st_emit.specs.Nodes.{Node, Body, Messages, Nodes}
 use Rattle.st_emit.specs.Resolving.{Context, names_in, names_in_statements, names_in_messages, names_in_all, is_plain, all_plain, expression_node, statements_body, messages_of, nodes_of, all_nodes}
-use Rattle.st_emit.specs.Around.{cascade_nodes}
+use Rattle.st_emit.specs.inside.Around.{cascade_nodes}
 use Rattle.st_resolved.proofs.Grows.{Extends}
 use Rattle.st_expression_stack.specs.Items.{no_arguments}
 use Rattle.st_expression_stack.specs.Choosing.{received}
 use Rattle.st_decompile.specs.Back.{tree_of, body_tree, nodes_tree, messages_list, least, body_least, nodes_least, messages_least}
-use Rattle.st_decompile.specs.Calling.{renamed, least_in, IsNext}
+use Rattle.st_decompile.specs.inside.Calling.{renamed, least_in, IsNext}
 use Rattle.st_decompile.proofs.Same.{Same, SameBody, SameNodes, SameMessages}
 
 -- as many arguments

@@ -14,7 +14,7 @@ use Rattle.st_expression_stack.specs.Items.{no_arguments}
 use Rattle.st_expression_stack.specs.Choosing.{called}
 use Rattle.st_decompile.specs.Reading.{least_among}
 use Rattle.st_decompile.specs.Back.{places_from, body_least}
-use Rattle.st_decompile.specs.Calling.{renamed, AreNames, least_in, IsNext}
+use Rattle.st_decompile.specs.inside.Calling.{renamed, AreNames, least_in, IsNext}
 use Rattle.st_decompile.proofs.Same.{Same, same, same_block}
 use Rattle.st_decompile.proofs.Renamed.{renamed-append}
 use Rattle.st_decompile.proofs.Backs.{Back, BodyBack, at_next, again_at, body_back}

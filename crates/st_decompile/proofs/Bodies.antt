@@ -17,11 +17,11 @@ use Rattle.st_emit.specs.Depths.{level_of, method_level}
 use Rattle.st_emit.specs.Resolving.{Context, behind, before, names_in, names_in_statements, constant_or, place_of_name, expression_node, statements_body, is_plain}
 use Rattle.st_code.specs.Faults.{expression_fault, statements_fault}
 use Rattle.st_resolved.proofs.Grows.{Extends, extends_on, statements_grow}
-use Rattle.st_resolved.specs.Seen.{unnumbered}
+use Rattle.st_resolved.specs.inside.Seen.{unnumbered}
 use Rattle.st_resolved.proofs.Unnumbered.{or_none}
 use Rattle.st_expression_stack.specs.Items.{no_arguments}
 use Rattle.st_decompile.specs.Back.{tree_of, method_tree, method_least, is_self, without_self, least}
-use Rattle.st_decompile.specs.Calling.{AreNames, least_in}
+use Rattle.st_decompile.specs.inside.Calling.{AreNames, least_in}
 use Rattle.st_decompile.proofs.Same.{Same, before_next}
 use Rattle.st_decompile.proofs.Backs.{Back, at_next, again_at, least_both}
 use Rattle.st_decompile.proofs.Trees.{expression_is, top_least, last_least, some_body}

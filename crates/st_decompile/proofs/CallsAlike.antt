@@ -8,7 +8,7 @@ use Rattle.st_emit.specs.Literals.{LiteralView, number, character, bytes, symbol
 use Rattle.st_expression_stack.specs.Names.{usable_or, texts_of, texts_in, is_among, names_value, is_value, is_usable, shared_text, literal_text, unused, calling_of}
 use Rattle.st_expression_stack.proofs.Kept.{append_among}
 use Rattle.st_expression_stack.proofs.OwnNames.{own_alike}
-use Rattle.st_decompile.specs.Alike.{HasOneName, TellAlike}
+use Rattle.st_decompile.specs.inside.Alike.{HasOneName, TellAlike}
 
 -- LISTED
 

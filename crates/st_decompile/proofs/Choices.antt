@@ -14,7 +14,7 @@ use Rattle.st_emit.specs.Nodes.{Node, Body, constant, two_sided, one_sided, last
 use Rattle.st_emit.specs.Emitting.{passes_on, other_side}
 use Rattle.st_emit.specs.Resolving.{Context, behind, names_in, names_in_statements, is_plain, constant_or, place_of_name, expression_node, statements_body, form_named}
 use Rattle.st_expression_stack.specs.Choosing.{alone, one_sided_by, sides_by, choice_tree, plain_block, with_block, with_blocks}
-use Rattle.st_decompile.specs.Calling.{least_in, IsNext}
+use Rattle.st_decompile.specs.inside.Calling.{least_in, IsNext}
 use Rattle.st_decompile.proofs.Same.{Same, SameBody, same, same_on, same_sided, same_chosen, same_back, same_constant, body_same}
 use Rattle.st_decompile.proofs.Sends.{sided_send, true_send, false_send, sided_named, chosen_true, chosen_false}
 use Rattle.st_resolved.proofs.Decoding.{below}

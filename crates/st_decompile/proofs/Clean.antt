@@ -19,13 +19,13 @@ use Rattle.st_emit.specs.Emitting.{passes_on, other_side, leaves_on}
 use Rattle.st_code.specs.declared.fault.Fault.{Fault}
 use Rattle.st_code.specs.declared.fault.Cause.TheVariants.{Unknown, Store, Twice, Number}
 use Rattle.st_code.specs.Faults.{fault_at, read_fault, store_fault, stored_fault, twice_fault, expression_fault, statements_fault, messages_fault, expressions_fault, declare_fault, content_fault, elements_fault, is_too_low}
-use Rattle.st_resolved.specs.Seen.{unnumbered, In, range, AllBelow, assigns, SeenPlace, StoredPlace, Fresh, Seen, BodySeen, MessagesSeen, NodesSeen, IsWritten}
+use Rattle.st_resolved.specs.inside.Seen.{unnumbered, In, range, AllBelow, assigns, SeenPlace, StoredPlace, Fresh, Seen, BodySeen, MessagesSeen, NodesSeen, IsWritten}
 use Rattle.st_resolved.proofs.Unnumbered.{read_unnumbered, stored_unnumbered, unnumbered_as, unnumbered-append, or_none}
 use Rattle.st_resolved.proofs.Seen.{below_both, below_more}
 use Rattle.st_expression_stack.specs.Items.{no_arguments}
 use Rattle.st_expression_stack.specs.Choosing.{called, content_of, elements_of, constant_text, constant_tree, received, alone, one_sided_by, sides_by, choice_tree, loop_selector, with_block, with_blocks}
 use Rattle.st_decompile.specs.Back.{tree_of, body_tree, nodes_tree, messages_list, body_least, places_from, method_tree, without_self, is_self}
-use Rattle.st_decompile.specs.Calling.{AreNames, IsOutside}
+use Rattle.st_decompile.specs.inside.Calling.{AreNames, IsOutside}
 use Rattle.st_decompile.proofs.Blocks.{places_up, names_up}
 
 pub or_both : (a b : Option Fault) → a ≡ None → b ≡ None → or_else a b ≡ None

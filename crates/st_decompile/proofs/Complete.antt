@@ -21,12 +21,12 @@ use Rattle.st_resolved.specs.Instructions.{on_some, steps_of, AllFit}
 use Rattle.st_resolved.proofs.Decoding.{steps_back, below}
 use Rattle.st_resolved.proofs.Unnumbered.{or_none}
 use Rattle.st_emit.specs.Selectors.{arity}
-use Rattle.st_resolved.specs.Right.{RightStatements}
+use Rattle.st_resolved.specs.inside.Right.{RightStatements}
 use Rattle.st_resolved.proofs.Wholes.{placed, fit, not_more}
 use Rattle.st_expression_stack.specs.Items.{Item, no_arguments, most_high, statements_of}
 use Rattle.st_decompile.specs.Reading.{region}
 use Rattle.st_decompile.specs.Back.{body_high, method_least}
-use Rattle.st_decompile.specs.Calling.{AreNames, least_in}
+use Rattle.st_decompile.specs.inside.Calling.{AreNames, least_in}
 use Rattle.st_decompile.specs.Whole.{size_in, variables_in, own_in, extension_in, primitive_by, primitive_in, variables_called, method_of, candidate}
 use Rattle.st_decompile.proofs.Pieces.{method_items, method_taken}
 use Rattle.st_decompile.proofs.Nodes.{method_read}

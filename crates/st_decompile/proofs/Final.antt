@@ -8,11 +8,11 @@ use Rattle.st_emit.specs.declared.step.Place.TheVariants.{Temporary}
 use Rattle.st_emit.specs.Names.{NamesView, Scope, numbered, declared}
 use Rattle.st_code.specs.Faults.{declare_fault, method_fault}
 use Rattle.st_code.specs.Methods.{scope_from, own_variables, body, literals, last_literals, parts, fault, code}
-use Rattle.st_resolved.specs.Seen.{unnumbered, range, AllBelow, numbers, assigns, IsScope, BodySeen}
+use Rattle.st_resolved.specs.inside.Seen.{unnumbered, range, AllBelow, numbers, assigns, IsScope, BodySeen}
 use Rattle.st_resolved.proofs.Unnumbered.{unnumbered-append, unnumbered-any}
 use Rattle.st_resolved.proofs.Seen.{numbers-append, numbers-range, below_more, below_both, below_range, scope_more, statements_seen}
 use Rattle.st_resolved.proofs.Wholes.{is_scope, seen}
-use Rattle.st_decompile.specs.Calling.{renamed, AreNames}
+use Rattle.st_decompile.specs.inside.Calling.{renamed, AreNames}
 use Rattle.st_decompile.proofs.Blocks.{names_up}
 use Rattle.st_decompile.proofs.Clean.{Declares, own_scope, up_clean, up_declares, statements_clean, or_both}
 use Rattle.st_decompile.proofs.Wholes.{tree_again, scope_again, code_again}

@@ -2,15 +2,15 @@
 use Rattle.std.proofs.Common.{◌≡◌, ℕ, List, Option, Some, None, sym, ap, ◌∙◌, subst}
 use Rattle.std.specs.Prelude.{Ok}
 use Rattle.st_scan.specs.Views.{MethodView}
-use Rattle.st_grammar.specs.Texts.{Means}
+use Rattle.st_grammar.specs.inside.Meant.{Means}
 use Rattle.st_grammar.proofs.FormedTrees.{means_formed}
 use Rattle.st_print.specs.Printed.{printed}
-use Rattle.st_print.specs.Printing.{IsPrintedBack}
+use Rattle.st_print.specs.inside.Printing.{IsPrintedBack}
 use Rattle.st_emit.specs.Names.{NamesView}
 use Rattle.st_code.specs.Methods.{PartsView, code}
 use Rattle.st_expression_stack.specs.Names.{usable, calling_of, name_in}
 use Rattle.st_decompile.specs.Whole.{candidate}
-use Rattle.st_decompile.specs.Answers.{IsSource, IsFound}
+use Rattle.st_decompile.specs.inside.Answers.{IsSource, IsFound}
 use Rattle.st_decompile.proofs.Words.{code_alike, agree_back}
 use Rattle.st_decompile.proofs.Usable.{usable_agree, are_names, are_words}
 use Rattle.st_decompile.proofs.Answered.{IsAnswered, all_answered}

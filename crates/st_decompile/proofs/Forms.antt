@@ -17,12 +17,12 @@ use Rattle.st_emit.specs.Names.{NamesView, Scope, constant_named}
 use Rattle.st_emit.specs.Literals.{LiteralView, Named, Naming}
 use Rattle.st_emit.specs.Nodes.{Node, Body, constant, send, two_sided, Messages, only, also, Tail, with_tail}
 use Rattle.st_emit.specs.Emitting.{leaves_on}
-use Rattle.st_emit.specs.Around.{cascade_nodes}
+use Rattle.st_emit.specs.inside.Around.{cascade_nodes}
 use Rattle.st_emit.specs.Resolving.{Context, behind, names_in, names_in_statements, names_in_messages, is_plain, constant_or, name_node, place_of_name, expression_node, statements_body, messages_of, form_named}
 use Rattle.st_expression_stack.specs.Items.{no_arguments}
 use Rattle.st_expression_stack.specs.Choosing.{received, plain_block, with_block, with_blocks, loop_selector}
 use Rattle.st_decompile.specs.Back.{tree_of, messages_list, least, body_least}
-use Rattle.st_decompile.specs.Calling.{AreNames, least_in, IsNext}
+use Rattle.st_decompile.specs.inside.Calling.{AreNames, least_in, IsNext}
 use Rattle.st_decompile.proofs.Same.{Same, SameBody, SameMessages, same, same_on, same_send, same_sided, same_loop, same_turned}
 use Rattle.st_decompile.proofs.Sends.{is_form, is_formed, single_plain, sided_send, true_send, false_send, loop_send, sided_named, loop_named}
 use Rattle.st_decompile.proofs.Choices.{Side, choice_is}

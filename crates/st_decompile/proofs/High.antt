@@ -4,7 +4,7 @@ use Rattle.std.proofs.lemmas.Bool.Decides.{nat_tests}
 use Rattle.std.specs.Prelude.{if◌then◌else◌}
 use Rattle.st_emit.specs.Nodes.{Node, small, literal, Messages, only, also}
 use Rattle.st_resolved.specs.Instructions.{on_some}
-use Rattle.st_resolved.specs.Placed.{IsCount}
+use Rattle.st_resolved.specs.inside.Placed.{IsCount}
 use Rattle.st_expression_stack.specs.Items.{Piece, Item, piece, most_high, is_low}
 use Rattle.st_decompile.specs.Reading.{passes}
 use Rattle.st_decompile.specs.Back.{high, messages_high, nodes_high}

@@ -16,7 +16,7 @@ use Rattle.st_code.specs.Faults.{fault_at, read_fault, store_fault, stored_fault
 use Rattle.st_resolved.proofs.Grows.{Extends}
 use Rattle.st_expression_stack.specs.Choosing.{called}
 use Rattle.st_decompile.specs.Back.{tree_of}
-use Rattle.st_decompile.specs.Calling.{AreNames}
+use Rattle.st_decompile.specs.inside.Calling.{AreNames}
 use Rattle.st_decompile.proofs.Same.{Same, same, same_assign}
 use Rattle.st_decompile.proofs.Renamed.{variable_again}
 use Rattle.st_decompile.proofs.Contents.{content_again}

@@ -7,7 +7,7 @@ use Rattle.st_emit.specs.declared.step.Step.{Step}
 use Rattle.st_emit.specs.Steps.{size_of}
 use Rattle.st_decompile.specs.declared.located.Located.{Located}
 use Rattle.st_decompile.specs.Reading.{front, behind}
-use Rattle.st_decompile.specs.Located.{steps_in, end_of, located_from, place_or, split_of, AreFrom, AreSpaced, AreWithin, AreFront, AreBehind}
+use Rattle.st_decompile.specs.inside.Located.{steps_in, end_of, located_from, place_or, split_of, AreFrom, AreSpaced, AreWithin, AreFront, AreBehind}
 use Rattle.st_decompile.proofs.Running.{front_none, front_turn, behind_none, behind_turn}
 
 -- LOCATED

@@ -14,11 +14,11 @@ use Rattle.st_emit.specs.Literals.{LiteralView, small_number, Naming, given, ◌
 use Rattle.st_emit.specs.Nodes as nodes
 use Rattle.st_emit.specs.Nodes.{Sending, Node, Body, Tail, Nodes, count, body_of, with_tail}
 use Rattle.st_emit.specs.Resolving.{Context, behind, inside, names_in, names_in_all, place_of_name, constant_or, small_or, content_node, sending, Message, all_nodes, message_nodes, plain_tail, form_named, formed, single_tail, sends_tail, assign_tail, tailed, is_plain, before, count_node, expression_node, statements_body, messages_of, nodes_of}
-use Rattle.st_grammar.specs.Formed.{IsSelector, HasMessage, ContentFormed, ElementsFormed, LiteralFormed, ReceiverFormed, StatementsFormed, MessagesFormed, ArgumentsFormed, count_of}
+use Rattle.st_grammar.specs.inside.Formed.{IsSelector, HasMessage, ContentFormed, ElementsFormed, LiteralFormed, ReceiverFormed, StatementsFormed, MessagesFormed, ArgumentsFormed, count_of}
 use Rattle.st_resolved.proofs.Grows.{extends_same}
 use Rattle.st_resolved.proofs.Placing.{puts_small}
 use Rattle.st_expression_stack.specs.Choosing.{content_of, elements_of}
-use Rattle.st_decompile.specs.Formed.{Formed, BodyFormed, MessagesWell, NodesFormed}
+use Rattle.st_decompile.specs.inside.Formed.{Formed, BodyFormed, MessagesWell, NodesFormed}
 
 -- what is made has this property, whatever literals there are
 pub record Makes {A : Type 0} (P : A → Type 0) (m : Naming A) : Type 0 where

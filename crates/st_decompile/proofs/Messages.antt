@@ -19,7 +19,7 @@ use Rattle.st_expression_stack.specs.Items.{Piece, Item, piece, cascade, again, 
 use Rattle.st_expression_stack.specs.Choosing.{received}
 use Rattle.st_expression_stack.specs.Messages.{sends, sent_to, sent_low, to_receiver, with_arguments}
 use Rattle.st_decompile.specs.Reading.{symbol_of, makes_block}
-use Rattle.st_resolved.specs.Placed.{IsFound, IsSent}
+use Rattle.st_resolved.specs.inside.Placed.{IsFound, IsSent}
 use Rattle.st_decompile.specs.Back.{messages_tree, messages_least, messages_high, nodes_tree, nodes_least, nodes_high}
 use Rattle.st_decompile.proofs.High.{low_is}
 use Rattle.st_decompile.proofs.Pieces.{nodes_items, nodes_taken}

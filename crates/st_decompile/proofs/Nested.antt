@@ -23,7 +23,7 @@ use Rattle.st_print.specs.declared.rank.Rank.TheVariants.{Unary, Binary, Any}
 use Rattle.st_print.specs.Printed.{is_loose, is_word, rank_of, rank_of_message, rank_of_messages, receiver_rank}
 use Rattle.st_print.proofs.Nesting.{content_nesting, elements_nesting, wrapped_nesting, argument_rank, nesting, statements_nesting, messages_nesting, arguments_nesting}
 use Rattle.st_grammar.specs.Faults.{most}
-use Rattle.st_grammar.specs.Formed.{ReceiverFormed, StatementsFormed, MessagesFormed, ArgumentsFormed}
+use Rattle.st_grammar.specs.inside.Formed.{ReceiverFormed, StatementsFormed, MessagesFormed, ArgumentsFormed}
 use Rattle.st_expression_stack.specs.Items.{no_arguments, most_high}
 use Rattle.st_expression_stack.specs.Choosing.{content_of, elements_of, constant_tree, received, alone, one_sided_by, sides_by, choice_tree, loop_selector, with_block, with_blocks}
 use Rattle.st_decompile.proofs.Sides.{IfNamed, each_side}

@@ -19,7 +19,7 @@ use Rattle.st_resolved.specs.Instructions.{on_some}
 use Rattle.st_expression_stack.specs.Items.{Piece, Item, piece, cascade, again, no_arguments, leaf, Taken, statements_of, arguments_of, goes_on, most_high}
 use Rattle.st_expression_stack.specs.Choosing.{called, constant_tree, literal_tree, received, choice_tree}
 use Rattle.st_decompile.specs.Reading.{choice_piece, loop_piece, block_piece, least_among}
-use Rattle.st_resolved.specs.Placed.{IsVariable, Placed, BodyPlaced, MessagesPlaced, NodesPlaced}
+use Rattle.st_resolved.specs.inside.Placed.{IsVariable, Placed, BodyPlaced, MessagesPlaced, NodesPlaced}
 use Rattle.st_decompile.specs.Back.{places_from, high, body_high, messages_high, nodes_high, least, body_least, tree_of, body_tree, messages_tree, messages_list}
 use Rattle.st_decompile.proofs.Pieces.{piece_of, body_items, body_taken, body_alone, body_bare, arguments_bare, argument_items, arguments_are, nodes_items, method_items, listed}
 use Rattle.st_decompile.proofs.Messages.{with_messages, message_follows, first_follows}

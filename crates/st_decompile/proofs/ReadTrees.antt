@@ -8,9 +8,9 @@ use Rattle.st_code.specs.declared.fault.Fault.{Fault}
 use Rattle.st_code.specs.Methods.{PartsView, code, parts, fault, parts_or, context, body, literals}
 use Rattle.st_scan.specs.Pieces.{is_name}
 use Rattle.st_grammar.specs.Faults.{most}
-use Rattle.st_grammar.specs.Formed.{IsSelector, IsWellFormed}
+use Rattle.st_grammar.specs.inside.Formed.{IsSelector, IsWellFormed}
 use Rattle.st_resolved.proofs.Arity.{right_tree}
-use Rattle.st_decompile.specs.Calling.{AreNames}
+use Rattle.st_decompile.specs.inside.Calling.{AreNames}
 use Rattle.st_decompile.specs.Whole.{candidate}
 use Rattle.st_decompile.specs.Back.{places_from}
 use Rattle.st_decompile.proofs.Wholes.{tree_again, arguments_length}

@@ -18,8 +18,8 @@ use Rattle.st_expression_stack.specs.declared.item.Item.TheVariants as kept
 use Rattle.st_decompile.specs.declared.reading.Reading.{Reading}
 use Rattle.st_expression_stack.specs.Items.{on_piece, Piece, Item, Taken, statements_of, arguments_of, piece, argument, goes_on, statements_from, put_low}
 use Rattle.st_decompile.specs.Reading.{loop_piece, block_piece, least_among}
-use Rattle.st_expression_stack.specs.Stacks.{piece_view, stack_view, IsPieceless, IsPopped, IsArgumentless}
-use Rattle.st_decompile.specs.Read.{selector_now, name_by, literals_by, region_by, arguments_by, block_by, popped_by, popped_into_by, looped_by}
+use Rattle.st_expression_stack.specs.inside.Stacks.{piece_view, stack_view, IsPieceless, IsPopped, IsArgumentless}
+use Rattle.st_decompile.specs.inside.Read.{selector_now, name_by, literals_by, region_by, arguments_by, block_by, popped_by, popped_into_by, looped_by}
 use Rattle.st_expression_stack.proofs.Stacking.{on_piece_none, stack_push, arguments_end}
 use Rattle.st_expression_stack.proofs.Got.{got_as}
 

@@ -11,10 +11,10 @@ use Rattle.st_expression_stack.specs.declared.item.Item.{Item as KeptItem}
 use Rattle.st_decompile.specs.declared.located.Located.{Located}
 use Rattle.st_decompile.specs.declared.reading.Reading.{Reading}
 use Rattle.st_expression_stack.specs.Items.{Item, Acted}
-use Rattle.st_decompile.specs.Located.{steps_in, end_of, place_or, split_of, AreFrom, AreSpaced, AreBehind}
+use Rattle.st_decompile.specs.inside.Located.{steps_in, end_of, place_or, split_of, AreFrom, AreSpaced, AreBehind}
 use Rattle.st_decompile.specs.Reading.{front, behind, act, run}
-use Rattle.st_expression_stack.specs.Stacks.{stack_view, acted_by}
-use Rattle.st_decompile.specs.Read.{name_by, literals_by, region_by, act_by}
+use Rattle.st_expression_stack.specs.inside.Stacks.{stack_view, acted_by}
+use Rattle.st_decompile.specs.inside.Read.{name_by, literals_by, region_by, act_by}
 use Rattle.st_decompile.proofs.Locating.{spaced, split_is, split_none}
 use Rattle.st_decompile.proofs.Running.{front_none, front_turn, behind_none, behind_turn, done_turn, none_turn, passed_turn, region_none, region_some}
 

@@ -13,10 +13,10 @@ use Rattle.st_decompile.specs.declared.region.Jump.{Jump}
 use Rattle.st_decompile.specs.declared.region.Spot.{Spot}
 use Rattle.st_expression_stack.specs.Items.{Item, Taken, piece, cascade, again, answered, argument, over, back, no_arguments, statements_of, Acted, statements_from, put_low}
 use Rattle.st_decompile.specs.declared.located.Located.{Located}
-use Rattle.st_decompile.specs.Located.{steps_in, split_of, AreSpaced}
+use Rattle.st_decompile.specs.inside.Located.{steps_in, split_of, AreSpaced}
 use Rattle.st_decompile.specs.Reading.{loop_piece, passes, passed, front, behind}
-use Rattle.st_expression_stack.specs.Stacks.{stack_view, item_view, stack_if, acted_by, chosen_if}
-use Rattle.st_decompile.specs.Read.{region_by, act_by, IsPlain, block_by, block_made_by, makes_block_by, choice_made_by, chosen_by, looped_by, repeats_by, decided_by, passed_by, IsPassed, IsBlockStart}
+use Rattle.st_expression_stack.specs.inside.Stacks.{stack_view, item_view, stack_if, acted_by, chosen_if}
+use Rattle.st_decompile.specs.inside.Read.{region_by, act_by, IsPlain, block_by, block_made_by, makes_block_by, choice_made_by, chosen_by, looped_by, repeats_by, decided_by, passed_by, IsPassed, IsBlockStart}
 use Rattle.st_decompile.proofs.Locating.{split_is, split_none}
 use Rattle.st_decompile.proofs.RegionTurns.{later_spaced}
 use Rattle.st_expression_stack.proofs.Stacking.{stack_more}

@@ -9,7 +9,7 @@ use Rattle.st_resolved.specs.Instructions.{on_some}
 use Rattle.st_expression_stack.specs.declared.item.Item.{Item as KeptItem}
 use Rattle.st_expression_stack.specs.Items.{Item, Acted}
 use Rattle.st_decompile.specs.Reading.{front, behind, act, run, region}
-use Rattle.st_expression_stack.specs.Stacks.{stack_view, acted_by}
+use Rattle.st_expression_stack.specs.inside.Stacks.{stack_view, acted_by}
 
 pub front_none : (ss : List Step) → front 0 ss ≡ []
 front_none [] = refl

@@ -10,10 +10,11 @@ use Rattle.st_scan.specs.declared.token.Signed.{Signed}
 use Rattle.st_emit.specs.declared.literal.Literal.{Literal}
 use Rattle.st_emit.specs.Literals.{LiteralView, LiteralsView, number, character, bytes, symbol, array, named, owner, no_literals, literal, signed_eq}
 use Rattle.st_emit.specs.declared.literal.Literal.TheVariants.{Array}
-use Rattle.st_emit.specs.Views.{literal_view, literals_view, members_view}
+use Rattle.st_emit.specs.inside.Views.{literal_view, literals_view, members_view}
 use Rattle.st_emit.proofs.Members.{array_view}
 use Rattle.st_code.specs.Methods.{PartsView}
-use Rattle.st_decompile.specs.Comparing.{same_literal, same_members, members_of, as_members, same_parts}
+use Rattle.st_decompile.specs.Comparing.{same_literal, same_members, as_members, same_parts}
+use Rattle.st_decompile.specs.inside.Members.{members_of}
 use Rattle.st_resolved.proofs.Places.{signed_same as signed_is}
 
 same_bytes : (s t : List ℕ) → bytes_eq s t ≡ true → s ≡ t

@@ -2,7 +2,7 @@
 use Rattle.std.proofs.Common.{◌≡◌, ℕ, List, Option, Some, None, ◌∙◌}
 use Rattle.st_expression_stack.specs.declared.item.Item.{Item as KeptItem}
 use Rattle.st_expression_stack.specs.Items.{Item, Piece, Acted, on_piece}
-use Rattle.st_decompile.specs.Read.{IsPieceStart, IsBlockStart}
+use Rattle.st_decompile.specs.inside.Read.{IsPieceStart, IsBlockStart}
 
 pub start_none : (old mid new : List KeptItem) → IsPieceStart old mid None → IsBlockStart old new None
 start_none old mid new h = λ f. h (λ n below. on_piece below f)

@@ -5,7 +5,8 @@ use Rattle.st_scan.specs.declared.tree.MethodTree.{MethodTree}
 use Rattle.st_scan.specs.declared.fault.SyntaxFault.{SyntaxFault}
 use Rattle.st_scan.specs.declared.fault.SyntaxFault.TheVariants.{At, OutOfMemory}
 use Rattle.st_scan.specs.Views.{MethodView, method_view}
-use Rattle.st_grammar.specs.Texts.{Means, IsOnly}
+use Rattle.st_grammar.specs.inside.Meant.{Means}
+use Rattle.st_grammar.specs.Texts.{IsOnly}
 use Rattle.st_print.specs.Printed.{printed}
 use Rattle.st_emit.specs.Names.{NamesView}
 use Rattle.st_code.specs.declared.fault.Fault.{Fault}
@@ -16,7 +17,7 @@ use Rattle.st_decompile.specs.declared.decompiler.Decompiled.{Decompiled}
 use Rattle.st_decompile.specs.Comparing.{same_parts}
 use Rattle.st_decompile.specs.Whole.{candidate}
 use Rattle.st_expression_stack.specs.Names.{CallingView, calling_of, name_in}
-use Rattle.st_decompile.specs.Answers.{IsCandidate, IsMeant, HasCode, IsSource, IsSourceOf, IsPrintedRead, IsDecompiled}
+use Rattle.st_decompile.specs.inside.Answers.{IsCandidate, IsMeant, HasCode, IsSource, IsSourceOf, IsPrintedRead, IsDecompiled}
 use Rattle.st_decompile.proofs.Sameness.{parts_are, parts_same}
 use Rattle.st_decompile.proofs.Finding.{back_is}
 

@@ -9,16 +9,16 @@ use Rattle.st_emit.specs.declared.form.Form.TheVariants.{Message as Plain, One, 
 use Rattle.st_emit.specs.Names.{NamesView, Scope, numbered, declared, variable_named}
 use Rattle.st_emit.specs.Literals.{LiteralView, Named, Naming}
 use Rattle.st_emit.specs.Nodes.{Sending, Node, Body, Messages, Nodes, nothing, last, next as following, returned, only, also, node}
-use Rattle.st_emit.specs.Around.{cascade_nodes}
+use Rattle.st_emit.specs.inside.Around.{cascade_nodes}
 use Rattle.st_emit.specs.Resolving.{Context, behind, names_in, names_in_statements, names_in_messages, names_in_all, is_plain, all_plain, place_of_name, expression_node, statements_body, messages_of, nodes_of, all_nodes, sending, message_nodes, before, form_named}
 use Rattle.st_code.specs.Faults.{expression_fault, statements_fault, messages_fault, expressions_fault, declare_fault}
 use Rattle.st_resolved.proofs.Grows.{Extends, extends_on, grows_place, grows_sends, grows_sending, grows_messages, grows_all, statements_grow, messages_grow, nodes_grow}
-use Rattle.st_resolved.specs.Seen.{unnumbered}
+use Rattle.st_resolved.specs.inside.Seen.{unnumbered}
 use Rattle.st_resolved.proofs.Unnumbered.{or_none, unnumbered-append, more_names, read_alike, store_alike}
 use Rattle.st_expression_stack.specs.Items.{no_arguments}
 use Rattle.st_expression_stack.specs.Choosing.{received, plain_block, with_block, with_blocks}
 use Rattle.st_decompile.specs.Back.{tree_of, body_tree, messages_list, nodes_least}
-use Rattle.st_decompile.specs.Calling.{AreNames, least_in, IsNext}
+use Rattle.st_decompile.specs.inside.Calling.{AreNames, least_in, IsNext}
 use Rattle.st_decompile.proofs.Same.{SameBody, SameNodes, SameMessages, same_last, same_next, same_returned, same_nothing, same_node, same_only, same_also, IsSome, before_next, before_some}
 use Rattle.st_decompile.proofs.Sends.{is_form, is_formed, sided_send, true_send, false_send, loop_send}
 use Rattle.st_decompile.proofs.Forms.{IsPlainSend, plain_send, several, as_formed, and_false, receiver_back, plain_back, sided_back, true_back, false_back, loop_back}

@@ -13,7 +13,7 @@ use Rattle.st_emit.specs.declared.step.Place.{Place}
 use Rattle.st_emit.specs.declared.step.Place.TheVariants.{Field, Temporary, Literal, Shared}
 use Rattle.st_emit.specs.Names.{NamesView, SharedName, field, shared, constant_named, field_from, if_named, field_named, shared_named, variable_named, or_else}
 use Rattle.st_emit.specs.Literals.{LiteralView, named}
-use Rattle.st_decompile.specs.Calling.{IsOutside, IsFieldName, IsSharedName, AreNames}
+use Rattle.st_decompile.specs.inside.Calling.{IsOutside, IsFieldName, IsSharedName, AreNames}
 use Rattle.st_expression_stack.specs.Names.{is_usable, unused, usable_or, usable_shared, usable, numbered, own_number, texts_of, texts_in, is_among, is_value, names_value, shared_text, literal_text, calling_of, or_unused, name_in}
 use Rattle.st_expression_stack.proofs.OwnNames.{numeral_digits, own_free, own_apart}
 use Rattle.st_decompile.proofs.Words.{Agree}

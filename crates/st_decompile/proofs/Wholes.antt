@@ -17,11 +17,11 @@ use Rattle.st_code.specs.declared.fault.Cause.TheVariants.{Literals, Temporaries
 use Rattle.st_code.specs.declared.simple.Simple.{Simple}
 use Rattle.st_code.specs.Faults.{method_fault}
 use Rattle.st_code.specs.Methods.{PartsView, simple, scope_from, own_variables, variables, context, body, steps, depth, flag, flag_of, last_of, literals, header, parts, whole_fault, fault, room_bit, count_of, code, parts_or, symbols_fault, primitive_fault, fault_if, simple_flag, primitive_number, passes, header_count}
-use Rattle.st_code.specs.Simple.{simple_by}
+use Rattle.st_code.specs.inside.Simple.{simple_by}
 use Rattle.st_code.proofs.ShortCode.{simple_by_nodes}
 use Rattle.st_resolved.proofs.Unnumbered.{or_none}
 use Rattle.st_resolved.proofs.Wholes.{few_variables, body_fault, same_scopes}
-use Rattle.st_decompile.specs.Calling.{renamed, AreNames}
+use Rattle.st_decompile.specs.inside.Calling.{renamed, AreNames}
 use Rattle.st_decompile.proofs.Renamed.{renamed-append}
 use Rattle.st_decompile.proofs.Backs.{again_at}
 use Rattle.st_decompile.proofs.Blocks.{names_of, names_length, names_numbered}

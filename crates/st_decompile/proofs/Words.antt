@@ -4,7 +4,7 @@ use Rattle.std.specs.Prelude.{if◌then◌else◌, is_some, option_map, nat_lt, 
 use Rattle.st_scan.specs.Views.{NameView, ExpressionView, ExpressionsView, StatementsView, MessagesView, MethodView, is_super}
 use Rattle.st_scan.specs.Views as views
 use Rattle.st_scan.specs.Pieces.{is_name}
-use Rattle.st_grammar.specs.Formed.{ReceiverFormed, StatementsFormed, MessagesFormed, ArgumentsFormed, IsWellFormed}
+use Rattle.st_grammar.specs.inside.Formed.{ReceiverFormed, StatementsFormed, MessagesFormed, ArgumentsFormed, IsWellFormed}
 use Rattle.st_emit.specs.Bounds.{most_flagged}
 use Rattle.st_emit.specs.declared.step.Constant.{Constant}
 use Rattle.st_emit.specs.declared.step.Step.{Step}

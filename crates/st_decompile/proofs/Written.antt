@@ -11,12 +11,12 @@ use Rattle.st_emit.specs.Nodes as nodes
 use Rattle.st_emit.specs.Nodes.{Node, Body, Messages, Nodes, count}
 use Rattle.st_emit.specs.Emitting.{passes_on, other_side, leaves_on}
 use Rattle.st_scan.specs.Pieces.{is_name}
-use Rattle.st_grammar.specs.Formed.{IsSelector, NamesFormed, HasMessage, ReceiverFormed, StatementsFormed, MessagesFormed, ArgumentsFormed, count_of}
+use Rattle.st_grammar.specs.inside.Formed.{IsSelector, NamesFormed, HasMessage, ReceiverFormed, StatementsFormed, MessagesFormed, ArgumentsFormed, count_of}
 use Rattle.st_expression_stack.specs.Items.{no_arguments}
 use Rattle.st_expression_stack.specs.Choosing.{called, small_signed, constant_tree, received, alone, one_sided_by, sides_by, choice_tree, loop_selector, with_block, with_blocks}
 use Rattle.st_decompile.proofs.Sides.{IfNamed, each_side}
 use Rattle.st_decompile.specs.Back.{tree_of, body_tree, nodes_tree, messages_list, body_least, places_from, method_tree, without_self, is_self}
-use Rattle.st_decompile.specs.Formed.{Formed, BodyFormed, MessagesWell, NodesFormed}
+use Rattle.st_decompile.specs.inside.Formed.{Formed, BodyFormed, MessagesWell, NodesFormed}
 
 -- FORMS
 

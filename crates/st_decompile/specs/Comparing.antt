@@ -1,8 +1,5 @@
 -- Whether two methods are the same.
-use Rattle.std.specs.Prelude.{ℕ, Bool, true, false, not, ◌&&◌, ◌==◌, List, [], ◌∷◌, Option, Some, None, bytes_eq}
-use Rattle.std.specs.Borrow.{Bor}
-use Rattle.st_emit.specs.declared.literal.Literal.{Literal}
-use Rattle.st_emit.specs.Views.{members_view}
+use Rattle.std.specs.Prelude.{Bool, true, false, ◌&&◌, ◌==◌, List, [], ◌∷◌, bytes_eq}
 use Rattle.st_emit.specs.Literals.{LiteralView, LiteralsView, number, character, bytes, symbol, array, named, owner, no_literals, literal, signed_eq}
 use Rattle.st_code.specs.Methods.{PartsView}
 
@@ -21,14 +18,6 @@ abbrev mutual
   same_members no_literals no_literals = true
   same_members (literal l ls) (literal m ms) = same_literal l m && same_members ls ms
   same_members _ _ = false
-
--- the members of a literal array
-abbrev pub members_of : LiteralView → Option LiteralsView
-members_of (array ls) = Some ls
-members_of _ = None
-
-abbrev pub members_now : Bor (List Literal) → LiteralsView
-members_now ls = members_view ls.now
 
 -- literals as the members of an array
 abbrev pub as_members : List LiteralView → LiteralsView

@@ -1,12 +1,5 @@
 pub mod Reading
 pub mod Back
-pub mod Calling
 pub mod Whole
-pub mod Formed
-pub mod Located
-pub mod Read
-pub mod Decoded
-pub mod Methods
 pub mod Comparing
-pub mod Answers
-pub mod Alike
+pub mod inside

@@ -1,9 +1,10 @@
 //! Whether two methods are the same.
 
 ghost use Rattle.std.specs.Prelude.{◌≡◌, option_map};
-ghost use Rattle.st_emit.specs.Views.{literal_view, members_view};
-ghost use Rattle.st_code.specs.MethodDrafts.{parts_view};
-ghost use Rattle.st_decompile.specs.Comparing.{same_literal, same_members, members_of, members_now, same_parts};
+ghost use Rattle.st_emit.specs.inside.Views.{literal_view, members_view};
+ghost use Rattle.st_code.specs.inside.MethodDrafts.{parts_view};
+ghost use Rattle.st_decompile.specs.Comparing.{same_literal, same_members, same_parts};
+ghost use Rattle.st_decompile.specs.inside.Members.{members_of, members_now};
 
 use st_code::MethodParts;
 use st_emit::Literal;

@@ -2,9 +2,9 @@
 
 ghost use Rattle.std.specs.Prelude.{◌≡◌, Some, IfOk, IfSome, IfNone, option_map};
 ghost use Rattle.st_scan.specs.Views.{MethodView, method_view};
-ghost use Rattle.st_emit.specs.NameViews.{names_view};
-ghost use Rattle.st_code.specs.MethodDrafts.{parts_view};
-ghost use Rattle.st_decompile.specs.Answers.{IsCandidate, IsMeant, HasCode, IsDecompiled, IsSource, IsSourceOf, IsPrintedRead};
+ghost use Rattle.st_emit.specs.inside.NameViews.{names_view};
+ghost use Rattle.st_code.specs.inside.MethodDrafts.{parts_view};
+ghost use Rattle.st_decompile.specs.inside.Answers.{IsCandidate, IsMeant, HasCode, IsDecompiled, IsSource, IsSourceOf, IsPrintedRead};
 
 use crate::comparing::same_parts;
 use crate::whole::candidate;

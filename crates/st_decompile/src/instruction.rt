@@ -1,7 +1,7 @@
 //! Bytes as instructions.
 
 ghost use Rattle.std.specs.Prelude.{◌≡◌, drop, IfOk};
-ghost use Rattle.st_decompile.specs.Decoded.{AreSteps};
+ghost use Rattle.st_decompile.specs.inside.Decoded.{AreSteps};
 
 use st_emit::Step;
 use st_resolved::instruction;

@@ -3,8 +3,8 @@
 ghost use Rattle.st_scan.specs.Views.{MethodView};
 ghost use Rattle.st_emit.specs.Names.{NamesView};
 ghost use Rattle.st_code.specs.Methods.{PartsView};
-ghost use Rattle.st_decompile.specs.Alike.{CallAlike};
-ghost use Rattle.st_decompile.specs.Answers.{IsSource, IsFound};
+ghost use Rattle.st_decompile.specs.inside.Alike.{CallAlike};
+ghost use Rattle.st_decompile.specs.inside.Answers.{IsSource, IsFound};
 
 /// Of all parts that are the code of what some text means, in a class with whatever names, a tree is read; the printed text
 /// of that tree means it, places aside, and what that text means has this code.

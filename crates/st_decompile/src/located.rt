@@ -1,8 +1,8 @@
 //! Instructions with the places where they stand, so that what stands in so many bytes is found at once.
 
 ghost use Rattle.std.specs.Prelude.{◌≡◌, ◌≤◌, length, option_map, IfOk};
-ghost use Rattle.st_decompile.specs.Located.{located_from, place_or, split_now, split_of};
-ghost use Rattle.st_decompile.specs.Located.{AreSpaced, AreWithin, AreFront, AreBehind};
+ghost use Rattle.st_decompile.specs.inside.Located.{located_from, place_or, split_now, split_of};
+ghost use Rattle.st_decompile.specs.inside.Located.{AreSpaced, AreWithin, AreFront, AreBehind};
 
 use st_emit::{Step, size_of, sum};
 use std::alloc::{AllocError, Global};

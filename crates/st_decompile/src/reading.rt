@@ -5,17 +5,17 @@ ghost use Rattle.std.specs.Prelude.{option_map, ℕ, List};
 ghost use Rattle.st_scan.specs.Views.{expression_view, names_view};
 ghost use Rattle.st_emit.specs.{declared.step.Step.{Step as StepView}, Nodes.is_above, Selectors.sends_now};
 ghost use Rattle.st_emit.specs.Resolving.{special_selectors, first_special};
-ghost use Rattle.st_emit.specs.Views.{literal_view, literals_view};
+ghost use Rattle.st_emit.specs.inside.Views.{literal_view, literals_view};
 ghost use Rattle.st_resolved.specs.Instructions.{on_some};
 ghost use Rattle.st_expression_stack.specs.{Items.{leaf, piece}, Choosing.{literal_tree, constant_tree}};
 ghost use Rattle.st_expression_stack.specs.Items.{goes_on};
-ghost use Rattle.st_expression_stack.specs.Stacks.{stack_view, piece_view, item_view, acted_if, acted_by, Acts, text_now};
-ghost use Rattle.st_decompile.specs.{Methods.literal_now, Reading.{symbol_of, argument_number}};
-ghost use Rattle.st_decompile.specs.Read.{AreDeclared, IsPieceStart, IsBlockStart, selector_now};
-ghost use Rattle.st_decompile.specs.Read.{act_by, assigned_by, pushed_by};
-ghost use Rattle.st_decompile.specs.Read.{popped_by, popped_into_by, stored_into_by};
-ghost use Rattle.st_decompile.specs.Read.{pushes_by, arguments_by, selector_in, sends_by, special_sends_by};
-ghost use Rattle.st_decompile.specs.Read.{returns_top_by, IsPlain, block_by};
+ghost use Rattle.st_expression_stack.specs.inside.Stacks.{stack_view, piece_view, item_view, acted_if, acted_by, Acts, text_now};
+ghost use Rattle.st_decompile.specs.{inside.Methods.literal_now, Reading.{symbol_of, argument_number}};
+ghost use Rattle.st_decompile.specs.inside.Read.{AreDeclared, IsPieceStart, IsBlockStart, selector_now};
+ghost use Rattle.st_decompile.specs.inside.Read.{act_by, assigned_by, pushed_by};
+ghost use Rattle.st_decompile.specs.inside.Read.{popped_by, popped_into_by, stored_into_by};
+ghost use Rattle.st_decompile.specs.inside.Read.{pushes_by, arguments_by, selector_in, sends_by, special_sends_by};
+ghost use Rattle.st_decompile.specs.inside.Read.{returns_top_by, IsPlain, block_by};
 
 use st_emit::{Constant, Literal, Lookup, Place, SPECIAL_SENDS, Step, sum};
 use st_expression_stack::{

@@ -3,10 +3,10 @@
 ghost use Rattle.std.specs.Prelude.{◌≡◌, ◌∷◌, [], IfOk};
 ghost use Rattle.st_emit.specs.declared.step.Step.TheVariants.{JumpIf};
 ghost use Rattle.st_expression_stack.specs.Items.{over};
-ghost use Rattle.st_expression_stack.specs.Stacks.{stack_view, piece_view, taken_view, Passes, Chooses, stack_if};
-ghost use Rattle.st_decompile.specs.{Reading.{choice_piece, loop_piece}, Located.{AreSpaced, steps_in}};
-ghost use Rattle.st_decompile.specs.Read.{region_by, act_by, IsPassed, chosen_by, looped_by};
-ghost use Rattle.st_decompile.specs.Read.{makes_block_by, block_made_by, decided_by, choice_made_by, repeats_by};
+ghost use Rattle.st_expression_stack.specs.inside.Stacks.{stack_view, piece_view, taken_view, Passes, Chooses, stack_if};
+ghost use Rattle.st_decompile.specs.{Reading.{choice_piece, loop_piece}, inside.Located.{AreSpaced, steps_in}};
+ghost use Rattle.st_decompile.specs.inside.Read.{region_by, act_by, IsPassed, chosen_by, looped_by};
+ghost use Rattle.st_decompile.specs.inside.Read.{makes_block_by, block_made_by, decided_by, choice_made_by, repeats_by};
 
 use crate::located::{Located, behind, first_place, front, locate, split};
 use crate::reading::{Reading, acts_plainly, block_piece, block_start};

@@ -2,13 +2,13 @@
 
 ghost use Rattle.std.specs.Prelude.{◌≡◌, IfOk, Some, option_map};
 ghost use Rattle.st_scan.specs.Views.{method_view, names_view, statements_view, expression_view};
-ghost use Rattle.st_emit.specs.Views.{literal_view, literals_view};
-ghost use Rattle.st_code.specs.MethodDrafts.{parts_view};
+ghost use Rattle.st_emit.specs.inside.Views.{literal_view, literals_view};
+ghost use Rattle.st_code.specs.inside.MethodDrafts.{parts_view};
 ghost use Rattle.st_decompile.specs.Back.{is_self, without_self};
 ghost use Rattle.st_decompile.specs.Whole.{flag_in, variables_in, own_in, size_in, extension_in, primitive_by};
 ghost use Rattle.st_decompile.specs.Whole.{primitive_in, variables_called, candidate};
-ghost use Rattle.st_decompile.specs.Methods.{literal_now, HasItems, method_by, IsCount};
-ghost use Rattle.st_expression_stack.specs.{Called.calling_view, Names.name_in};
+ghost use Rattle.st_decompile.specs.inside.Methods.{literal_now, HasItems, method_by, IsCount};
+ghost use Rattle.st_expression_stack.specs.{inside.Called.calling_view, Names.name_in};
 
 use crate::instruction::steps_of;
 use crate::reading::Reading;

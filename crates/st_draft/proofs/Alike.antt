@@ -9,7 +9,7 @@ use Rattle.st_model.specs.Objects.{Object, is_pointers, is_method}
 use Rattle.st_model.specs.Machine.{Died, Went}
 use Rattle.st_model.specs.Table.{Table, entry}
 use Rattle.st_model.specs.View.{nothing, is_live, object_of}
-use Rattle.st_draft.specs.Drafts.{HasField, IsLike, AreLike, field_value, named_object}
+use Rattle.st_draft.specs.inside.Drafts.{HasField, IsLike, AreLike, field_value, named_object}
 use Rattle.st_model.proofs.KindTests.{method_pointers}
 use Rattle.st_memory.proofs.Looking.{or_got, checked, looked, look_at, class_in, class_look}
 

@@ -13,7 +13,7 @@ use Rattle.st_model.specs.Table.{Table, table, apart, entry, free_place, without
 use Rattle.st_model.specs.declared.dead.Dead.{Dead}
 use Rattle.st_model.specs.Steps.{named_or_not, object_at, next_instance, class_of, same_value}
 use Rattle.st_model.proofs.Tabular.{class_of-as}
-use Rattle.st_model.specs.Calls.{Reads}
+use Rattle.st_model.specs.inside.Calls.{Reads}
 use Rattle.st_model.proofs.Pointers.{value_of-pointer}
 use Rattle.st_model.proofs.TableLemmas.{entry_past}
 use Rattle.st_memory.specs.declared.made.Made.{Made}
@@ -21,10 +21,10 @@ use Rattle.st_draft.specs.declared.change.Change.{Change}
 use Rattle.st_draft.specs.declared.change.Exchange.{Exchange}
 use Rattle.st_draft.specs.declared.notes.Notes.{Notes}
 use Rattle.st_draft.specs.declared.exchanges.Exchanges.{Exchanges}
-use Rattle.st_draft.specs.Noted.{noted, drafted}
-use Rattle.st_draft.specs.Drafts.{with_made, draft_table, exchanged_by, AreOf}
-use Rattle.st_memory.specs.Tabular.{apart_tabular}
-use Rattle.st_draft.specs.Bearing.{free_before, IsNumberOf, instance_at}
+use Rattle.st_draft.specs.inside.Noted.{noted, drafted}
+use Rattle.st_draft.specs.inside.Drafts.{with_made, draft_table, exchanged_by, AreOf}
+use Rattle.st_memory.specs.inside.Tabular.{apart_tabular}
+use Rattle.st_draft.specs.inside.Bearing.{free_before, IsNumberOf, instance_at}
 use Rattle.st_draft.proofs.Behind.{base_entry, draft_length, made_fit}
 use Rattle.st_draft.proofs.Drafted.{taken}
 use Rattle.st_draft.proofs.Exchanged.{live_is, live_all, length_all}

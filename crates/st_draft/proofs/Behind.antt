@@ -13,8 +13,8 @@ use Rattle.st_memory.specs.declared.made.Made.{Made}
 use Rattle.st_draft.specs.declared.change.Change.{Change}
 use Rattle.st_draft.specs.declared.notes.Notes.{Notes}
 use Rattle.st_draft.specs.declared.change.Change.TheVariants.{Field, Fields}
-use Rattle.st_draft.specs.Drafts.{made_table, with_made, draft_table, written, all_written, pointer_fields, after_change, no_change, replayed, named_object, highest}
-use Rattle.st_memory.specs.Making.{made_object}
+use Rattle.st_draft.specs.inside.Drafts.{made_table, with_made, draft_table, written, all_written, pointer_fields, after_change, no_change, replayed, named_object, highest}
+use Rattle.st_memory.specs.inside.Making.{made_object}
 use Rattle.st_model.proofs.TableLemmas.{entry_past, length-changed}
 
 -- tables end to end

@@ -13,14 +13,14 @@ use Rattle.st_model.specs.Steps.{fetch_field, count_fields, class_of, literal, f
 use Rattle.st_model.specs.Methods.{method_header, literal_from_last}
 use Rattle.st_model.specs.Table.{Table, table, bounded_table, apart, entry}
 use Rattle.st_model.specs.View.{nothing, is_live, object_of, Lacks, SmallInteger, Gone, OtherKind}
-use Rattle.st_model.specs.Calls.{Reads, itself}
+use Rattle.st_model.specs.inside.Calls.{Reads, itself}
 use Rattle.st_model.proofs.Pointers.{value_of-pointer}
 use Rattle.st_model.proofs.Tabular.{fetch_field-as, count_fields-as, class_of-as, literal-as, fetch_method_field-as, byte_at-as, method_header-as, literal_from_last-as}
 use Rattle.st_memory.specs.declared.made.Made.{Made}
 use Rattle.st_draft.specs.declared.change.Change.{Change}
-use Rattle.st_memory.specs.Tabular.{apart_tabular, bounded_tabular}
-use Rattle.st_draft.specs.Drafts.{with_made, field_value, draft_table, HasField, IsLike, AreLike, named_object}
-use Rattle.st_memory.specs.Making.{made_object, alone}
+use Rattle.st_memory.specs.inside.Tabular.{apart_tabular, bounded_tabular}
+use Rattle.st_draft.specs.inside.Drafts.{with_made, field_value, draft_table, HasField, IsLike, AreLike, named_object}
+use Rattle.st_memory.specs.inside.Making.{made_object, alone}
 use Rattle.st_memory.proofs.Fresh.{class_fresh, kind_fresh, fields_fresh}
 use Rattle.st_memory.proofs.Looking.{Got, result_got, Looks, reads_got, got_reads, reads_moved, or_got, checked, looked, look_at, fetch_looks, count_looks, header_looks, literal_looks, method_field_looks, last_looks, byte_looks, class_in, class_look, class_looks}
 use Rattle.st_draft.proofs.Alike.{look_same, look_alike, method_same, count_same, class_look_alike, class_look_same, counted, uncounted, fetch_died, fetch_is}

@@ -15,7 +15,7 @@ use Rattle.st_model.proofs.WholeLemmas.{named}
 use Rattle.st_model.proofs.Exchanging.{exchanged_is, entry-exchanged, length-exchanged, total_used-exchanged}
 use Rattle.st_draft.specs.declared.change.Change.TheVariants.{Field, Fields}
 use Rattle.st_draft.specs.declared.change.Exchange.{Exchange}
-use Rattle.st_draft.specs.Drafts.{written, all_written, pointer_fields, after_change, named_object, AllThere, no_exchange, exchanged_by, name_before, value_before, value_first, AreOf, Names}
+use Rattle.st_draft.specs.inside.Drafts.{written, all_written, pointer_fields, after_change, named_object, AllThere, no_exchange, exchanged_by, name_before, value_before, value_first, AreOf, Names}
 use Rattle.st_memory.proofs.Bodies.{same_table}
 use Rattle.st_draft.proofs.Writing.{written_like}
 use Rattle.st_draft.proofs.Behind.{entry_joined, changed_joined}

@@ -10,11 +10,11 @@ use Rattle.st_model.specs.Machine.{Went, answer}
 use Rattle.st_model.specs.Lookup.{half_word, pointer_if}
 use Rattle.st_model.specs.Table.{Table, entry, apart, bounded_table, free_place, without_first, pointer_apart}
 use Rattle.st_model.specs.View.{is_live}
-use Rattle.st_model.specs.Calls.{Reads, itself}
+use Rattle.st_model.specs.inside.Calls.{Reads, itself}
 use Rattle.st_model.proofs.Pointers.{value_of-pointer}
 use Rattle.st_memory.specs.declared.made.Made.{Made}
 use Rattle.st_draft.specs.declared.change.Change.{Change}
-use Rattle.st_draft.specs.Drafts.{with_made, draft_table, named_object, no_made}
+use Rattle.st_draft.specs.inside.Drafts.{with_made, draft_table, named_object, no_made}
 use Rattle.st_memory.proofs.Looking.{some_state}
 use Rattle.st_draft.proofs.Replaying.{replayed_like}
 use Rattle.st_draft.proofs.Behind.{base_entry, made_entry, draft_length}

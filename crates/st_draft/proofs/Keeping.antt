@@ -15,8 +15,8 @@ use Rattle.st_model.proofs.WholeLemmas.{field_known, formed_live}
 use Rattle.st_memory.specs.declared.made.Made.{Made}
 use Rattle.st_draft.specs.declared.change.Change.{Change}
 use Rattle.st_draft.specs.declared.change.Change.TheVariants.{Field, Fields}
-use Rattle.st_draft.specs.Drafts.{AllThere, AreLike, HasField, with_made, field_value, written, all_written, pointer_fields, after_change, replayed, draft_table}
-use Rattle.st_memory.specs.Making.{made_object}
+use Rattle.st_draft.specs.inside.Drafts.{AllThere, AreLike, HasField, with_made, field_value, written, all_written, pointer_fields, after_change, replayed, draft_table}
+use Rattle.st_memory.specs.inside.Making.{made_object}
 use Rattle.st_memory.proofs.Fresh.{there_fresh}
 use Rattle.st_draft.proofs.Writing.{written_like, written_here, written_else}
 use Rattle.st_draft.proofs.Replaying.{got_take, got_drop, replayed_like}

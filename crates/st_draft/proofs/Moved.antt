@@ -13,7 +13,7 @@ use Rattle.st_model.specs.Methods.{method_header, literal_from_last, from_last}
 use Rattle.st_model.specs.Lookup.{half_word}
 use Rattle.st_model.specs.Table.{Table, table, apart, joined}
 use Rattle.st_model.specs.View.{is_live, object_of, Has, Lacks, TooFew}
-use Rattle.st_model.specs.Calls.{Reads, itself}
+use Rattle.st_model.specs.inside.Calls.{Reads, itself}
 use Rattle.st_model.proofs.Tabular.{fetch_field-as, count_fields-as, class_of-as, literal-as, fetch_method_field-as, byte_at-as, method_header-as, literal_from_last-as}
 use Rattle.st_memory.specs.declared.made.Made.{Made}
 use Rattle.st_draft.specs.declared.change.Change.{Change}
@@ -21,10 +21,10 @@ use Rattle.st_draft.specs.declared.change.Change.TheVariants.{Field, Fields}
 use Rattle.st_draft.specs.declared.change.Exchange.{Exchange}
 use Rattle.st_draft.specs.declared.notes.Notes.{Notes}
 use Rattle.st_draft.specs.declared.exchanges.Exchanges.{Exchanges}
-use Rattle.st_memory.specs.Tabular.{apart_tabular}
-use Rattle.st_draft.specs.Drafts.{named_object, with_made, after_change, no_change, highest, draft_table, exchanged_by, value_first, AreOf, Names}
-use Rattle.st_memory.specs.Making.{made_object}
-use Rattle.st_draft.specs.Noted.{noted}
+use Rattle.st_memory.specs.inside.Tabular.{apart_tabular}
+use Rattle.st_draft.specs.inside.Drafts.{named_object, with_made, after_change, no_change, highest, draft_table, exchanged_by, value_first, AreOf, Names}
+use Rattle.st_memory.specs.inside.Making.{made_object}
+use Rattle.st_draft.specs.inside.Noted.{noted}
 use Rattle.st_memory.proofs.Looking.{Got, Looks, looked, look_at, class_in, class_look, fetch_looks, count_looks, header_looks, literal_looks, method_field_looks, last_looks, byte_looks, class_looks}
 use Rattle.st_draft.proofs.Alike.{counted}
 use Rattle.st_draft.proofs.Drafted.{given, taken, lacks_died}

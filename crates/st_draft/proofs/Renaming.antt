@@ -8,7 +8,7 @@ use Rattle.st_model.specs.Values.{Value, Small, Ref, word, value_of, is_small}
 use Rattle.st_model.specs.Table.{Table}
 use Rattle.st_model.specs.View.{is_live, with_exchanged}
 use Rattle.st_draft.specs.declared.change.Exchange.{Exchange}
-use Rattle.st_draft.specs.Drafts.{no_exchange, exchanged_by, value_before, AreOf, AreEven}
+use Rattle.st_draft.specs.inside.Drafts.{no_exchange, exchanged_by, value_before, AreOf, AreEven}
 use Rattle.st_draft.proofs.Replaying.{words_apart}
 
 -- of two objects

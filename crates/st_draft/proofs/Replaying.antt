@@ -11,7 +11,7 @@ use Rattle.st_model.specs.Table.{Table}
 use Rattle.st_model.specs.View.{object_of}
 use Rattle.st_draft.specs.declared.change.Change.{Change}
 use Rattle.st_draft.specs.declared.change.Change.TheVariants.{Field, Fields}
-use Rattle.st_draft.specs.Drafts.{field_value, written, all_written, pointer_fields, after_change, no_change, replayed, HasField, AreLike}
+use Rattle.st_draft.specs.inside.Drafts.{field_value, written, all_written, pointer_fields, after_change, no_change, replayed, HasField, AreLike}
 use Rattle.st_draft.proofs.Writing.{likes_self, likes_through, written_like, all_written_like, field_like, written_here, written_else, all_written_else, all_written_here}
 
 -- what changes leave of objects

@@ -12,12 +12,12 @@ use Rattle.st_model.specs.Formed.{fresh, IsMakeable}
 use Rattle.st_model.specs.Machine.{Went}
 use Rattle.st_model.specs.Steps.{fetch_kind, fetch_size}
 use Rattle.st_model.specs.Table.{Table, table, bounded_table, apart}
-use Rattle.st_model.specs.Calls.{Reads, itself}
-use Rattle.st_memory.specs.Tabular.{apart_tabular, bounded_tabular}
+use Rattle.st_model.specs.inside.Calls.{Reads, itself}
+use Rattle.st_memory.specs.inside.Tabular.{apart_tabular, bounded_tabular}
 use Rattle.st_memory.specs.declared.made.Made.{Made}
 use Rattle.st_draft.specs.declared.change.Change.{Change}
-use Rattle.st_draft.specs.Drafts.{with_made, draft_table, named_object, IsLike, Names}
-use Rattle.st_memory.specs.Making.{made_object, IsMade}
+use Rattle.st_draft.specs.inside.Drafts.{with_made, draft_table, named_object, IsLike, Names}
+use Rattle.st_memory.specs.inside.Making.{made_object, IsMade}
 use Rattle.st_memory.proofs.Fresh.{kind_fresh}
 use Rattle.st_draft.proofs.Drafted.{moved, given, look_base, look_made}
 use Rattle.st_draft.proofs.Moved.{read_names, look_names}

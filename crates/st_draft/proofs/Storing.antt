@@ -15,7 +15,7 @@ use Rattle.st_model.specs.Formed.{IsWord, fresh}
 use Rattle.st_model.specs.Steps.{transfer, store_field, set_field, store_at, stored_at, make, make_named, made, new_of}
 use Rattle.st_model.specs.Table.{Table, table, apart, entry, joined}
 use Rattle.st_model.specs.View.{IsKnown, is_live, object_of, with_stored, with_fields, field_of, fields_from, Has, Lacks, SmallInteger, Gone, OtherKind, TooFew}
-use Rattle.st_model.specs.Calls.{Changes, itself}
+use Rattle.st_model.specs.inside.Calls.{Changes, itself}
 use Rattle.st_model.proofs.Pointers.{value_of-even}
 use Rattle.st_model.proofs.Runs.{run-then, run-next, after-went, after-died, run-small, run-gone, run-live, run-passed, run-failed, run-set_field}
 use Rattle.st_model.proofs.Copies.{AreKnown, run-transfer_none, run-transfer, run-transfer_unread, run-transfer_unwritten}
@@ -23,8 +23,8 @@ use Rattle.st_model.proofs.Tabular.{store_field-as, transfer-as}
 use Rattle.st_memory.specs.declared.made.Made.{Made}
 use Rattle.st_draft.specs.declared.change.Change.{Change}
 use Rattle.st_draft.specs.declared.change.Change.TheVariants.{Fields}
-use Rattle.st_memory.specs.Tabular.{apart_tabular}
-use Rattle.st_draft.specs.Drafts.{AllThere, with_made, draft_table, written, all_written, after_change}
+use Rattle.st_memory.specs.inside.Tabular.{apart_tabular}
+use Rattle.st_draft.specs.inside.Drafts.{AllThere, with_made, draft_table, written, all_written, after_change}
 use Rattle.st_draft.proofs.Writing.{written_like}
 use Rattle.st_draft.proofs.Behind.{length_replayed, length-with_made}
 use Rattle.st_draft.proofs.Replaying.{back, back_value}

@@ -7,13 +7,13 @@ use Rattle.st_model.specs.Values.{Value, Ref}
 use Rattle.st_model.specs.Objects.{Object, is_words, has_bytes}
 use Rattle.st_model.specs.Steps.{fetch_word, fetch_byte}
 use Rattle.st_model.specs.Table.{Table, table, bounded_table, apart}
-use Rattle.st_model.specs.Calls.{Reads, itself}
+use Rattle.st_model.specs.inside.Calls.{Reads, itself}
 use Rattle.st_model.proofs.Tabular.{fetch_word-as, fetch_byte-as}
-use Rattle.st_memory.specs.Tabular.{apart_tabular, bounded_tabular}
+use Rattle.st_memory.specs.inside.Tabular.{apart_tabular, bounded_tabular}
 use Rattle.st_memory.specs.declared.made.Made.{Made}
 use Rattle.st_draft.specs.declared.change.Change.{Change}
-use Rattle.st_draft.specs.Drafts.{with_made, draft_table, named_object, IsLike, Names}
-use Rattle.st_memory.specs.Making.{made_object, alone}
+use Rattle.st_draft.specs.inside.Drafts.{with_made, draft_table, named_object, IsLike, Names}
+use Rattle.st_memory.specs.inside.Making.{made_object, alone}
 use Rattle.st_memory.proofs.Looking.{byte_in, word_looks, fetch_byte_looks}
 use Rattle.st_draft.proofs.Drafted.{moved, look_base, made_reads}
 use Rattle.st_draft.proofs.Moved.{read_names, look_names}

@@ -7,7 +7,7 @@ use Rattle.st_model.specs.Objects.{Object, is_pointers, with_field}
 use Rattle.st_model.specs.Table.{Table, entry, changed}
 use Rattle.st_model.specs.View.{nothing, is_live, object_of, with_stored}
 use Rattle.st_model.proofs.TableLemmas.{changed-some, changed-none, changed-other}
-use Rattle.st_draft.specs.Drafts.{field_value, written, all_written, HasField, IsLike, AreLike}
+use Rattle.st_draft.specs.inside.Drafts.{field_value, written, all_written, HasField, IsLike, AreLike}
 
 got_set : (fs : List Value) (j : ℕ) (x : Value) → j < length fs → slice_get (set fs j x) j ≡ Some x
 got_set [] j x l = absurd (omega (arith, l))

@@ -1,3 +1,1 @@
-pub mod Bearing
-pub mod Drafts
-pub mod Noted
+pub mod inside

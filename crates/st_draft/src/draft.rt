@@ -2,12 +2,12 @@ ghost use Rattle.std.specs.Option.{option_map};
 ghost use Rattle.std.specs.Prelude.{is_some, ◌≡◌, ◌<◌, ◌≤◌, ◌+◌, ◌-◌, ◌*◌, Some, IfSome, IfNone, IfOk, IfErr};
 ghost use Rattle.st_model.specs.{Values.{word, Ref}, Objects.{one, words_of}};
 ghost use Rattle.st_model.specs.Table.{apart, entry, total_used, free_place, without_first, borne_apart};
-ghost use Rattle.st_model.specs.{Machine.used, Steps.{count_fields, named_or_not}, Calls.{Reads, itself}};
+ghost use Rattle.st_model.specs.{Machine.used, Steps.{count_fields, named_or_not}, inside.Calls.{Reads, itself}};
 ghost use Rattle.st_model.specs.View.{Has, Lacks};
-ghost use Rattle.st_draft.specs.Bearing.{IsNumberOf, instance_at};
-ghost use Rattle.st_draft.specs.Drafts.{AllThere, field_value, after_change, replayed, highest, HasField, named_object, IsOrigin, AreOf};
-ghost use Rattle.st_draft.specs.Noted.{with_noted, noted, drafted, count_of};
-ghost use Rattle.st_memory.specs.Making.{IsMade, made_object};
+ghost use Rattle.st_draft.specs.inside.Bearing.{IsNumberOf, instance_at};
+ghost use Rattle.st_draft.specs.inside.Drafts.{AllThere, field_value, after_change, replayed, highest, HasField, named_object, IsOrigin, AreOf};
+ghost use Rattle.st_draft.specs.inside.Noted.{with_noted, noted, drafted, count_of};
+ghost use Rattle.st_memory.specs.inside.Making.{IsMade, made_object};
 
 use crate::change::{Change, Exchange, Origin};
 use crate::exchanges::Exchanges;
@@ -343,7 +343,7 @@ impl<'a, M: Memory> Draft<'a, M> {
 }
 
 impl<'a, M: Memory> Objects for Draft<'a, M> {
-    ghost use Rattle.st_memory.specs.Tabular.{apart_tabular};
+    ghost use Rattle.st_memory.specs.inside.Tabular.{apart_tabular};
 
     ghost names = { apart };
 

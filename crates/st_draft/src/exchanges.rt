@@ -1,6 +1,6 @@
 ghost use Rattle.std.specs.Prelude.{◌≡◌, ◌<◌, ◌≤◌, ◌+◌, ℕ, length, true, false};
 ghost use Rattle.st_model.specs.Values.{word, is_small};
-ghost use Rattle.st_draft.specs.Drafts.{value_before, AreEven};
+ghost use Rattle.st_draft.specs.inside.Drafts.{value_before, AreEven};
 
 use crate::change::Exchange;
 use st_model::Word;
@@ -36,7 +36,7 @@ impl Exchange {
 impl Exchanges {
     ghost use Rattle.st_model.specs.Table.{Table};
     ghost use Rattle.st_model.specs.View.{is_live, with_exchanged};
-    ghost use Rattle.st_draft.specs.Drafts.{exchanged_by, value_first, AreOf};
+    ghost use Rattle.st_draft.specs.inside.Drafts.{exchanged_by, value_first, AreOf};
 
     /// No exchange.
     pub fn new() -> Exchanges

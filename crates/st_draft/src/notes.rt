@@ -1,8 +1,8 @@
 ghost use Rattle.std.specs.Prelude.{◌≡◌, ◌<◌, ◌≤◌, ◌+◌, ◌*◌, ℕ, length, take, slice_index_or, slice_set};
 ghost use Rattle.st_model.specs.Objects.{words_of};
 ghost use Rattle.st_model.specs.Table.{total_used};
-ghost use Rattle.st_draft.specs.Drafts.{no_made, made_table, no_change, highest};
-ghost use Rattle.st_memory.specs.Making.{IsMade};
+ghost use Rattle.st_draft.specs.inside.Drafts.{no_made, made_table, no_change, highest};
+ghost use Rattle.st_memory.specs.inside.Making.{IsMade};
 
 use crate::change::Change;
 use st_memory::Made;
@@ -30,7 +30,7 @@ pub struct Notes {
 
 impl Notes {
     ghost use Rattle.st_model.specs.Table.{Table};
-    ghost use Rattle.st_draft.specs.Noted.{noted};
+    ghost use Rattle.st_draft.specs.inside.Noted.{noted};
 
     /// Nothing is noted.
     pub fn new() -> Notes

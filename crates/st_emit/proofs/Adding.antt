@@ -7,9 +7,9 @@ use Rattle.st_emit.specs.declared.step.Step.{Step}
 use Rattle.st_emit.specs.declared.level.Level.{Level}
 use Rattle.st_emit.specs.declared.draft.Draft.{Draft}
 use Rattle.st_emit.specs.Literals.{LiteralView}
-use Rattle.st_emit.specs.Views.{literals_view}
+use Rattle.st_emit.specs.inside.Views.{literals_view}
 use Rattle.st_emit.specs.Steps.{size}
-use Rattle.st_emit.specs.Drafts.{Part, Adds, Goes}
+use Rattle.st_emit.specs.inside.Drafts.{Part, Adds, Goes}
 
 -- one part, and another one behind it
 abbrev pub then_part : (first second : List LiteralView → Part) → List LiteralView → Part

@@ -6,7 +6,7 @@ use Rattle.std.proofs.lemmas.Bool.Decides.{nat_tests}
 use Rattle.std.proofs.lemmas.List.{at_drop_more}
 use Rattle.st_emit.specs.Bounds.{most_fields}
 use Rattle.st_emit.specs.Names.{if_named, field_from}
-use Rattle.st_emit.specs.NameViews.{texts_view}
+use Rattle.st_emit.specs.inside.NameViews.{texts_view}
 
 pub field_late : (k : ℕ) → most_fields ≤ k → (names : List (List ℕ)) (text : List ℕ) → None ≡ if_named (field_from k names text)
 field_late k le [] text = refl

@@ -5,7 +5,7 @@ use Rattle.st_scan.specs.declared.chain.Link.{Link}
 use Rattle.st_scan.specs.declared.chain.Link.TheVariants.{Assign, Send}
 use Rattle.st_scan.specs.Views.{ExpressionView, StatementsView, MessagesView, ExpressionsView, no_messages, message, no_expressions, expression, block, is_super}
 use Rattle.st_scan.specs.Views as views
-use Rattle.st_scan.specs.Chains.{LinkView, assigned, sent, with_link, linked, link_view, links_view}
+use Rattle.st_scan.specs.inside.Chains.{LinkView, assigned, sent, with_link, linked, link_view, links_view}
 use Rattle.st_emit.specs.declared.form.Form.{Form}
 use Rattle.st_emit.specs.declared.form.Form.TheVariants.{Message as Plain, One, Two, Repeated}
 use Rattle.st_emit.specs.declared.form.TwoSided.{TwoSided}
@@ -17,10 +17,10 @@ use Rattle.st_emit.specs.Nodes as nodes
 use Rattle.st_emit.specs.Emitting.{for_value, code_of}
 use Rattle.st_emit.specs.Depths.{level_of}
 use Rattle.st_emit.specs.Resolving.{Context, behind, names_in, names_in_statements, is_plain, all_plain, tailed, expression_node, statements_body, messages_of, nodes_of, form_named, formed, single_tail, sends_tail, plain_tail}
-use Rattle.st_emit.specs.Tails.{tail_code, tail_level}
-use Rattle.st_emit.specs.Around.{link_tail, tail_part, link_part, value_part, loop_part, shape_part, shape_part_of, cascade_part, message_of, names_in_link, names_in_repetition}
-use Rattle.st_emit.specs.Shapes.{plain, one_sided, two_sided, formed_shape, two_sided_shape, statements_of, RepetitionView, repeated_by, repetition_with, repetition_of, first_repetition, IsCascade}
-use Rattle.st_emit.specs.Drafts.{Part}
+use Rattle.st_emit.specs.inside.Tails.{tail_code, tail_level}
+use Rattle.st_emit.specs.inside.Around.{link_tail, tail_part, link_part, value_part, loop_part, shape_part, shape_part_of, cascade_part, message_of, names_in_link, names_in_repetition}
+use Rattle.st_emit.specs.inside.Shapes.{plain, one_sided, two_sided, formed_shape, two_sided_shape, statements_of, RepetitionView, repeated_by, repetition_with, repetition_of, first_repetition, IsCascade}
+use Rattle.st_emit.specs.inside.Drafts.{Part}
 use Rattle.st_emit.proofs.NodeKinds.{IsTailOf, tail_kind}
 use Rattle.st_emit.proofs.Adding.{then_part, IsSamePart}
 

@@ -15,16 +15,16 @@ use Rattle.st_emit.specs.declared.level.Level.{Level}
 use Rattle.st_emit.specs.declared.draft.Draft.{Draft}
 use Rattle.st_emit.specs.Names.{Scope, declared}
 use Rattle.st_emit.specs.Literals.{LiteralView}
-use Rattle.st_emit.specs.Views.{literals_view}
+use Rattle.st_emit.specs.inside.Views.{literals_view}
 use Rattle.st_emit.specs.Nodes.{Node, Body, Nodes, count, returns}
 use Rattle.st_emit.specs.Nodes as nodes
 use Rattle.st_emit.specs.Steps.{size, size_of}
 use Rattle.st_emit.specs.Emitting.{for_effect, code_of, body_code, nodes_code, send_step, choice, repeat, block_end, pop_arguments}
 use Rattle.st_emit.specs.Depths.{level_of, body_level, nodes_level, pushed, popped, beside, joined, around, within}
 use Rattle.st_emit.specs.Resolving.{Context, behind, inside, names_in, names_in_all, expression_node, statements_body, all_nodes, nodes_of, sending, before}
-use Rattle.st_emit.specs.Shapes.{returning}
-use Rattle.st_emit.specs.Drafts.{Part, Adds, step_part}
-use Rattle.st_emit.specs.Around.{values_part, send_part, message_part, cascade_part, effect_part, body_part, value_part, number_part, choice_level, block_body_part, arguments_part}
+use Rattle.st_emit.specs.inside.Shapes.{returning}
+use Rattle.st_emit.specs.inside.Drafts.{Part, Adds, step_part}
+use Rattle.st_emit.specs.inside.Around.{values_part, send_part, message_part, cascade_part, effect_part, body_part, value_part, number_part, choice_level, block_body_part, arguments_part}
 use Rattle.st_emit.proofs.Adding.{then_part, IsSamePart, adds_then, set_behind, drop_behind, size-append}
 
 -- MESSAGES

@@ -10,7 +10,7 @@ use Rattle.st_emit.specs.contracts.literal_table.KeyOrd.TheImpl.{cmp-value}
 use Rattle.st_emit.specs.declared.literal_table.Key.{Key}
 use Rattle.st_emit.specs.declared.literal_table.Key.TheVariants.{Number, Character, Symbol, Named}
 use Rattle.st_emit.specs.Literals.{LiteralView, number, character, bytes, symbol, array, named, owner, shares}
-use Rattle.st_emit.specs.LiteralPlaces.{key_view}
+use Rattle.st_emit.specs.inside.LiteralPlaces.{key_view}
 
 same_size : (x y : ℕ) → is_eq (nat_cmp x y) ≡ (x == y)
 same_size x y = sym (unsigned_ties x y)

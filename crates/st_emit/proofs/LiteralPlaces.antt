@@ -12,8 +12,8 @@ use Rattle.st_emit.specs.declared.literal.Literal.{Literal}
 use Rattle.st_emit.specs.declared.literal_table.Key.{Key}
 use Rattle.st_emit.specs.Literals.{LiteralView, number, character, bytes, symbol, array, named, owner, shares, place_of, with_literal}
 use Rattle.st_emit.specs.Names.{or_else}
-use Rattle.st_emit.specs.Views.{literal_view, literals_view}
-use Rattle.st_emit.specs.LiteralPlaces.{key_view, shared, IsKeyOf, noted, literal_place, IsLiteralIndex, IsNoted}
+use Rattle.st_emit.specs.inside.Views.{literal_view, literals_view}
+use Rattle.st_emit.specs.inside.LiteralPlaces.{key_view, shared, IsKeyOf, noted, literal_place, IsLiteralIndex, IsNoted}
 use Rattle.st_emit.proofs.Keys.{shares_same, same_cmp}
 use Rattle.st_emit.proofs.Noting.{same_back, at_key, at_put}
 use Rattle.st_emit.proofs.Places.{no_place, place_more}

@@ -7,7 +7,7 @@ use Rattle.st_scan.specs.Views.{content_view, elements_view}
 use Rattle.st_emit.specs.declared.literal.Literal.{Literal, Row_of-Literal, end_of-Literal, more_of-Literal, items-the_row-Literal, items_hidden-the_row-Literal-0}
 use Rattle.st_emit.specs.declared.literal.Literal.TheVariants.{Array, Array'}
 use Rattle.st_emit.specs.Literals.{LiteralView, LiteralsView, no_literals, literal, array, literal_of, members_of}
-use Rattle.st_emit.specs.Views.{literal_view, literals_view, members_in, members_view}
+use Rattle.st_emit.specs.inside.Views.{literal_view, literals_view, members_in, members_view}
 
 -- the members of a row are those of the list
 members_row : (n : Count) (row : Row_of-Literal n) → members_in row ≡ members_view (items-the_row-Literal n row)

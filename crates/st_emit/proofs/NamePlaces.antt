@@ -14,7 +14,7 @@ use Rattle.std.proofs.lemmas.Bool.Decides.{nat_tests}
 use Rattle.st_scan.specs.declared.tree.Name.{Name}
 use Rattle.st_scan.specs.Views.{name_view, names_view}
 use Rattle.st_emit.specs.Names.{or_else, temporary, own_variable, declared_as, numbered, is_among}
-use Rattle.st_emit.specs.NamePlaces.{name_place, text_noted, IsNameIndex, NotesFirst}
+use Rattle.st_emit.specs.inside.NamePlaces.{name_place, text_noted, IsNameIndex, NotesFirst}
 use Rattle.st_emit.proofs.Noting.{at_put, first_put, first_kept}
 use Rattle.st_emit.proofs.Places.{place_from, place_more}
 

@@ -4,7 +4,7 @@ use Rattle.std.specs.Prelude.{if◌then◌else◌}
 use Rattle.st_scan.specs.declared.token.Signed.{Signed}
 use Rattle.st_scan.specs.Views.{ContentView, ExpressionView, is_super}
 use Rattle.st_scan.specs.Views as views
-use Rattle.st_scan.specs.Chains.{LinkView, assigned, sent}
+use Rattle.st_scan.specs.inside.Chains.{LinkView, assigned, sent}
 use Rattle.st_emit.specs.declared.step.Constant.{Constant}
 use Rattle.st_emit.specs.declared.step.Constant.TheVariants.{Receiver, True, False, Nil, Context}
 use Rattle.st_emit.specs.declared.step.Step.TheVariants.{Pop, ReturnTop, ReturnConstant}
@@ -19,9 +19,9 @@ use Rattle.st_emit.specs.Nodes as nodes
 use Rattle.st_emit.specs.Resolving.{Context as Surroundings, behind, names_in, place_of_name, constant_or, small_or, content_node, Message, plain_tail, form_named, formed, single_tail, sends_tail, messages_of, is_plain, expression_node}
 use Rattle.st_emit.specs.Emitting.{for_value, for_effect, code_of, return_code}
 use Rattle.st_emit.specs.Depths.{level_of, popped, ended, return_level}
-use Rattle.st_emit.specs.Shapes.{IsNoAssignment, returned_constant, but_context}
-use Rattle.st_emit.specs.Around.{link_tail}
-use Rattle.st_emit.specs.Tails.{IsAssigned, IsSent}
+use Rattle.st_emit.specs.inside.Shapes.{IsNoAssignment, returned_constant, but_context}
+use Rattle.st_emit.specs.inside.Around.{link_tail}
+use Rattle.st_emit.specs.inside.Tails.{IsAssigned, IsSent}
 
 -- TAILS
 

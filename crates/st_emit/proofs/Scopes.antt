@@ -7,7 +7,7 @@ use Rattle.std.specs.Prelude.{is_some, bytes_eq}
 use Rattle.st_scan.specs.declared.tree.Name.{Name}
 use Rattle.st_scan.specs.Views.{name_view, names_view}
 use Rattle.st_emit.specs.declared.frame.Frame.{Frame}
-use Rattle.st_emit.specs.NameViews.{frame_view, scope_view, variable_view, IsVariable}
+use Rattle.st_emit.specs.inside.NameViews.{frame_view, scope_view, variable_view, IsVariable}
 use Rattle.st_emit.specs.Names.{Declared, Scope, declared_as, own_variable, or_else, numbered, is_among}
 
 find_append : (p : Declared → Bool) (xs ys : List Declared) → find p (xs ++ ys) ≡ or_else (find p xs) (find p ys)

@@ -3,10 +3,10 @@ use Rattle.std.proofs.Common.{◌≡◌, Bool, true, false, ℕ, ◌<◌, ◌≤
 use Rattle.st_scan.specs.declared.tree.Expression.{Expression}
 use Rattle.st_scan.specs.declared.tree.Message.{Message}
 use Rattle.st_scan.specs.Views.{ExpressionView, expressions_view, messages_view}
-use Rattle.st_scan.specs.Chains.{sent}
+use Rattle.st_scan.specs.inside.Chains.{sent}
 use Rattle.st_emit.specs.declared.form.OneSided.{OneSided}
 use Rattle.st_emit.specs.declared.form.TwoSided.{TwoSided}
-use Rattle.st_emit.specs.Shapes.{plain, one_sided_shape, two_sided_shape, repetition_with, repetition_of, IsCascade}
+use Rattle.st_emit.specs.inside.Shapes.{plain, one_sided_shape, two_sided_shape, repetition_with, repetition_of, IsCascade}
 
 pub one_sided-many : (side : OneSided) (es : List Expression) → 2 ≤ length es → plain ≡ one_sided_shape side (expressions_view es)
 one_sided-many side [] h = refl

@@ -7,7 +7,7 @@ use Rattle.std.specs.Map.{lookup}
 use Rattle.std.specs.Cmp.Lexicographic.{slice_cmp, nat_list_eq_equiv}
 use Rattle.std.proofs.lemmas.Map.Text.{is_eq-slice_cmp}
 use Rattle.st_model.specs.declared.oop.Oop.{Oop}
-use Rattle.st_emit.specs.NameViews.{shared_view, pointer_of}
+use Rattle.st_emit.specs.inside.NameViews.{shared_view, pointer_of}
 
 tests_same : (a b : List ℕ) → is_eq (slice_cmp nat_cmp a b) ≡ bytes_eq b a
 tests_same a b = is_eq-slice_cmp a b ∙ nat_list_eq_equiv.symm a b

@@ -5,7 +5,7 @@ use Rattle.st_emit.specs.declared.step.Place.TheVariants.{Field, Temporary, Lite
 use Rattle.st_emit.specs.declared.step.Step.{Step}
 use Rattle.st_emit.specs.declared.step.Step.TheVariants.{Push, PushConstant, PushNumber, Store, PopStore, Pop, Duplicate, Send, SendSuper, SendSpecial, ReturnConstant, ReturnTop, ReturnBlock, Jump, JumpBack, JumpIf, JumpPast}
 use Rattle.st_emit.specs.Steps.{size, size_of, bytes_of, all_bytes, named_by, long_send, long_send_size}
-use Rattle.st_emit.specs.Laws.{HasItsSize, HaveTheirSize}
+use Rattle.st_emit.specs.inside.Laws.{HasItsSize, HaveTheirSize}
 
 -- as many bytes as the size says
 one_or_two : (b : Bool) (x y z : ℕ) → length (if b then x ∷ [] else y ∷ z ∷ []) ≡ (if b then 1 else 2)

@@ -6,7 +6,7 @@ use Rattle.std.specs.Prelude.{if◌then◌else◌, slice_get, bytes_eq, map}
 use Rattle.st_emit.specs.Names.{field_from}
 use Rattle.st_emit.specs.Selectors.{special_sends, arity}
 use Rattle.st_emit.specs.Resolving.{special_selectors, special_selector}
-use Rattle.st_emit.specs.Laws.{HasItsArguments}
+use Rattle.st_emit.specs.inside.Laws.{HasItsArguments}
 
 -- the first of these names that is this text stands at its place
 found_from : (names : List (List ℕ)) (n k : ℕ) (text : List ℕ) → field_from n names text ≡ Some k → (n ≤ k) × (slice_get names (k - n) ≡ Some text)

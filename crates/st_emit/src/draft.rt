@@ -4,8 +4,8 @@ ghost use Rattle.std.specs.Prelude.{◌≡◌, ◌≤◌, ◌+◌, [], length, d
 ghost use Rattle.st_emit.specs.Depths.{pushed, popped, ended};
 ghost use Rattle.st_emit.specs.Literals.{named_literal};
 ghost use Rattle.st_emit.specs.Steps.{size};
-ghost use Rattle.st_emit.specs.Views.{literal_view, literals_view};
-ghost use Rattle.st_emit.specs.Drafts.{Adds, Resolves, step_part};
+ghost use Rattle.st_emit.specs.inside.Views.{literal_view, literals_view};
+ghost use Rattle.st_emit.specs.inside.Drafts.{Adds, Resolves, step_part};
 
 use crate::level::Level;
 use crate::literal::Literal;

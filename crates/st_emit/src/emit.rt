@@ -2,11 +2,11 @@
 
 ghost use Rattle.std.specs.Prelude.{◌≡◌, [], ◌∷◌, IfOk, OnOk};
 ghost use Rattle.st_scan.specs.Views.{name_view, content_view};
-ghost use Rattle.st_emit.specs.Around.{context, name_part, literal_part, number_part, send_part, arguments_part};
-ghost use Rattle.st_emit.specs.Emits.{place_at};
+ghost use Rattle.st_emit.specs.inside.Around.{context, name_part, literal_part, number_part, send_part, arguments_part};
+ghost use Rattle.st_emit.specs.inside.Emits.{place_at};
 ghost use Rattle.st_emit.specs.Nodes.{is_above};
 ghost use Rattle.st_emit.specs.Resolving.{by_selector};
-ghost use Rattle.st_emit.specs.Drafts.{Adds, Resolves};
+ghost use Rattle.st_emit.specs.inside.Drafts.{Adds, Resolves};
 
 use crate::counting::sum;
 use crate::draft::Draft;

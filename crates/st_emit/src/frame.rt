@@ -1,7 +1,7 @@
 //! Names that are declared together, found without looking at all of them.
 
 ghost use Rattle.std.specs.Prelude.{◌≡◌, OnOk, IfOk};
-ghost use Rattle.st_emit.specs.NamePlaces.{name_place, NotesFirst, IsNameIndex};
+ghost use Rattle.st_emit.specs.inside.NamePlaces.{name_place, NotesFirst, IsNameIndex};
 
 use st_scan::{Name, Text};
 use std::alloc::{AllocError, Global};

@@ -2,7 +2,7 @@
 
 ghost use Rattle.std.specs.Prelude.{◌≡◌, ℕ, List};
 ghost use Rattle.st_emit.specs.declared.step.Step.{Step as AStep};
-ghost use Rattle.st_emit.specs.Laws.{HasItsSize, HaveTheirSize, HasItsArguments};
+ghost use Rattle.st_emit.specs.inside.Laws.{HasItsSize, HaveTheirSize, HasItsArguments};
 
 /// Instructions have as many bytes as their sizes say, by which jumps go.
 pub fn sizes_of_bytes()

@@ -3,7 +3,7 @@
 ghost use Rattle.std.specs.Prelude.{◌≡◌, IfOk};
 ghost use Rattle.st_scan.specs.Views.{content_view, elements_view};
 ghost use Rattle.st_emit.specs.Literals.{small_number, literal_of, members_of, array};
-ghost use Rattle.st_emit.specs.Views.{literal_view, members_view};
+ghost use Rattle.st_emit.specs.inside.Views.{literal_view, members_view};
 
 use st_model::Oop;
 use st_scan::{Content, Element, Signed, Text};

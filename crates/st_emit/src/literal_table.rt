@@ -1,8 +1,8 @@
 //! The literals of a method, found without looking at all of them.
 
 ghost use Rattle.std.specs.Prelude.{◌≡◌, [], ◌∷◌, ◌++◌, length, IfOk, OnOk, OnErr};
-ghost use Rattle.st_emit.specs.Views.{literal_view, literals_view};
-ghost use Rattle.st_emit.specs.LiteralPlaces.{key_view, IsKeyOf, noted, literal_place, IsNoted};
+ghost use Rattle.st_emit.specs.inside.Views.{literal_view, literals_view};
+ghost use Rattle.st_emit.specs.inside.LiteralPlaces.{key_view, IsKeyOf, noted, literal_place, IsNoted};
 
 use crate::literal::{Literal, LiteralList};
 use st_scan::Text;
@@ -80,8 +80,8 @@ pub struct LiteralTable {
 impl Model for LiteralTable {
     ghost use Rattle.std.specs.Global.{Vec};
     ghost use Rattle.st_emit.specs.declared.literal.Literal.{Literal};
-    ghost use Rattle.st_emit.specs.Views.{literals_view};
-    ghost use Rattle.st_emit.specs.LiteralPlaces.{IsLiteralIndex};
+    ghost use Rattle.st_emit.specs.inside.Views.{literals_view};
+    ghost use Rattle.st_emit.specs.inside.LiteralPlaces.{IsLiteralIndex};
 
     ghost Value = { Vec Literal };
 

@@ -3,7 +3,7 @@
 ghost use Rattle.std.specs.Prelude.{◌≡◌, ◌++◌, take, IfOk, option_map, is_some};
 ghost use Rattle.st_emit.specs.Names.{constant_named, field_named, shared_named, declared_as, own_variable, is_among};
 ghost use Rattle.st_scan.specs.Views.{names_view as list_view};
-ghost use Rattle.st_emit.specs.NameViews.{frame_view, names_view, scope_view, variable_at, pointer_of, IsVariable};
+ghost use Rattle.st_emit.specs.inside.NameViews.{frame_view, names_view, scope_view, variable_at, pointer_of, IsVariable};
 
 use crate::counting::sum;
 use crate::frame::{Frame, name_place};

@@ -4,12 +4,12 @@ ghost use Rattle.std.specs.Prelude.{◌≡◌, ◌<◌, ◌≤◌, IfSome, Match
 ghost use Rattle.st_scan.specs.declared.tree.Expression.{size-Expression};
 ghost use Rattle.st_scan.specs.declared.tree.Message.{size-Message};
 ghost use Rattle.st_scan.specs.Views.{expression_view, expressions_view, statements_view, is_super};
-ghost use Rattle.st_scan.specs.Chains.{link_size, links_size};
-ghost use Rattle.st_emit.specs.Shapes.{shape_view, one_sided_shape, two_sided_shape, repetition_view, returning, returned_constant};
-ghost use Rattle.st_emit.specs.Found.{statements_size, messages_size, message_shape, loop_of, loop_by, loop_among, loop_linked};
-ghost use Rattle.st_emit.specs.Found.{first_loop, IsNotPlain, IsPlain, IsUnassigned, IsAssignment, IsBefore, EndsAtOnce};
-ghost use Rattle.st_emit.specs.Found.{IsFirstOf, IsOnlyOrNone};
-ghost use Rattle.st_emit.specs.Sizes.{IsShapeBelow};
+ghost use Rattle.st_scan.specs.inside.Chains.{link_size, links_size};
+ghost use Rattle.st_emit.specs.inside.Shapes.{shape_view, one_sided_shape, two_sided_shape, repetition_view, returning, returned_constant};
+ghost use Rattle.st_emit.specs.inside.Found.{statements_size, messages_size, message_shape, loop_of, loop_by, loop_among, loop_linked};
+ghost use Rattle.st_emit.specs.inside.Found.{first_loop, IsNotPlain, IsPlain, IsUnassigned, IsAssignment, IsBefore, EndsAtOnce};
+ghost use Rattle.st_emit.specs.inside.Found.{IsFirstOf, IsOnlyOrNone};
+ghost use Rattle.st_emit.specs.inside.Sizes.{IsShapeBelow};
 
 use crate::form::{Form, Lookup, Loop, OneSided, TwoSided};
 use crate::names::constant_named;

@@ -1,7 +1,7 @@
 //! Tables of texts, each with a value.
 
 ghost use Rattle.std.specs.Prelude.{◌≡◌};
-ghost use Rattle.st_emit.specs.Tables.{table_now, value_or};
+ghost use Rattle.st_emit.specs.inside.Tables.{table_now, value_or};
 
 /// The value of the first row with this text, or `otherwise` if there is none.
 pub fn value_or<T: Copy>(table: &[(&[u8], T)], text: &[u8], otherwise: T) -> T

@@ -3,15 +3,15 @@
 
 ghost use Rattle.std.specs.Prelude.{◌≡◌, ◌<◌, ◌≤◌, IfOk, OnOk, length, if◌then◌else◌, ◌==◌, false};
 ghost use Rattle.st_scan.specs.Views.{expression_view, statements_view, is_super};
-ghost use Rattle.st_scan.specs.Chains.{IsStart};
-ghost use Rattle.st_emit.specs.Emits.{value_at, effect_at, return_at, values_at, message_at, cascade_at, sent_at, side_at, choice_at};
-ghost use Rattle.st_emit.specs.Emits.{loop_at, link_at, chain_at, body_at, method_at, block_at, code_in};
-ghost use Rattle.st_emit.specs.Emits.{after, after_all, after_messages, after_side, after_loop, after_link, after_chain};
-ghost use Rattle.st_emit.specs.Emits.{after_begun, after_statements, after_block, Begins, BeginsNoLoop, LeadsTo, CountsTo};
-ghost use Rattle.st_emit.specs.Found.{statements_size};
+ghost use Rattle.st_scan.specs.inside.Chains.{IsStart};
+ghost use Rattle.st_emit.specs.inside.Emits.{value_at, effect_at, return_at, values_at, message_at, cascade_at, sent_at, side_at, choice_at};
+ghost use Rattle.st_emit.specs.inside.Emits.{loop_at, link_at, chain_at, body_at, method_at, block_at, code_in};
+ghost use Rattle.st_emit.specs.inside.Emits.{after, after_all, after_messages, after_side, after_loop, after_link, after_chain};
+ghost use Rattle.st_emit.specs.inside.Emits.{after_begun, after_statements, after_block, Begins, BeginsNoLoop, LeadsTo, CountsTo};
+ghost use Rattle.st_emit.specs.inside.Found.{statements_size};
 ghost use Rattle.st_emit.specs.Nodes.{is_above};
-ghost use Rattle.st_emit.specs.Shapes.{IsEnd};
-ghost use Rattle.st_emit.specs.Drafts.{Adds};
+ghost use Rattle.st_emit.specs.inside.Shapes.{IsEnd};
+ghost use Rattle.st_emit.specs.inside.Drafts.{Adds};
 
 use crate::counting::{names_in_statements, sum};
 use crate::draft::Draft;

@@ -5,8 +5,8 @@ use Rattle.std.specs.Borrow.{Bor}
 use Rattle.std.specs.Global.{Vec}
 use Rattle.std.specs.Prelude.{slice_get, option_map}
 use Rattle.std.specs.Slice.{IsItemAt}
-use Rattle.st_emit.specs.NameViews.{texts_view}
-use Rattle.st_expression_stack.specs.Called.{items_now}
+use Rattle.st_emit.specs.inside.NameViews.{texts_view}
+use Rattle.st_expression_stack.specs.inside.Called.{items_now}
 use Rattle.st_expression_stack.proofs.NameTurns.{texts_map}
 
 module _ {X : Type 0} (xs : List X) (i : ℕ) where

@@ -11,9 +11,9 @@ use Rattle.std.specs.Cmp.Lexicographic.{slice_cmp, bytes_decides, nat_list_eq_eq
 use Rattle.std.proofs.lemmas.List.{at_drop_more, drop_all}
 use Rattle.std.proofs.lemmas.Map.Text.{is_eq-slice_cmp}
 use Rattle.std.proofs.lemmas.List.{length-append}
-use Rattle.st_emit.specs.NameViews.{texts_view}
+use Rattle.st_emit.specs.inside.NameViews.{texts_view}
 use Rattle.st_expression_stack.specs.declared.own.Taken.{Taken}
-use Rattle.st_expression_stack.specs.Called.{is_kept, Keeps, IsTaken, AreFirst, listed_or, own_by}
+use Rattle.st_expression_stack.specs.inside.Called.{is_kept, Keeps, IsTaken, AreFirst, listed_or, own_by}
 use Rattle.st_expression_stack.specs.Names.{is_among, own_name}
 
 or_assoc : (a b c : Bool) → ((a || b) || c) ≡ (a || (b || c))

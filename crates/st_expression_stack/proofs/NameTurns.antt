@@ -5,10 +5,10 @@ use Rattle.std.specs.Global.{Vec}
 use Rattle.std.specs.Prelude.{if◌then◌else◌, nat_lt, ◌&&◌}
 use Rattle.std.specs.Fmt.{decimal}
 use Rattle.st_emit.specs.Names.{NamesView, variable_named}
-use Rattle.st_emit.specs.NameViews.{texts_view, shared_view}
+use Rattle.st_emit.specs.inside.NameViews.{texts_view, shared_view}
 use Rattle.st_emit.specs.declared.literal.Literal.{Literal}
 use Rattle.st_emit.specs.Literals.{LiteralView}
-use Rattle.st_emit.specs.Views.{literal_view, literals_view}
+use Rattle.st_emit.specs.inside.Views.{literal_view, literals_view}
 use Rattle.st_model.specs.declared.oop.Oop.{Oop}
 use Rattle.st_expression_stack.specs.Names.{texts_of, zeros, numeral, numbered, first_free, own_number, is_usable, is_value, names_value, shared_text}
 

@@ -12,8 +12,8 @@ use Rattle.st_expression_stack.specs.declared.item.Item.TheVariants as kept
 use Rattle.st_expression_stack.specs.declared.sending.Received.{Received}
 use Rattle.st_expression_stack.specs.Items.{Piece, Item, piece, cascade, again, answered, goes_on}
 use Rattle.st_expression_stack.specs.Messages.{to_receiver, sent, doubled, popped}
-use Rattle.st_expression_stack.specs.Stacks.{piece_view, item_view, stack_view, acted_if}
-use Rattle.st_expression_stack.specs.Sent.{sent_by, finished_by}
+use Rattle.st_expression_stack.specs.inside.Stacks.{piece_view, item_view, stack_view, acted_if}
+use Rattle.st_expression_stack.specs.inside.Sent.{sent_by, finished_by}
 use Rattle.st_expression_stack.proofs.Stacking.{stack_more}
 
 -- an item on top

@@ -11,7 +11,7 @@ use Rattle.st_expression_stack.specs.declared.item.Item.TheVariants as kept
 use Rattle.st_expression_stack.specs.Items.{Piece, Item, piece, argument, is_low, put_low, Taken, statements_before, arguments_of, Acted, statements_from, on_piece}
 use Rattle.st_expression_stack.specs.Items as items
 use Rattle.st_expression_stack.specs.Messages.{with_arguments}
-use Rattle.st_expression_stack.specs.Stacks.{piece_view, item_view, stack_onto, stack_view, chosen_if, IsPieceless, IsArgumentless}
+use Rattle.st_expression_stack.specs.inside.Stacks.{piece_view, item_view, stack_onto, stack_view, chosen_if, IsPieceless, IsArgumentless}
 
 -- one more on top
 pub stack_more : (below : List Item) (xs : List KeptItem) (x : KeptItem) → stack_onto below (xs ++ x ∷ []) ≡ item_view x ∷ stack_onto below xs

@@ -3,8 +3,8 @@
 ghost use Rattle.std.specs.Prelude.{◌≡◌, ◌++◌, ◌∷◌, [], IfOk, OnOk};
 ghost use Rattle.st_scan.specs.Views.{no_statements};
 ghost use Rattle.st_expression_stack.specs.Items.{statements_of, is_low, put_low, statements_from};
-ghost use Rattle.st_expression_stack.specs.Stacks.{stack_view, piece_view, IsPopped, IsArgumentPopped};
-ghost use Rattle.st_expression_stack.specs.Stacks.{taken_view, taken_if, put_statement, Chooses};
+ghost use Rattle.st_expression_stack.specs.inside.Stacks.{stack_view, piece_view, IsPopped, IsArgumentPopped};
+ghost use Rattle.st_expression_stack.specs.inside.Stacks.{taken_view, taken_if, put_statement, Chooses};
 
 use st_emit::Place;
 use st_scan::{Expression, MessageList, Statement, StatementList};

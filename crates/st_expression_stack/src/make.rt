@@ -3,12 +3,12 @@
 ghost use Rattle.std.specs.Prelude.{◌≡◌, false, IfOk, option_map, Some};
 ghost use Rattle.st_scan.specs.Views.{name_view, content_view, elements_view, expression_view};
 ghost use Rattle.st_scan.specs.Views.{statements_view, statement, no_statements};
-ghost use Rattle.st_emit.specs.{Nodes.is_above, Views.{literal_view, members_view}};
+ghost use Rattle.st_emit.specs.{Nodes.is_above, inside.Views.{literal_view, members_view}};
 ghost use Rattle.st_expression_stack.specs.Choosing.{called, constant_text, constant_tree, small_signed, small_tree};
 ghost use Rattle.st_expression_stack.specs.Choosing.{named_content, content_of, elements_of, literal_tree, received, alone};
 ghost use Rattle.st_expression_stack.specs.Choosing.{one_sided_by, loop_selector};
-ghost use Rattle.st_expression_stack.specs.Stacks.{text_now};
-ghost use Rattle.st_expression_stack.specs.Made.{message_to, block_to, blocks_to, sides_to, choice_to, loop_of};
+ghost use Rattle.st_expression_stack.specs.inside.Stacks.{text_now};
+ghost use Rattle.st_expression_stack.specs.inside.Made.{message_to, block_to, blocks_to, sides_to, choice_to, loop_of};
 
 use crate::item::Statements;
 use st_emit::{Constant, Literal, Lookup, constant_named};

@@ -4,9 +4,9 @@
 ghost use Rattle.std.specs.Prelude.{◌≡◌, map, slice_get, option_map, IfOk};
 ghost use Rattle.std.specs.{Char.{is_ascii_alphabetic, is_ascii_alphanumeric}, List.list_all};
 ghost use Rattle.st_scan.specs.{Views.name_view, Pieces.{begins, is_name}};
-ghost use Rattle.st_emit.specs.NameViews.{names_view, texts_view, variable_view};
-ghost use Rattle.st_emit.specs.Views.{literal_view, literals_view};
-ghost use Rattle.st_expression_stack.specs.{Choosing.called, Called.{calling_view, items_now}};
+ghost use Rattle.st_emit.specs.inside.NameViews.{names_view, texts_view, variable_view};
+ghost use Rattle.st_emit.specs.inside.Views.{literal_view, literals_view};
+ghost use Rattle.st_expression_stack.specs.{Choosing.called, inside.Called.{calling_view, items_now}};
 ghost use Rattle.st_expression_stack.specs.Names.{is_usable, usable_or, texts_of};
 ghost use Rattle.st_expression_stack.specs.Names.{is_value, names_value, shared_text, literal_text, calling_of, name_in, or_unused};
 

@@ -2,8 +2,8 @@
 
 ghost use Rattle.std.specs.Prelude.{◌≡◌, ◌∷◌, ◌++◌, [], option_map, IfOk, OnOk};
 ghost use Rattle.std.specs.Fmt.{decimal};
-ghost use Rattle.st_emit.specs.NameViews.{texts_view};
-ghost use Rattle.st_expression_stack.specs.Called.{is_kept, Keeps, IsTaken, own_by, AreFirst, or_text, listed_or, items_now};
+ghost use Rattle.st_emit.specs.inside.NameViews.{texts_view};
+ghost use Rattle.st_expression_stack.specs.inside.Called.{is_kept, Keeps, IsTaken, own_by, AreFirst, or_text, listed_or, items_now};
 ghost use Rattle.st_expression_stack.specs.Names.{numeral, numbered, first_free, own_number};
 
 use itoa::Buffer;

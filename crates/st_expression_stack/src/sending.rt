@@ -4,8 +4,8 @@ ghost use Rattle.std.specs.Prelude.{◌≡◌, ◌++◌, ◌∷◌, [], IfOk, On
 ghost use Rattle.st_scan.specs.Views.{expression_view, messages_view, send};
 ghost use Rattle.st_emit.specs.{Nodes.is_above, Selectors.{colons, arity}};
 ghost use Rattle.st_expression_stack.specs.{Items.again, Messages.{to_receiver, sends, doubled, popped}};
-ghost use Rattle.st_expression_stack.specs.Sent.{sent_by, finished_by};
-ghost use Rattle.st_expression_stack.specs.Stacks.{stack_view, piece_view, item_view, Acts, ArgumentsTaken};
+ghost use Rattle.st_expression_stack.specs.inside.Sent.{sent_by, finished_by};
+ghost use Rattle.st_expression_stack.specs.inside.Stacks.{stack_view, piece_view, item_view, Acts, ArgumentsTaken};
 
 use crate::item::{Item, NO_ARGUMENTS, Piece, Stack, is_low, pop_piece};
 use crate::make::received;

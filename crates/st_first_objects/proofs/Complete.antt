@@ -23,7 +23,7 @@ use Rattle.st_first_objects.specs.Plans.{Plan}
 use Rattle.st_first_objects.specs.Contents.{Field, Empty, Number, To, Body, Fields, Bytes, NoWords, content}
 use Rattle.st_first_objects.specs.Pointers.{place, place_at, place_in, value_in, object, object_by}
 use Rattle.st_first_objects.specs.First.{with_things, head_in, view_of}
-use Rattle.st_first_objects.specs.Placing.{Underway}
+use Rattle.st_first_objects.specs.inside.Placing.{Underway}
 use Rattle.st_first_objects.proofs.Counts.{Begins, further, all_begins, parts_begin, last_begin, fewer}
 use Rattle.st_first_objects.proofs.Places.{place_within}
 

@@ -3,7 +3,7 @@ use Rattle.std.proofs.Common.{◌≡◌, ℕ, suc, ◌+◌, ◌*◌, ◌≤◌, 
 use Rattle.std.specs.Prelude.{◌&&◌, not, Result, Ok, Err, IsErrAnd}
 use Rattle.st_first_objects.specs.declared.unmade.Unmade.{Unmade}
 use Rattle.st_first_objects.specs.declared.unmade.Unmade.TheVariants.{NoRoom, OutOfMemory}
-use Rattle.st_first_objects.specs.Ordered.{Becomes, IsOrder}
+use Rattle.st_first_objects.specs.inside.Ordered.{Becomes, IsOrder}
 use Rattle.st_kernel_text.specs.Parts.{Part}
 use Rattle.st_first_objects.specs.declared.thing.What.TheVariants as what
 use Rattle.st_first_objects.specs.Things.{Thing, numbered, is}

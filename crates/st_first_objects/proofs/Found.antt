@@ -1,7 +1,7 @@
 -- What is found among the classes.
 use Rattle.std.proofs.Common.{◌≡◌, ℕ, Bool, true, false, cond, List, [], ◌∷◌, ◌++◌, Some, None, Option, is_some, Bor, refl, sym, ap, ◌∙◌}
 use Rattle.std.proofs.Common.{inl, inr, ◌⊎◌, arith, ◌+◌, ◌<◌, ◌≤◌, length, Vec, Global}
-use Rattle.st_kernel_text.specs.Lists.{texts_of}
+use Rattle.st_kernel_text.specs.inside.Lists.{texts_of}
 use Rattle.st_kernel_text.proofs.Listed.{texts_long}
 use Rattle.std.proofs.lemmas.Bool.{le-leb}
 use Rattle.std.proofs.lemmas.Bool.Decides.{leb_tells}
@@ -11,7 +11,7 @@ use Rattle.st_chunk.proofs.Cases.{by_test}
 use Rattle.indexmap.specs.IndexMap.{insert_entry}
 use Rattle.st_first_objects.specs.declared.classes.Declared as declared_class
 use Rattle.st_first_objects.specs.Classes.{Classes, found, limited}
-use Rattle.st_first_objects.specs.Views.{declared_of, classes_of}
+use Rattle.st_first_objects.specs.inside.Views.{declared_of, classes_of}
 
 abbrev pub Entries : Type 0
 Entries = List (Bor (List ℕ) × declared_class.Declared)

@@ -11,7 +11,7 @@ use Rattle.st_first_objects.specs.Things.{numbered}
 use Rattle.st_first_objects.specs.Orders.{numbered_from}
 use Rattle.st_first_objects.proofs.Wanting.{numbered_next, numbered_none}
 use Rattle.st_first_objects.specs.Pointers.{value_in}
-use Rattle.st_first_objects.specs.Views.{field_of, fields_of}
+use Rattle.st_first_objects.specs.inside.Views.{field_of, fields_of}
 
 pub drop_got : {A : Type 0} (xs : List A) (i : ℕ) (x : A) → slice_get xs i ≡ Some x → drop i xs ≡ x ∷ drop (i + 1) xs
 drop_got [] i x e = cc

@@ -7,7 +7,7 @@ use Rattle.st_first_objects.specs.contracts.thing.ThingPartialEq.TheImpl as deri
 use Rattle.st_first_objects.specs.declared.thing.Thing as declared_thing
 use Rattle.st_first_objects.specs.Things.{Thing, same}
 use Rattle.st_first_objects.specs.Orders.{Order, put}
-use Rattle.st_first_objects.specs.Views.{thing_of, things_of}
+use Rattle.st_first_objects.specs.inside.Views.{thing_of, things_of}
 
 pub made_is : (a : declared_thing.Thing) → (ts : List declared_thing.Thing) → list_any ((derived.eq-value).it a) ts ≡ list_any (same (thing_of a)) (things_of ts)
 made_is a [] = refl

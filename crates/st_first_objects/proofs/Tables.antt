@@ -6,7 +6,7 @@ use Rattle.st_model.specs.Values.{Value, Ref}
 use Rattle.st_model.specs.Objects.{Object, with_field, object_with_unit}
 use Rattle.st_model.specs.Table.{Table, entry, changed}
 use Rattle.st_model.specs.View.{View, is_live, object_of, with_object, with_stored, with_unit}
-use Rattle.st_first_objects.specs.Placing.{Puts, filled}
+use Rattle.st_first_objects.specs.inside.Placing.{Puts, filled}
 use Rattle.st_model.proofs.Entries.{entry-set_same, changed-set}
 
 -- VIEWS

@@ -23,7 +23,7 @@ use Rattle.st_first_objects.specs.Plans.{Plan}
 use Rattle.st_first_objects.specs.Contents.{Content, Body, Fields, Bytes, NoWords, content_of, content, instance}
 use Rattle.st_first_objects.specs.Pointers.{place, place_at, place_in, object, object_by, object_in}
 use Rattle.st_first_objects.specs.First.{with_things, fit_beside}
-use Rattle.st_first_objects.specs.Placing.{Puts, CanPlace, Underway, IsBegun, HasWords, PlacesAll}
+use Rattle.st_first_objects.specs.inside.Placing.{Puts, CanPlace, Underway, IsBegun, HasWords, PlacesAll}
 use Rattle.std.specs.Prelude.{Err}
 use Rattle.st_first_objects.specs.declared.unmade.Unmade.{Unmade}
 use Rattle.st_first_objects.specs.declared.unmade.Unmade.TheVariants.{NoRoom, OutOfMemory}

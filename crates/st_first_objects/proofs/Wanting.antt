@@ -5,12 +5,12 @@ use Rattle.std.proofs.lemmas.Bool.{both_ways}
 use Rattle.std.specs.Prelude.{◌||◌, ◌&&◌, bytes_eq}
 use Rattle.std.proofs.lemmas.Slice.Eq.{bytes_eq-Decides}
 use Rattle.st_chunk.proofs.Cases.{by_test}
-use Rattle.st_kernel_text.specs.Lists.{texts_of}
+use Rattle.st_kernel_text.specs.inside.Lists.{texts_of}
 use Rattle.st_first_objects.specs.Classes.{is_none}
 use Rattle.st_first_objects.specs.Things.{Thing, numbered}
 use Rattle.st_first_objects.specs.declared.thing.What.{What}
 use Rattle.st_first_objects.specs.Orders.{Order, want, want_all, numbered_from}
-use Rattle.st_first_objects.specs.Views.{is_listed}
+use Rattle.st_first_objects.specs.inside.Views.{is_listed}
 
 pub want_more : (o : Order) (xs ys : List Thing) → want_all (want_all o xs) ys ≡ want_all o (xs ++ ys)
 want_more o [] ys = refl

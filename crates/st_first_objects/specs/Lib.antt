@@ -1,10 +1,8 @@
 pub mod Things
-pub mod Views
 pub mod Classes
 pub mod Orders
-pub mod Ordered
 pub mod Plans
 pub mod Contents
 pub mod Pointers
 pub mod First
-pub mod Placing
+pub mod inside

@@ -1,9 +1,9 @@
 // The order of all things of a kernel text.
 ghost use Rattle.std.specs.Prelude.{◌≡◌, ◌≤◌, length, IfOk, OnOk, Result};
-ghost use Rattle.st_kernel_text.specs.Views.{parts_of};
+ghost use Rattle.st_kernel_text.specs.inside.Views.{parts_of};
 ghost use Rattle.st_emit.specs.Selectors.{sends_now};
 ghost use Rattle.st_first_objects.specs.Orders.{want_all, page, numbered_from, selectors, selector_symbols, first_things, last_things, want_parts, order};
-ghost use Rattle.st_first_objects.specs.{Views.named_of, Ordered.{Becomes, IsOrder}};
+ghost use Rattle.st_first_objects.specs.{inside.Views.named_of, inside.Ordered.{Becomes, IsOrder}};
 
 use crate::order::Order;
 use crate::pools::Pools;

@@ -1,8 +1,8 @@
 // The classes that a text declares.
 ghost use Rattle.std.specs.Prelude.{◌≡◌, ◌+◌, [], ◌∷◌, ◌++◌, false, length, is_some, IfOk, OnOk};
-ghost use Rattle.st_kernel_text.specs.{Parts.Class, Lists.texts_of, Views.{class_of, part_of, parts_of}};
+ghost use Rattle.st_kernel_text.specs.{Parts.Class, inside.Lists.texts_of, inside.Views.{class_of, part_of, parts_of}};
 ghost use Rattle.st_first_objects.specs.Classes.{undeclared, found, declared, is_nil, limited, inherited, declared_in, with_class, with_part, classes};
-ghost use Rattle.st_first_objects.specs.Views.{declared_of};
+ghost use Rattle.st_first_objects.specs.inside.Views.{declared_of};
 
 use indexmap::IndexMap;
 use st_kernel_text::{Class, Part, Shape, Text};
@@ -69,7 +69,7 @@ pub(crate) struct Classes<'a> {
 
 impl<'a> Model for Classes<'a> {
     ghost use Rattle.st_first_objects.specs.Classes.{Classes};
-    ghost use Rattle.st_first_objects.specs.Views.{classes_of};
+    ghost use Rattle.st_first_objects.specs.inside.Views.{classes_of};
 
     ghost Value = { Classes };
 

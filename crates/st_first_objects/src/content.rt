@@ -3,7 +3,7 @@ ghost use Rattle.std.specs.Prelude.{◌≡◌, IfOk, replicate, List};
 ghost use Rattle.st_model.specs.Objects.{words_of};
 ghost use Rattle.st_first_objects.specs.{Things.{Thing as NamedThing}, Pointers.object_in};
 ghost use Rattle.st_first_objects.specs.Contents.{Empty, of_fields, of_bytes, association, array, dictionary};
-ghost use Rattle.st_first_objects.specs.Views.{thing_of, field_of, fields_of, content_of};
+ghost use Rattle.st_first_objects.specs.inside.Views.{thing_of, field_of, fields_of, content_of};
 
 use crate::thing::Thing;
 use std::alloc::{AllocError, Global};

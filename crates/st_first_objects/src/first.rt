@@ -1,10 +1,10 @@
 // The memory of the first objects.
 ghost use Rattle.std.specs.Prelude.{◌≡◌, ◌≤◌, false, true, OnOk, IfOk, IfErr};
 ghost use Rattle.st_model.specs.Limits.{most_words};
-ghost use Rattle.st_kernel_text.specs.Views.{parts_of};
+ghost use Rattle.st_kernel_text.specs.inside.Views.{parts_of};
 ghost use Rattle.st_first_objects.specs.declared.unmade.Unmade.TheVariants.{NoRoom};
 ghost use Rattle.st_first_objects.specs.First.{first_view, has_room};
-ghost use Rattle.st_first_objects.specs.Placing.{IsBegun, PlacesAll, HasWords};
+ghost use Rattle.st_first_objects.specs.inside.Placing.{IsBegun, PlacesAll, HasWords};
 
 use crate::placing::{place_content, pointer, pointer_at};
 use crate::plan::Plan;

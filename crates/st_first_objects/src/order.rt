@@ -3,7 +3,7 @@ ghost use Rattle.std.specs.Prelude.{◌≡◌, ◌<◌, length, not, slice_get, 
 ghost use Rattle.std.specs.List.{position};
 ghost use Rattle.st_first_objects.specs.Things.{same};
 ghost use Rattle.st_first_objects.specs.Orders.{empty, is_made, put, with_symbol, want, want_all};
-ghost use Rattle.st_first_objects.specs.Views.{thing_of, things_of};
+ghost use Rattle.st_first_objects.specs.inside.Views.{thing_of, things_of};
 
 use crate::thing::{Thing, What};
 use indexmap::IndexSet;
@@ -20,7 +20,7 @@ pub(crate) struct Order<'a> {
 
 impl<'a> Model for Order<'a> {
     ghost use Rattle.st_first_objects.specs.Orders.{Order};
-    ghost use Rattle.st_first_objects.specs.Views.{things_of};
+    ghost use Rattle.st_first_objects.specs.inside.Views.{things_of};
 
     ghost Value = { Order };
 

@@ -3,8 +3,8 @@ ghost use Rattle.std.specs.Prelude.{◌≡◌, ◌*◌, ◌/◌, ◌<◌, ◌≤
 ghost use Rattle.st_model.specs.{declared.oop.Oop.Oop, Values.{value, Ref}};
 ghost use Rattle.st_first_objects.specs.Contents.{Fields, Bytes};
 ghost use Rattle.st_first_objects.specs.Pointers.{place, place_in, value_in, object_by, object_in};
-ghost use Rattle.st_first_objects.specs.Placing.{Puts, CanPlace};
-ghost use Rattle.st_first_objects.specs.Views.{thing_of, field_of, fields_of, content_of};
+ghost use Rattle.st_first_objects.specs.inside.Placing.{Puts, CanPlace};
+ghost use Rattle.st_first_objects.specs.inside.Views.{thing_of, field_of, fields_of, content_of};
 
 use crate::content::{Body, Content, Field};
 use crate::plan::Plan;

@@ -1,15 +1,15 @@
 // What is in each of the first objects.
 ghost use Rattle.std.specs.Prelude.{◌≡◌, replicate, map, slice_get, IfOk, ◌<◌, length, Some, IfSome};
 ghost use Rattle.std.specs.{List.position, Prelude.true};
-ghost use Rattle.st_kernel_text.specs.{Views.{part_of, parts_of}, Lists.texts_of};
+ghost use Rattle.st_kernel_text.specs.{inside.Views.{part_of, parts_of}, inside.Lists.texts_of};
 ghost use Rattle.st_first_objects.specs.declared.thing.What.TheVariants.{Variable, Symbol};
 ghost use Rattle.st_first_objects.specs.Things.{within, is};
 ghost use Rattle.st_first_objects.specs.Orders.{numbered_from, selectors, characters, lists, order};
-ghost use Rattle.st_first_objects.specs.{Things.same, Ordered.IsPlan, Plans.plan};
+ghost use Rattle.st_first_objects.specs.{Things.same, inside.Ordered.IsPlan, Plans.plan};
 ghost use Rattle.st_first_objects.specs.Contents.{all_of, array, members, is_shared_of, sharing, instance, instance_of, specification, superclass, meta_superclass};
 ghost use Rattle.st_first_objects.specs.Contents.{class_content, metaclass_fields, selector_fields, names_fields, padded, content};
 ghost use Rattle.st_first_objects.specs.Things.{is_single, is_of_class, is_other};
-ghost use Rattle.st_first_objects.specs.Views.{thing_of, declared_of, field_of, fields_of, content_of};
+ghost use Rattle.st_first_objects.specs.inside.Views.{thing_of, declared_of, field_of, fields_of, content_of};
 ghost use Rattle.st_emit.specs.Selectors.{sends_now};
 
 use crate::building::order;
@@ -204,7 +204,7 @@ pub(crate) struct Plan<'a> {
 }
 
 impl<'a> Model for Plan<'a> {
-    ghost use Rattle.st_kernel_text.specs.Views.{parts_of};
+    ghost use Rattle.st_kernel_text.specs.inside.Views.{parts_of};
     ghost use Rattle.st_first_objects.specs.Plans.{Plan};
 
     ghost Value = { Plan };

@@ -1,8 +1,8 @@
 // The classes that have class variables.
 ghost use Rattle.std.specs.Prelude.{◌≡◌, ℕ, ◌||◌, List, IfOk, OnOk};
-ghost use Rattle.st_kernel_text.specs.Views.{part_of, parts_of};
+ghost use Rattle.st_kernel_text.specs.inside.Views.{part_of, parts_of};
 ghost use Rattle.st_first_objects.specs.Classes.{shares, has_pool};
-ghost use Rattle.st_first_objects.specs.Views.{is_listed};
+ghost use Rattle.st_first_objects.specs.inside.Views.{is_listed};
 
 use indexmap::IndexSet;
 use st_kernel_text::Part;
@@ -19,9 +19,9 @@ pub(crate) struct Pools<'a> {
 impl<'a> Model for Pools<'a> {
     ghost use Rattle.std.specs.Prelude.{◌≡◌, ℕ, List};
     ghost use Rattle.st_kernel_text.specs.Parts.{Part};
-    ghost use Rattle.st_kernel_text.specs.Views.{parts_of};
+    ghost use Rattle.st_kernel_text.specs.inside.Views.{parts_of};
     ghost use Rattle.st_first_objects.specs.Classes.{has_pool};
-    ghost use Rattle.st_first_objects.specs.Views.{is_listed};
+    ghost use Rattle.st_first_objects.specs.inside.Views.{is_listed};
 
     ghost Value = { List Part };
 

@@ -1,7 +1,7 @@
 // What the first objects are.
 ghost use Rattle.std.specs.Prelude.{◌≡◌};
 ghost use Rattle.st_first_objects.specs.Things.{only, named, numbered, within, class, symbol, is};
-ghost use Rattle.st_first_objects.specs.Views.{thing_of};
+ghost use Rattle.st_first_objects.specs.inside.Views.{thing_of};
 
 /// What an object is.
 #[derive(Clone, Copy, Debug, PartialEq, Eq, Hash)]

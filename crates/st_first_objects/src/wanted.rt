@@ -1,9 +1,9 @@
 // What each part makes.
 ghost use Rattle.std.specs.Prelude.{◌≡◌, ◌++◌, ℕ, List, IfOk, OnOk, map};
-ghost use Rattle.st_kernel_text.specs.{Parts.Part, Lists.texts_of, Views.{class_of, pool_of, part_of}};
+ghost use Rattle.st_kernel_text.specs.{Parts.Part, inside.Lists.texts_of, inside.Views.{class_of, pool_of, part_of}};
 ghost use Rattle.st_first_objects.specs.{declared.thing.What.TheVariants.Variable, Things.within};
 ghost use Rattle.st_first_objects.specs.Orders.{want_all, class_things, names_things, shared_things, pool_things, wanted_by};
-ghost use Rattle.st_first_objects.specs.Views.{thing_of, things_of};
+ghost use Rattle.st_first_objects.specs.inside.Views.{thing_of, things_of};
 
 use crate::order::Order;
 use crate::pools::Pools;

@@ -11,7 +11,7 @@ use Rattle.st_model.specs.Show.{IsUsed, IsClosed}
 use Rattle.st_model.specs.Start.{idle_registers, idle_state}
 use Rattle.st_model.specs.View.{View, is_live, IsKnown, IsComplete, IsWhole}
 use Rattle.st_frames.specs.declared.frame.Frame.{Frame}
-use Rattle.st_frames.specs.Shown.{shown, registers_of, with_registers, filled, IsReady}
+use Rattle.st_frames.specs.inside.Shown.{shown, registers_of, with_registers, filled, IsReady}
 use Rattle.st_frames.proofs.Known.{known_active, known_home, known_method, known_receiver}
 use Rattle.st_model.proofs.WholeLemmas.{live_used as used, known_live}
 

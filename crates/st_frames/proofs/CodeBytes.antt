@@ -12,7 +12,7 @@ use Rattle.st_model.specs.Steps.{object, check, or_die, code_byte, byte_at, next
 use Rattle.st_model.specs.Table.{Table}
 use Rattle.st_model.proofs.Runs.{run-then, run-next, after-went, after-died, run-answer, run-set_ip}
 use Rattle.st_frames.specs.declared.registers.Registers.{Registers as Words}
-use Rattle.st_frames.specs.Rows.{row_state, registers_in}
+use Rattle.st_frames.specs.inside.Rows.{row_state, registers_in}
 use Rattle.st_frames.proofs.Doing.{row-ip, row-method}
 
 pub record IsCodePlace (ip : ℤ) : Type 0 where

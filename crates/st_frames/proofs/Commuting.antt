@@ -8,7 +8,7 @@ use Rattle.st_model.specs.Table.{Table, IsTabular}
 use Rattle.st_model.specs.Primitives.{answer_with}
 use Rattle.st_model.specs.Deeds.{copies_pixels, deed_done, world_done, over_both, with_deed}
 use Rattle.st_simulation.proofs.Deeds.{Commutes, moved, deed_leaves, answer_with-commutes}
-use Rattle.st_frames.specs.Answering.{succeed_with}
+use Rattle.st_frames.specs.inside.Answering.{succeed_with}
 
 pub went : {A : Type 0} (g : Table → Table) (u : Table → World → World) (step : Step Table A) (a : A) (s t : State Table) → Commutes g u step → step.run s ≡ Went a t
     → step.run (over_both g u s) ≡ Went a (over_both g u t)

@@ -10,7 +10,7 @@ use Rattle.st_model.specs.Steps.{get_active, get_home, get_method, get_receiver,
 use Rattle.st_model.specs.Table.{Table, IsTabular}
 use Rattle.st_model.proofs.Runs.{tests, run-set_ip, run-then, run-next, after-went, after-died, run-answer, run-die, run-passed, run-failed}
 use Rattle.st_frames.specs.declared.registers.Registers.{Registers as Words}
-use Rattle.st_frames.specs.Rows.{row_state, registers_in}
+use Rattle.st_frames.specs.inside.Rows.{row_state, registers_in}
 use Rattle.st_model.proofs.IntegerTests.{le_true}
 
 pub row-memory : (t : Table) (a : Head) (r : Words) → (row_state t a r).memory ≡ t

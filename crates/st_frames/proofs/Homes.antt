@@ -10,8 +10,8 @@ use Rattle.st_model.specs.Contexts.{home_by}
 use Rattle.st_model.specs.Table.{Table}
 use Rattle.st_model.proofs.Runs.{run-answer}
 use Rattle.st_frames.specs.declared.registers.Registers.{Registers as Words}
-use Rattle.st_frames.specs.Rows.{row_state, registers_in, fetched_in}
-use Rattle.st_frames.specs.Narrow.{IsNarrow}
+use Rattle.st_frames.specs.inside.Rows.{row_state, registers_in, fetched_in}
+use Rattle.st_frames.specs.inside.Narrow.{IsNarrow}
 use Rattle.st_frames.specs.declared.fetched.Fetched.{Fetched}
 
 pub home-block : (m : ObjectMemory Table) (c v : Value) (s : State Table) → is_small v ≡ true → (home_by m c v).run s ≡ (fetch_field m c 5).run s

@@ -8,7 +8,7 @@ use Rattle.st_model.specs.declared.page.PageObject.TheVariants.{NilObject, False
 use Rattle.st_model.proofs.Words.{value_of-nil, value_of-false, value_of-true, value_of-scheduler}
 use Rattle.st_model.specs.View.{View, IsKnown, IsWhole}
 use Rattle.st_frames.specs.declared.frame.Frame.{Frame}
-use Rattle.st_frames.specs.Shown.{IsFrame}
+use Rattle.st_frames.specs.inside.Shown.{IsFrame}
 
 pub known_active : {v : View} {f : Frame} → IsWhole v → IsFrame v f → IsKnown v.objects (value f.active)
 known_active {v} {f} whole frame = subst (λ (x : Value). IsKnown v.objects x) (sym frame.active) (whole.held place.Active)

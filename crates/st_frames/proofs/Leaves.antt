@@ -4,12 +4,12 @@ use Rattle.st_model.specs.declared.dead.Dead.{Dead}
 use Rattle.st_model.specs.declared.deed.Deed.{Deed}
 use Rattle.st_model.specs.Machine.{State, Died, Step}
 use Rattle.st_model.specs.Table.{Table}
-use Rattle.st_model.specs.Calls.{Does}
+use Rattle.st_model.specs.inside.Calls.{Does}
 use Rattle.st_memory.specs.declared.objects.Objects.{Ghosts}
 use Rattle.st_frames.specs.declared.registers.Registers.{Registers as Words}
-use Rattle.st_frames.specs.Rows.{state_of, with_left, RowLeaves}
+use Rattle.st_frames.specs.inside.Rows.{state_of, with_left, RowLeaves}
 use Rattle.st_model.specs.Deeds.{with_deed}
-use Rattle.st_frames.specs.Answering.{RowFollows}
+use Rattle.st_frames.specs.inside.Answering.{RowFollows}
 
 does_died : {A B : Type 0} (step : Step Table A) (f : B → A) (g : B → Deed) (s t : State Table) (x : Result B Dead) (k : Dead) → x ≡ Err k → step.run s ≡ Died k → Does step f s x (with_left g x t)
 does_died step f g s t x k e h = rw e h

@@ -9,15 +9,15 @@ use Rattle.st_model.specs.Machine.{Registers, Went, answer, ◌>>=◌}
 use Rattle.st_model.specs.Contexts.{home_by, home_of, stack_place, fetch_stack_pointer, context_registers, fetch_context_registers, scheduled_context, fetch_scheduled_registers}
 use Rattle.st_model.specs.Table.{table, bounded_table}
 use Rattle.st_model.specs.Steps.{are_there, fetch_integer, integer_or_die, set_registers}
-use Rattle.st_model.specs.Calls.{Reads, itself}
+use Rattle.st_model.specs.inside.Calls.{Reads, itself}
 use Rattle.st_model.specs.View.{View}
 use Rattle.st_model.proofs.Runs.{run-then, after-went, after-died, run-set_registers}
 use Rattle.st_model.proofs.Tabular.{of_page-as, fetch_field-as, count_fields-as}
-use Rattle.st_memory.specs.Tabular.{bounded_tabular}
+use Rattle.st_memory.specs.inside.Tabular.{bounded_tabular}
 use Rattle.st_frames.specs.declared.frame.Frame.{Frame}
 use Rattle.st_frames.specs.declared.fetched.Fetched.{Fetched}
-use Rattle.st_frames.specs.Rows.{fetched_in}
-use Rattle.st_frames.specs.Shown.{registers_of, with_registers, FetchesFrame}
+use Rattle.st_frames.specs.inside.Rows.{fetched_in}
+use Rattle.st_frames.specs.inside.Shown.{registers_of, with_registers, FetchesFrame}
 
 -- A bounded table gives the registers that a table gives: nothing is made.
 

@@ -13,7 +13,7 @@ use Rattle.st_model.specs.View.{View, SettlesTo, view_roots}
 use Rattle.st_model.proofs.SettledIs.{settled_is, settled_once}
 use Rattle.st_model.proofs.Roots.{any_either, any_left, any_right, any_replicate, settled_alike}
 use Rattle.st_frames.specs.declared.frame.Frame.{Frame}
-use Rattle.st_frames.specs.Shown.{shown, registers_of, filled, IsReady}
+use Rattle.st_frames.specs.inside.Shown.{shown, registers_of, filled, IsReady}
 use Rattle.st_model.proofs.Reclaiming.{table_finite}
 
 -- what a memory holds for devices is what they name, or nil

@@ -8,7 +8,7 @@ use Rattle.st_model.proofs.Runs.{run-then, run-next, after-went, after-died, run
 use Rattle.st_model.specs.Table.{Table}
 use Rattle.st_model.specs.View.{View}
 use Rattle.st_frames.specs.declared.frame.Frame.{Frame}
-use Rattle.st_frames.specs.Shown.{shown, registers_of}
+use Rattle.st_frames.specs.inside.Shown.{shown, registers_of}
 
 pub shown_stored : (v u : View) (f : Frame) (w : World) (t : Table) → u.objects ≡ t → u.head ≡ v.head → shown u f w ≡ record (shown v f w) { memory = t }
 shown_stored v u f w t e a = λ i. record { memory = e i; registers = registers_of f; world = w; head = a i }

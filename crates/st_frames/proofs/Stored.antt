@@ -7,15 +7,15 @@ use Rattle.st_model.specs.Machine.{World, State, Step, Died, Went, ◌>>=◌, �
 use Rattle.st_model.specs.Steps.{store_field, get_active, get_ip, get_sp}
 use Rattle.st_model.specs.Contexts.{store_context_registers}
 use Rattle.st_model.specs.Table.{Table, table, bounded_table}
-use Rattle.st_model.specs.Calls.{Changes, transition_of, itself}
+use Rattle.st_model.specs.inside.Calls.{Changes, transition_of, itself}
 use Rattle.st_model.specs.View.{View}
 use Rattle.st_model.proofs.Runs.{run-then, run-next, after-went, after-died}
 use Rattle.st_model.proofs.Tabular.{store_field-as}
-use Rattle.st_memory.specs.Tabular.{bounded_tabular}
+use Rattle.st_memory.specs.inside.Tabular.{bounded_tabular}
 use Rattle.st_frames.specs.declared.registers.Registers.{Registers as Words}
-use Rattle.st_frames.specs.Rows.{row_state, registers_in}
+use Rattle.st_frames.specs.inside.Rows.{row_state, registers_in}
 use Rattle.st_frames.specs.declared.frame.Frame.{Frame}
-use Rattle.st_frames.specs.Shown.{FrameDoes, shown, registers_of}
+use Rattle.st_frames.specs.inside.Shown.{FrameDoes, shown, registers_of}
 use Rattle.st_frames.proofs.Shown.{shown-active, shown-ip, shown-sp, shown_stored}
 
 -- what a row begins with

@@ -11,7 +11,7 @@ use Rattle.st_model.specs.Objects.{Object}
 use Rattle.st_model.specs.Table.{Table, table}
 use Rattle.st_model.specs.View.{View, IsWhole, IsKnown, is_live}
 use Rattle.st_model.proofs.TableLemmas.{entry_past}
-use Rattle.st_frames.specs.Narrow.{IsNarrow}
+use Rattle.st_frames.specs.inside.Narrow.{IsNarrow}
 
 pub there_if : (t : Table) (b : Bool) (n : ℕ) → IsLive (IsUsed t) (if b then Small n else Ref n) → (is_small (if b then Small n else Ref n) ≡ true → n < 32768)
     → is_there table t (if b then Small n else Ref n) ≡ true

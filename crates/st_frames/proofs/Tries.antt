@@ -8,7 +8,7 @@ use Rattle.st_model.specs.Machine.{ObjectMemory, State, Transition, Died, Went, 
 use Rattle.st_model.specs.Table.{Table}
 use Rattle.st_model.specs.Steps.{pop}
 use Rattle.st_model.specs.Primitives.{pop_words, succeed, primitive, bits_or_die}
-use Rattle.st_frames.specs.Answering.{succeed_with, succeed_by}
+use Rattle.st_frames.specs.inside.Answering.{succeed_with, succeed_by}
 use Rattle.st_model.proofs.Runs.{run-passed, run-failed, run-some, run-none}
 use Rattle.st_frames.proofs.Doing.{rows}
 use Rattle.st_model.specs.Methods.{literal_count}

@@ -8,10 +8,10 @@ use Rattle.st_model.specs.Machine.{ObjectMemory, Registers, State, Died}
 use Rattle.st_model.specs.Contexts.{context_registers, fetch_context_registers}
 use Rattle.st_model.specs.Table.{Table}
 use Rattle.st_model.specs.Steps.{are_there, set_registers, registers_set}
-use Rattle.st_model.specs.Calls.{Reads, itself}
+use Rattle.st_model.specs.inside.Calls.{Reads, itself}
 use Rattle.st_model.proofs.Runs.{run-then, after-went, after-died}
 use Rattle.st_frames.specs.declared.fetched.Fetched.{Fetched}
-use Rattle.st_frames.specs.Rows.{fetched_in}
+use Rattle.st_frames.specs.inside.Rows.{fetched_in}
 
 unset : (q : Registers) (s : State Table) (b : Bool) → b ≡ false → registers_set q s b ≡ Died dead.Kind
 unfolding registers_set

@@ -7,7 +7,7 @@ use Rattle.st_model.specs.Machine.{ObjectMemory, State, Transition, Died, Went, 
 use Rattle.st_model.specs.Table.{Table}
 use Rattle.st_model.specs.Steps.{fetch_byte, fetch_bytes}
 use Rattle.st_model.specs.Primitives.{positive_small, large_value, positive_value, number_of_bytes, bytes_of_number}
-use Rattle.st_frames.specs.Answering.{number_read}
+use Rattle.st_frames.specs.inside.Answering.{number_read}
 use Rattle.st_frames.proofs.Doing.{rows}
 
 pub value-small : (m : ObjectMemory Table) (most : ℕ) (v : Value) (s : State Table) → is_small v ≡ true → (positive_value m most v).run s ≡ (positive_small v).run s

@@ -1,8 +1,8 @@
 ghost use Rattle.std.specs.Prelude.{◌≡◌, ◌<◌, ◌≤◌, ◌+◌, ◌-◌, true, false, IfOk};
-ghost use Rattle.st_model.specs.{Values.word, Primitives.{pop_words, answer_with}, Calls.itself};
+ghost use Rattle.st_model.specs.{Values.word, Primitives.{pop_words, answer_with}, inside.Calls.itself};
 ghost use Rattle.st_model.specs.Deeds.{copies_pixels, is_done, deed_of_trial};
-ghost use Rattle.st_frames.specs.Answering.{RowFollows, succeed_with};
-ghost use Rattle.st_frames.specs.Rows.{RowMoves, RowDoes, RowLeaves, Takes};
+ghost use Rattle.st_frames.specs.inside.Answering.{RowFollows, succeed_with};
+ghost use Rattle.st_frames.specs.inside.Rows.{RowMoves, RowDoes, RowLeaves, Takes};
 
 use crate::answer::Answer;
 use crate::registers::Registers;
@@ -41,7 +41,7 @@ pub fn answer_with<O: Objects>(
 }
 
 /// The answer takes the place of receiver and n arguments, and the primitive has succeeded and leaves nothing to be done.
-#[tactic(auto, using(crate::proofs::Doing::rows), unfolding(crate::specs::Answering::succeed_with))]
+#[tactic(auto, using(crate::proofs::Doing::rows), unfolding(crate::specs::inside::Answering::succeed_with))]
 pub fn succeed_with<O: Objects>(
     m: &mut O,
     r: &mut Registers,

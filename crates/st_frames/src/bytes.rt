@@ -1,7 +1,7 @@
 ghost use Rattle.std.specs.Prelude.{◌≡◌};
 ghost use Rattle.st_model.specs.Steps.{next_byte};
-ghost use Rattle.st_model.specs.Calls.{itself};
-ghost use Rattle.st_frames.specs.Rows.{RowMoves};
+ghost use Rattle.st_model.specs.inside.Calls.{itself};
+ghost use Rattle.st_frames.specs.inside.Rows.{RowMoves};
 
 use crate::registers::Registers;
 use st_memory::Objects;

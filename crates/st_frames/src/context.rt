@@ -1,8 +1,8 @@
 ghost use Rattle.std.specs.Prelude.{◌≡◌, ◌<◌, ◌≤◌, ◌+◌, pos, ◌+ℤ◌, true, Ok};
 ghost use Rattle.st_model.specs.{Values.{word, small_integer}, Steps.{set_registers, are_there}};
 ghost use Rattle.st_model.specs.Contexts.{home_by, home_of, fetch_context_registers, scheduled_context, store_context_registers, switch};
-ghost use Rattle.st_model.specs.Calls.{Reads, itself};
-ghost use Rattle.st_frames.specs.Rows.{fetched_in, RowMoves, RowDoes, Takes};
+ghost use Rattle.st_model.specs.inside.Calls.{Reads, itself};
+ghost use Rattle.st_frames.specs.inside.Rows.{fetched_in, RowMoves, RowDoes, Takes};
 
 use crate::fetched::Fetched;
 use crate::fetching::page;

@@ -1,6 +1,6 @@
 ghost use Rattle.std.specs.Prelude.{◌≡◌, ◌≤◌, ◌≤ℤ◌, pos, negsuc, Ok, IfOk};
 ghost use Rattle.st_model.specs.{Values.{Ref, word}, Objects.place_of};
-ghost use Rattle.st_model.specs.{Steps.{of_page, fetch_integer, integer_or_die}, Calls.{Does, Reads, itself}};
+ghost use Rattle.st_model.specs.{Steps.{of_page, fetch_integer, integer_or_die}, inside.Calls.{Does, Reads, itself}};
 ghost use Rattle.st_model.specs.{Machine.State, Table.Table};
 
 use st_memory::Objects;

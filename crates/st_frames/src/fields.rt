@@ -1,7 +1,7 @@
 ghost use Rattle.std.specs.Prelude.{◌≡◌, ◌≤◌, IfOk, OnErr};
 ghost use Rattle.st_model.specs.{Values.value, View.IsKnown, Table.table};
-ghost use Rattle.st_model.specs.{Steps.{fetch_field, store_field, count_fields}, Calls.{Reads, itself}};
-ghost use Rattle.st_frames.specs.Shown.{FrameDoes};
+ghost use Rattle.st_model.specs.{Steps.{fetch_field, store_field, count_fields}, inside.Calls.{Reads, itself}};
+ghost use Rattle.st_frames.specs.inside.Shown.{FrameDoes};
 
 use crate::frame::Frame;
 use st_memory::Memory;

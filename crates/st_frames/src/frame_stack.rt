@@ -1,7 +1,7 @@
 ghost use Rattle.std.specs.Prelude.{◌≡◌, ◌≤◌, IfOk, OnOk, OnErr};
 ghost use Rattle.st_model.specs.{Values.value, View.IsKnown, Table.table, Steps.{put, push, pop, top, under}};
-ghost use Rattle.st_model.specs.{Contexts.store_context_registers, Calls.itself};
-ghost use Rattle.st_frames.specs.Shown.{IsFrame, StaysFrame, FrameDoes, FrameReads};
+ghost use Rattle.st_model.specs.{Contexts.store_context_registers, inside.Calls.itself};
+ghost use Rattle.st_frames.specs.inside.Shown.{IsFrame, StaysFrame, FrameDoes, FrameReads};
 
 use crate::fields::{count_fields, fetch_field, store_field};
 use crate::frame::Frame;

@@ -2,8 +2,8 @@ ghost use Rattle.std.specs.Prelude.{◌≡◌, true, IfOk, OnErr};
 ghost use Rattle.st_model.specs.{Values.{value, word}, Machine.is_there, Steps.are_there};
 ghost use Rattle.st_model.specs.{Contexts.{fetch_context_registers, fetch_scheduled_registers}, Table.table};
 ghost use Rattle.st_model.specs.View.{IsKnown};
-ghost use Rattle.st_frames.specs.Rows.{registers_in, fetched_in};
-ghost use Rattle.st_frames.specs.Shown.{IsFrame, IsFrameOf, StaysFrame, FetchesFrame, registers_of};
+ghost use Rattle.st_frames.specs.inside.Rows.{registers_in, fetched_in};
+ghost use Rattle.st_frames.specs.inside.Shown.{IsFrame, IsFrameOf, StaysFrame, FetchesFrame, registers_of};
 
 use crate::context::read_scheduled_context;
 use crate::fetched::Fetched;

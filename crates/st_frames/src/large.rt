@@ -1,7 +1,7 @@
 ghost use Rattle.st_model.specs.{Deeds.copies_pixels, declared.deed.Deed.TheVariants.StoreNumber};
 ghost use Rattle.st_model.specs.Primitives.{bytes_of_number, new_large, number};
 ghost use Rattle.std.specs.Prelude.{◌≡◌, ◌≤◌, ◌+◌, length, IfOk, false};
-ghost use Rattle.st_frames.specs.{Answering.{StoresBytes, answer_word, answer_deed}, Rows.{RowLeaves, Takes}};
+ghost use Rattle.st_frames.specs.{inside.Answering.{StoresBytes, answer_word, answer_deed}, inside.Rows.{RowLeaves, Takes}};
 
 use crate::answer::Answer;
 use crate::fetching::page;

@@ -1,7 +1,7 @@
 ghost use Rattle.std.specs.Prelude.{◌≡◌, ◌<◌, ◌≤◌, ◌+◌, ◌^◌, IfOk};
-ghost use Rattle.st_model.specs.{declared.kind.Kind.TheVariants.Bytes, Values.word, Calls.itself};
+ghost use Rattle.st_model.specs.{declared.kind.Kind.TheVariants.Bytes, Values.word, inside.Calls.itself};
 ghost use Rattle.st_model.specs.Primitives.{check_class, check_bytes, bits_or_die, positive_small, large_value, positive_value};
-ghost use Rattle.st_frames.specs.{Answering.{IsOfKind, number_read}, Rows.RowReads};
+ghost use Rattle.st_frames.specs.{inside.Answering.{IsOfKind, number_read}, inside.Rows.RowReads};
 
 use crate::fetching::page;
 use crate::registers::Registers;
@@ -81,7 +81,7 @@ pub fn number_read<O: Objects>(
 }
 
 /// The value of a LargePositiveInteger of 1 byte and so many at most.
-#[tactic(auto, using(crate::proofs::Doing::checks, crate::proofs::Valued::sizes), unfolding(st_model::specs::Primitives::large_value, crate::specs::Answering::number_read))]
+#[tactic(auto, using(crate::proofs::Doing::checks, crate::proofs::Valued::sizes), unfolding(st_model::specs::Primitives::large_value, crate::specs::inside::Answering::number_read))]
 fn large_value<O: Objects>(m: &O, r: &Registers, most: u32, v: Word) -> Result<u128, Dead>
     requires few { most ≤ 16 }
     ensures does { RowReads O.Objects.own (large_value O.names most (word v)) itself m.now r.now result }

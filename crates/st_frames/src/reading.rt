@@ -2,8 +2,8 @@ ghost use Rattle.std.specs.Prelude.{◌≡◌, ◌≤◌, ◌≤ℤ◌, ◌+ℤ�
 ghost use Rattle.st_model.specs.{Values.word, Machine.is_there};
 ghost use Rattle.st_model.specs.Steps.{are_there, fetch_field, fetch_integer, count_fields};
 ghost use Rattle.st_model.specs.Contexts.{home_of, stack_place, fetch_stack_pointer, context_registers, fetch_context_registers};
-ghost use Rattle.st_model.specs.Calls.{Reads, itself};
-ghost use Rattle.st_frames.specs.Rows.{fetched_in};
+ghost use Rattle.st_model.specs.inside.Calls.{Reads, itself};
+ghost use Rattle.st_frames.specs.inside.Rows.{fetched_in};
 
 use crate::context::home_of;
 use crate::fetched::Fetched;

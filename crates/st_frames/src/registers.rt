@@ -1,5 +1,5 @@
 ghost use Rattle.std.specs.Prelude.{◌≤◌, ◌≤ℤ◌, pos, negsuc};
-ghost use Rattle.st_frames.specs.Narrow.{IsNarrow};
+ghost use Rattle.st_frames.specs.inside.Narrow.{IsNarrow};
 
 use crate::world::World;
 use st_model::Word;

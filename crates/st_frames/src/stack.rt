@@ -1,8 +1,8 @@
 ghost use Rattle.std.specs.Prelude.{◌≡◌, ℕ, Err, ◌<◌, ◌≤◌, ◌+◌, ◌≤ℤ◌, pos, negsuc, OnOk};
 ghost use Rattle.st_model.specs.Values.{Value, word};
 ghost use Rattle.st_model.specs.Steps.{put, push, top, pop, under, look_at_words, drop_words, jump, set_sp};
-ghost use Rattle.st_model.specs.Calls.{Reads, itself};
-ghost use Rattle.st_frames.specs.Rows.{RowReads, RowMoves, RowDoes, Takes};
+ghost use Rattle.st_model.specs.inside.Calls.{Reads, itself};
+ghost use Rattle.st_frames.specs.inside.Rows.{RowReads, RowMoves, RowDoes, Takes};
 
 use crate::registers::Registers;
 use st_memory::Objects;
@@ -41,7 +41,7 @@ fn put<O: Objects>(m: &mut O, r: &Registers, context: Word, at: u32, x: Word) ->
 
 /// Moves the top of the stack to a place of the active context.
 #[inline(always)]
-#[tactic(auto, unfolding(crate::specs::Rows::row_state, st_model::specs::Steps::set_sp))]
+#[tactic(auto, unfolding(crate::specs::inside::Rows::row_state, st_model::specs::Steps::set_sp))]
 pub fn set_stack_pointer<O: Objects>(m: &O, r: &mut Registers, sp: u32)
     requires low { 5 ≤ sp }
     requires high { sp ≤ 16388 }
@@ -126,7 +126,7 @@ pub fn pop<O: Objects>(m: &O, r: &mut Registers) -> Result<Word, Dead>
 }
 
 /// Moves the instruction pointer by d, to a place from 0 to 16382.
-#[tactic(auto, using(crate::proofs::Doing::jumps), unfolding(st_model::specs::Steps::jump, crate::specs::Rows::row_state))]
+#[tactic(auto, using(crate::proofs::Doing::jumps), unfolding(st_model::specs::Steps::jump, crate::specs::inside::Rows::row_state))]
 pub fn jump<O: Objects>(m: &O, r: &mut Registers, d: i32) -> Result<(), Dead>
     requires low { negsuc 1023 ≤ℤ d }
     requires high { d ≤ℤ pos 1023 }

@@ -8,7 +8,8 @@ use Rattle.st_scan.proofs.One.{one}
 use Rattle.st_grammar.specs.declared.leaf.Leaf.{Leaf}
 use Rattle.st_grammar.specs.Leaves.{leaves_of}
 use Rattle.st_grammar.specs.Faults.{highest, most, IsMethod, IsMethodOf}
-use Rattle.st_grammar.specs.Texts.{Means, words, place_at, GrammarFinds, first_fault, HasFirst, HasFault}
+use Rattle.st_grammar.specs.inside.Meant.{Means, HasFirst, HasFault}
+use Rattle.st_grammar.specs.Texts.{words, place_at, GrammarFinds, first_fault}
 use Rattle.st_grammar.proofs.Theorems.{one_tree, one_fault, method_no_fault}
 
 pub tree_determined : (text : List ℕ) (t u : MethodView) → Means text t → Means text u → t ≡ u

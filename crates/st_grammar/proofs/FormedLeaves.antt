@@ -19,7 +19,7 @@ use Rattle.st_grammar.specs.declared.leaf.Kind.TheVariants.{Name, Keyword, Primi
 use Rattle.st_grammar.specs.Leaves.{bytes_of, mark_kind, operator_kind, keyword_kind, kind_of_sort, is_joined, leaf_of, leaves_behind, among, keywords, operators}
 use Rattle.st_grammar.specs.Phrases.{names, constants, plain_elements}
 use Rattle.st_grammar.specs.Trees.{content_of, word_content, number_of}
-use Rattle.st_grammar.specs.Formed.{IsSymbol, ContentFormed, LiteralFormed}
+use Rattle.st_grammar.specs.inside.Formed.{IsSymbol, ContentFormed, LiteralFormed}
 use Rattle.st_grammar.proofs.KindSets.{sample, are_apart, apart}
 
 -- KINDS BY SORT

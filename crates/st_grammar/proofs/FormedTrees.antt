@@ -12,8 +12,8 @@ use Rattle.st_grammar.specs.declared.leaf.Kind.TheVariants.{Joined}
 use Rattle.st_grammar.specs.Leaves.{leaves_of, keywords}
 use Rattle.st_grammar.specs.Phrases.{One, names, first_keywords, Element, plain, keyword_symbol, nested, Elements, no_elements, element, Literal, constant, array, Parameter, Target, Primary, name, literal, block, group, Block, plain_block, full_block, empty_block, Unary, unary, Binary, binary, Operations, no_operations, operation, keyworded, Parts, no_parts, part, Cascade, cascade, Messages, no_messages, message, Message, unary_message, binary_message, keyword_message, Expression, expression, Statements, no_statements, last, next, returned, returned_ended, KeywordName, Pattern, unary_pattern, binary_pattern, keyword_pattern, Options, no_options, with_temporaries, with_primitive, temporaries_first, primitive_first, Method, method, ones_text, element_text, elements_text, literal_text, parameters_text, targets_text, primary_text, block_text, unary_text, binary_text, operations_text, parts_text, cascade_text, messages_text, message_text, expression_text, statements_text, keyword_names_text, pattern_text, temporaries_text, primitive_text, options_text, method_text}
 use Rattle.st_grammar.specs.Trees.{bytes, sent, sent_if, joined_bytes, names_of, element_tree, elements_tree, literal_tree, parameters_tree, assigned, after_names, selector_of, primary_tree, block_tree, unary_tree, binary_tree, after_operations, keyworded_tree, arguments_of, cascade_tree, after_messages, with_one, expression_tree, statements_tree, keyword_selector, keyword_arguments, pattern_selector, pattern_arguments, options_temporaries, options_primitive, method_tree, PrimaryFits, BlockFits, UnaryFits, BinaryFits, OperationsFit, PartsFit, CascadeFits, MessagesFit, MessageFits, ExpressionFits, StatementsFit, MethodFits}
-use Rattle.st_grammar.specs.Texts.{Means}
-use Rattle.st_grammar.specs.Formed.{AreKeywords, IsSelector, ContentFormed, ElementsFormed, LiteralFormed, NamesFormed, HasMessage, count_of, ReceiverFormed, StatementsFormed, MessagesFormed, ArgumentsFormed, PrimitiveFormed, IsWellFormed}
+use Rattle.st_grammar.specs.inside.Meant.{Means}
+use Rattle.st_grammar.specs.inside.Formed.{AreKeywords, IsSelector, ContentFormed, ElementsFormed, LiteralFormed, NamesFormed, HasMessage, count_of, ReceiverFormed, StatementsFormed, MessagesFormed, ArgumentsFormed, PrimitiveFormed, IsWellFormed}
 use Rattle.st_grammar.proofs.KindSets.{within}
 use Rattle.st_grammar.proofs.FormedLeaves.{Each, each_front, each_back, each_leaf, name_formed, keyword_formed, operator_formed, number_formed, plain_formed, constant_formed}
 

@@ -6,13 +6,14 @@ use Rattle.st_scan.specs.declared.token.Sort.{Sort}
 use Rattle.st_scan.specs.declared.token.Sort.TheVariants as sorts
 use Rattle.st_scan.specs.Views.{NameView, ExpressionView, ExpressionsView, MessagesView, StatementsView, MethodView}
 use Rattle.st_scan.specs.Views as views
-use Rattle.st_scan.specs.Scans.{start, after_all, joined, AllStand, tokens_from, EndsBy, ScansTo}
+use Rattle.st_scan.specs.Scans.{start, after_all, joined, AllStand, tokens_from}
+use Rattle.st_scan.specs.inside.Scanned.{EndsBy, ScansTo}
 use Rattle.st_scan.specs.Pieces.{Piece, blank, name, keyword, operator, mark}
 use Rattle.st_grammar.specs.declared.leaf.Leaf.{Leaf}
 use Rattle.st_grammar.specs.declared.leaf.Kind.{Kind}
 use Rattle.st_grammar.specs.declared.leaf.Kind.TheVariants as kinds
 use Rattle.st_grammar.specs.Phrases as phrases
-use Rattle.st_grammar.specs.Texts.{Means}
+use Rattle.st_grammar.specs.inside.Meant.{Means}
 
 -- the scan of a text that its pieces are the whole of
 abbrev whole_scan : {text : List ℕ} {tokens : List Token} (pieces : List Piece) → joined pieces ++ [] ≡ text → AllStand start pieces [] → tokens_from 0 pieces ≡ tokens → EndsBy (after_all start pieces) (length (joined pieces)) [] None → ScansTo text tokens None

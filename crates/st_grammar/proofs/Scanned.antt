@@ -3,7 +3,8 @@ use Rattle.std.proofs.Common.{◌≡◌, ℕ, zero, suc, ◌+◌, ◌<◌, ◌�
 use Rattle.std.proofs.lemmas.List.{drop_at}
 use Rattle.st_scan.specs.Pieces.{Piece, spelling, Stands}
 use Rattle.st_scan.specs.Fronts.{Found, piece, fault, front_of}
-use Rattle.st_scan.specs.Scans.{Context, start, signs, after, after_all, joined, AllStand, tokens_from, EndsBy, ScansTo}
+use Rattle.st_scan.specs.Scans.{Context, start, signs, after, after_all, joined, AllStand, tokens_from}
+use Rattle.st_scan.specs.inside.Scanned.{EndsBy, ScansTo}
 use Rattle.st_scan.proofs.Sound.{IsFront, sound}
 use Rattle.st_scan.proofs.Scanning.{has_bytes}
 use Rattle.st_grammar.specs.Syntax.{Scan, with_found, scan_from, scan_of}

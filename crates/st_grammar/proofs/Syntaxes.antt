@@ -5,13 +5,16 @@ use Rattle.st_scan.specs.declared.fault.Fault.{Fault}
 use Rattle.st_scan.specs.declared.token.Token.{Token}
 use Rattle.st_scan.specs.TreeFaults.{cause_number}
 use Rattle.st_scan.specs.Views.{MethodView}
-use Rattle.st_scan.specs.Scans.{ScansTo, tokens_from}
+use Rattle.st_scan.specs.inside.Scanned.{ScansTo}
+use Rattle.st_scan.specs.Scans.{tokens_from}
 use Rattle.st_grammar.specs.Faults.{most}
 use Rattle.st_grammar.specs.Reading.{Stop, whole_at}
-use Rattle.st_grammar.specs.Texts.{Means, HasFirst, HasFault, words, first_fault, is_before}
+use Rattle.st_grammar.specs.inside.Meant.{Means, HasFirst, HasFault}
+use Rattle.st_grammar.specs.Texts.{words, first_fault, is_before}
 use Rattle.st_grammar.proofs.Theorems.{whole_method, whole_fault}
 use Rattle.st_grammar.proofs.Faulty.{tree_determined, first_determined, tree_or_fault}
-use Rattle.st_grammar.specs.Syntax.{IsSyntax, scan_of, words_of, stopped, tree_or_first, syntax}
+use Rattle.st_grammar.specs.inside.SyntaxMeant.{IsSyntax}
+use Rattle.st_grammar.specs.Syntax.{scan_of, words_of, stopped, tree_or_first, syntax}
 use Rattle.st_grammar.proofs.Scanned.{scans}
 
 either : (b : Bool) (f g : Fault) → (if b then Some g else Some f) ≡ Some (if b then g else f)

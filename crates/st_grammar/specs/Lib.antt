@@ -5,5 +5,4 @@ pub mod Reading
 pub mod Syntax
 pub mod Texts
 pub mod Trees
-pub mod Formed
-pub mod Laws
+pub mod inside

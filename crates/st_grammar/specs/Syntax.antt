@@ -8,12 +8,7 @@ use Rattle.st_scan.specs.Scans.{Context, start, signs, after, tokens_from}
 use Rattle.st_grammar.specs.declared.leaf.Leaf.{Leaf}
 use Rattle.st_grammar.specs.Faults.{most}
 use Rattle.st_grammar.specs.Reading.{Stop, whole_at}
-use Rattle.st_grammar.specs.Texts.{Means, HasFirst, words, place_at, is_before}
-
--- a text means this tree, or this is its first fault
-abbrev pub IsSyntax : List ℕ → Result MethodView Fault → Type 0
-IsSyntax text (Ok tree) = Means text tree
-IsSyntax text (Err f) = HasFirst text f
+use Rattle.st_grammar.specs.Texts.{words, place_at, is_before}
 
 -- PIECES
 

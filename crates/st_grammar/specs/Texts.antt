@@ -1,4 +1,4 @@
--- What a method's text means, and its first fault.
+-- What the grammar sees of a text, its fault there, and which fault of a text is the first.
 use Rattle.std.specs.Prelude.{◌≡◌, ℕ, ◌+◌, ◌-◌, ◌≤◌, Bool, true, false, ◌&&◌, ◌||◌, ◌==◌, nat_lt, if◌then◌else◌, List, [], ◌∷◌, ◌++◌, length, drop, Option, Some, None, Result, Ok, Err}
 use Rattle.st_scan.specs.declared.token.Token.{Token}
 use Rattle.st_scan.specs.declared.token.Sort.TheVariants as sorts
@@ -10,18 +10,10 @@ use Rattle.st_scan.specs.declared.fault.SyntaxFault.TheVariants.{At, OutOfMemory
 use Rattle.st_scan.specs.TreeFaults.{cause_number}
 use Rattle.st_scan.specs.declared.tree.MethodTree.{MethodTree}
 use Rattle.st_scan.specs.Views.{MethodView, method_view}
-use Rattle.st_scan.specs.Scans.{ScansTo, HasTokens}
 use Rattle.st_grammar.specs.declared.leaf.Leaf.{Leaf}
 use Rattle.st_grammar.specs.declared.leaf.Kind.TheVariants.{Number}
 use Rattle.st_grammar.specs.Leaves.{leaves_of}
-use Rattle.st_grammar.specs.Faults.{highest, most, IsMethod, IsMethodOf, FaultAt}
-
--- A text means a tree: its tokens are those of a method with this tree, with no bracket too many.
-pub record Means (text : List ℕ) (tree : MethodView) : Type 0 where
-  pub tokens : List Token
-  pub scan : HasTokens text tokens
-  pub method : IsMethodOf text (leaves_of text tokens) tree
-  pub shallow : highest 0 (leaves_of text tokens) ≤ most
+use Rattle.st_grammar.specs.Faults.{highest, most, IsMethod, FaultAt}
 
 -- The scanner's fault is that of a number.
 abbrev pub is_number_fault : Cause → Bool
@@ -56,22 +48,6 @@ abbrev pub first_fault : Option Fault → Option Fault → Option Fault
 first_fault None g = g
 first_fault (Some f) None = Some f
 first_fault (Some f) (Some g) = if is_before g f then Some g else Some f
-
--- The first fault of a text: of the scanner's and the grammar's the one that comes first.
-pub record HasFirst (text : List ℕ) (fault : Fault) : Type 0 where
-  pub tokens : List Token
-  pub scanner : Option Fault
-  pub grammar : Option Fault
-  pub scan : ScansTo text tokens scanner
-  pub finds : GrammarFinds text (words text tokens scanner) grammar
-  pub is_first : first_fault scanner grammar ≡ Some fault
-
-abbrev pub HasFault : List ℕ → ℕ → ℕ → Type 0
-HasFault text place cause = (fault : Fault) × HasFirst text fault × (fault.place ≡ place) × (cause_number fault.cause ≡ cause)
-
-abbrev pub IsFaultOf : List ℕ → SyntaxFault → Type 0
-IsFaultOf text (At place cause) = HasFault text place cause
-IsFaultOf text OutOfMemory = Unit {0}
 
 -- the result is this tree, unless memory ran out
 abbrev pub IsOnly : MethodView → Result MethodTree SyntaxFault → Type 0

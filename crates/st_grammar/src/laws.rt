@@ -2,10 +2,11 @@
 
 ghost use Rattle.std.specs.Prelude.{◌≡◌, ℕ, List, Result};
 ghost use Rattle.st_scan.specs.{declared.fault.Fault.Fault, Views.MethodView};
-ghost use Rattle.st_grammar.specs.Texts.{Means};
-ghost use Rattle.st_grammar.specs.Laws.{HasOneFault, HasNoFault};
-ghost use Rattle.st_grammar.specs.Formed.{IsWellFormed};
-ghost use Rattle.st_grammar.specs.Syntax.{IsSyntax, syntax};
+ghost use Rattle.st_grammar.specs.inside.Meant.{Means};
+ghost use Rattle.st_grammar.specs.inside.Laws.{HasOneFault, HasNoFault};
+ghost use Rattle.st_grammar.specs.inside.Formed.{IsWellFormed};
+ghost use Rattle.st_grammar.specs.inside.SyntaxMeant.{IsSyntax};
+ghost use Rattle.st_grammar.specs.Syntax.{syntax};
 
 /// A text has at most one tree.
 pub fn one_tree()

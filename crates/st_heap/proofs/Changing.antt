@@ -13,8 +13,8 @@ use Rattle.st_model.proofs.Exchanging.{exchanged_is}
 use Rattle.st_model.proofs.Making.{first_free_is}
 use Rattle.st_model.proofs.Pointers.{value_of-even, even_word}
 use Rattle.st_model.proofs.TableLemmas.{first_free-start, first_free-none}
-use Rattle.st_heap.specs.Stored.{Stored, slot, IsUnused, IsLeastUnused, total, one_stored, stored_words, exchanged_stored}
-use Rattle.st_heap.specs.Forms.{object_from, objects_in, IsSound, AllSound}
+use Rattle.st_heap.specs.inside.Stored.{Stored, slot, IsUnused, IsLeastUnused, total, one_stored, stored_words, exchanged_stored}
+use Rattle.st_heap.specs.inside.Forms.{object_from, objects_in, IsSound, AllSound}
 use Rattle.st_heap.proofs.Forming.{words_of-stored}
 use Rattle.st_heap.proofs.Living.{entry-stored, is_some-entry, live_ref, even_value, IsKnown}
 

@@ -5,7 +5,7 @@ use Rattle.std.proofs.lemmas.List.{get_or-set_same, get_or-set_other}
 use Rattle.st_model.specs.declared.oop.Oop.{Oop}
 use Rattle.st_table.specs.declared.entry.Entry.{Entry}
 use Rattle.st_heap.specs.declared.block.Block.{Block}
-use Rattle.st_heap.specs.Blocks.{block, block_at, with_owner, IsLaid, IsTied, entry_at}
+use Rattle.st_heap.specs.inside.Blocks.{block, block_at, with_owner, IsLaid, IsTied, entry_at}
 use Rattle.st_heap.proofs.Laying.{by_set, taken_owned, laid_owner, entered_owner, entry_inside, owned_inside}
 
 module _ (ws : List ℕ) (bs : List Block) (end free : ℕ) (laid : IsLaid ws bs end free) (es : List (Option Entry)) (tied : IsTied es bs) (a b : Oop) (e f : Entry) (even_a : a.0 % 2 ≡ 0) (even_b : b.0 % 2 ≡ 0) (is_e : get_or es (a.0 / 2) None ≡ Some e) (is_f : get_or es (b.0 / 2) None ≡ Some f) where

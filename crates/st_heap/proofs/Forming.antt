@@ -7,9 +7,9 @@ use Rattle.st_model.specs.declared.kind.Kind.TheVariants.{Pointers, Words, Bytes
 use Rattle.st_model.specs.Values.{value_of}
 use Rattle.st_model.specs.Objects.{is_words, is_method, words_of, with_field, object_with_unit}
 use Rattle.st_model.specs.Formed.{literals_of}
-use Rattle.st_heap.specs.Stored.{Stored, run, with_cell}
-use Rattle.st_cells.specs.Words.{byte_of}
-use Rattle.st_heap.specs.Forms.{cell, fields_in, field_count, units_in, unit_count, unit_at, object_from, IsSound}
+use Rattle.st_heap.specs.inside.Stored.{Stored, run, with_cell}
+use Rattle.st_cells.specs.inside.Words.{byte_of}
+use Rattle.st_heap.specs.inside.Forms.{cell, fields_in, field_count, units_in, unit_count, unit_at, object_from, IsSound}
 use Rattle.st_heap.proofs.Runs.{length-run, run_same, run_set}
 
 pub length-fields : (s : Stored) → length (object_from s).fields ≡ field_count s

@@ -10,10 +10,10 @@ use Rattle.st_model.specs.Objects.{Object, nil, is_words, is_method}
 use Rattle.st_model.specs.Formed.{literals_of, IsMakeable, fresh}
 use Rattle.st_model.proofs.Pointers.{value_of-odd, value_of-pointer}
 use Rattle.st_heap.specs.declared.adding.Form.{Form}
-use Rattle.st_heap.specs.Stored.{Stored, run}
-use Rattle.st_cells.specs.Words.{byte_of}
-use Rattle.st_heap.specs.Forms.{cell, field_count, unit_count, unit_at, object_from, IsSound}
-use Rattle.st_heap.specs.Fresh.{new_cell, new_stored, IsForm}
+use Rattle.st_heap.specs.inside.Stored.{Stored, run}
+use Rattle.st_cells.specs.inside.Words.{byte_of}
+use Rattle.st_heap.specs.inside.Forms.{cell, field_count, unit_count, unit_at, object_from, IsSound}
+use Rattle.st_heap.specs.inside.Fresh.{new_cell, new_stored, IsForm}
 use Rattle.st_heap.proofs.Runs.{length-run, get_or-run}
 
 run_const : (f : ℕ → ℕ) (n w : ℕ) → ((i : ℕ) → i < n → f i ≡ w) → run f n ≡ replicate n w

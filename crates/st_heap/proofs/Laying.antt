@@ -5,7 +5,7 @@ use Rattle.std.proofs.lemmas.List.{get_or-set_same, get_or-set_other, get_or-rep
 use Rattle.st_model.specs.declared.oop.Oop.{Oop}
 use Rattle.st_table.specs.declared.entry.Entry.{Entry}
 use Rattle.st_heap.specs.declared.block.Block.{Block}
-use Rattle.st_heap.specs.Blocks.{none, block, block_at, taken, held, IsLaid, IsTied, IsClosedBelow, KeepsBlocks, entry_at, moved_entry}
+use Rattle.st_heap.specs.inside.Blocks.{none, block, block_at, taken, held, IsLaid, IsTied, IsClosedBelow, KeepsBlocks, entry_at, moved_entry}
 
 -- what holds of the place that was set and of the others holds of each
 pub by_set : (bs : List Block) (k : ℕ) (x : Block) (j : ℕ) (P : Block → Type 0) → k < length bs → (j ≡ k → P x) → (j ≢ k → P (block bs j)) → P (block (set bs k x) j)

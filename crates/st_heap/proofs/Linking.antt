@@ -5,15 +5,15 @@ use Rattle.std.specs.Option.{option_map}
 use Rattle.std.proofs.lemmas.List.{get_or-set_same, get_or-set_other}
 use Rattle.st_model.specs.declared.oop.Oop.{Oop}
 use Rattle.st_table.specs.declared.entry.Entry.{Entry}
-use Rattle.st_table.specs.Entries.{place, with_next, with_before}
+use Rattle.st_table.specs.inside.Entries.{place, with_next, with_before}
 use Rattle.st_heap.specs.declared.block.Block.{Block}
-use Rattle.st_heap.specs.Blocks.{moved_entry, IsTied}
+use Rattle.st_heap.specs.inside.Blocks.{moved_entry, IsTied}
 use Rattle.st_heap.specs.declared.store.Store.{Store}
-use Rattle.st_heap.specs.Heaps.{words_of, blocks_of}
-use Rattle.st_heap.specs.Places.{place_in}
-use Rattle.st_heap.specs.Stored.{stored_at, stored_all, slot, used_of, AreTied}
-use Rattle.st_heap.specs.Stores.{stored_of}
-use Rattle.st_heap.specs.Links.{next_in, before_in}
+use Rattle.st_heap.specs.inside.Heaps.{words_of, blocks_of}
+use Rattle.st_heap.specs.inside.Places.{place_in}
+use Rattle.st_heap.specs.inside.Stored.{stored_at, stored_all, slot, used_of, AreTied}
+use Rattle.st_heap.specs.inside.Stores.{stored_of}
+use Rattle.st_heap.specs.inside.Links.{next_in, before_in}
 use Rattle.st_heap.proofs.Tying.{tied_entry, tied_of, are_tied}
 
 pub next_moved : (x : Option Entry) (at : ℕ) → next_in (moved_entry x at) ≡ next_in x

@@ -10,9 +10,9 @@ use Rattle.st_model.specs.Objects.{nil}
 use Rattle.st_model.specs.Table.{Table, entry}
 use Rattle.st_model.specs.View.{nothing, is_live, object_of}
 use Rattle.st_model.proofs.Pointers.{value_of-even, even_word}
-use Rattle.st_heap.specs.Stored.{Stored, run, slot, stored, nothing_stored, HasStored}
-use Rattle.st_cells.specs.Words.{byte_of}
-use Rattle.st_heap.specs.Forms.{cell, fields_in, field_count, units_in, unit_count, unit_at, object_from, objects_in, IsSound, AllSound}
+use Rattle.st_heap.specs.inside.Stored.{Stored, run, slot, stored, nothing_stored, HasStored}
+use Rattle.st_cells.specs.inside.Words.{byte_of}
+use Rattle.st_heap.specs.inside.Forms.{cell, fields_in, field_count, units_in, unit_count, unit_at, object_from, objects_in, IsSound, AllSound}
 use Rattle.st_model.specs.declared.kind.Kind.{Kind}
 use Rattle.st_model.specs.declared.kind.Kind.TheVariants.{Pointers, Words, Bytes, Method}
 use Rattle.st_model.specs.Objects.{is_words, is_pointers, first_unit, size_of}

@@ -3,11 +3,11 @@ use Rattle.std.proofs.Common.{◌≡◌, ◌≢◌, ℕ, ◌+◌, ◌-◌, ◌*�
 use Rattle.std.specs.Prelude.{◌==◌, nat_lt}
 use Rattle.std.proofs.lemmas.List.{get_or-set_same, get_or-set_other, drop-set-lt}
 use Rattle.st_table.specs.declared.entry.Entry.{Entry}
-use Rattle.st_cells.specs.Words.{slid}
+use Rattle.st_cells.specs.inside.Words.{slid}
 use Rattle.st_heap.specs.declared.block.Block.{Block}
 use Rattle.st_heap.specs.declared.heap.Heap.{Heap}
-use Rattle.st_heap.specs.Heaps.{words_of, blocks_of}
-use Rattle.st_heap.specs.Blocks.{none, block, block_at, with_place, moved, taken, held, IsLaid, IsTied, IsClosedBelow, IsAbove, KeepsBlocks, entry_at, moved_entry}
+use Rattle.st_heap.specs.inside.Heaps.{words_of, blocks_of}
+use Rattle.st_heap.specs.inside.Blocks.{none, block, block_at, with_place, moved, taken, held, IsLaid, IsTied, IsClosedBelow, IsAbove, KeepsBlocks, entry_at, moved_entry}
 use Rattle.st_heap.proofs.Laying.{by_set, taken_unowned, taken_owned, held_set, FitsAt, laid_set, none_fits, entered_owner, entry_inside, same_entry}
 
 -- between where the blocks before it end and the block that moves there is nothing

@@ -9,12 +9,12 @@ use Rattle.st_model.specs.Objects.{Object, is_method, is_words, first_unit, size
 use Rattle.st_model.specs.Table.{changed}
 use Rattle.st_model.specs.Values.{value, value_of}
 use Rattle.st_model.specs.View.{is_live, object_of, with_stored, with_unit}
-use Rattle.st_cells.specs.Words.{byte_of, with_run, with_bytes}
+use Rattle.st_cells.specs.inside.Words.{byte_of, with_run, with_bytes}
 use Rattle.st_heap.specs.declared.objects.Objects.{Objects}
-use Rattle.st_heap.specs.Stored.{Stored, stored, with_cell, with_cells}
-use Rattle.st_heap.specs.Forms.{cell, field_count, unit_count, object_from, objects_in, IsSound, AllSound}
-use Rattle.st_heap.specs.Stores.{stored_of}
-use Rattle.st_heap.specs.Tables.{objects_of}
+use Rattle.st_heap.specs.inside.Stored.{Stored, stored, with_cell, with_cells}
+use Rattle.st_heap.specs.inside.Forms.{cell, field_count, unit_count, object_from, objects_in, IsSound, AllSound}
+use Rattle.st_heap.specs.inside.Stores.{stored_of}
+use Rattle.st_heap.specs.inside.Tables.{objects_of}
 use Rattle.st_heap.proofs.Forming.{length-fields, unit_words, same_count, sound_cell, object-field, object-word, object-byte}
 use Rattle.st_heap.proofs.Living.{IsKnown, known, size_in, size_stored, field_is, unit_is, no_fields, word_below, halved, even_before, same_half, byte_below, byte_stored, byte_stored_within}
 use Rattle.st_heap.proofs.Changing.{sound_set, changed_stored, stored_field, stored_unit}

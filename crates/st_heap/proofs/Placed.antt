@@ -6,10 +6,10 @@ use Rattle.st_model.specs.declared.oop.Oop.{Oop}
 use Rattle.st_model.specs.Values.{Value, value}
 use Rattle.st_model.specs.View.{is_live}
 use Rattle.st_heap.specs.declared.objects.Objects.{Objects}
-use Rattle.st_heap.specs.Stores.{stored_of}
-use Rattle.st_heap.specs.Stored.{HasStored}
-use Rattle.st_heap.specs.Tables.{objects_of}
-use Rattle.st_heap.specs.Places.{place_in, place_at, Stands}
+use Rattle.st_heap.specs.inside.Stores.{stored_of}
+use Rattle.st_heap.specs.inside.Stored.{HasStored}
+use Rattle.st_heap.specs.inside.Tables.{objects_of}
+use Rattle.st_heap.specs.inside.Places.{place_in, place_at, Stands}
 use Rattle.st_heap.proofs.Living.{even_value, live_stored}
 
 -- an entry that says so

@@ -6,10 +6,10 @@ use Rattle.st_model.specs.Values.{Ref}
 use Rattle.st_model.specs.Table.{Table, first_free}
 use Rattle.st_model.specs.View.{is_live}
 use Rattle.st_model.proofs.TableLemmas.{first_free-none}
-use Rattle.st_heap.specs.Heaps.{words_of, blocks_of}
+use Rattle.st_heap.specs.inside.Heaps.{words_of, blocks_of}
 use Rattle.st_heap.specs.declared.store.Store.{Store}
-use Rattle.st_heap.specs.Stores.{stored_of}
-use Rattle.st_heap.specs.Forms.{object_from, objects_in}
+use Rattle.st_heap.specs.inside.Stores.{stored_of}
+use Rattle.st_heap.specs.inside.Forms.{object_from, objects_in}
 use Rattle.st_heap.proofs.Storing.{length-all}
 
 pub length-stored : (s : Store) → length (stored_of s) ≡ 32768

@@ -3,7 +3,7 @@ use Rattle.std.proofs.Common.{◌≡◌, ◌≢◌, ℕ, ◌<◌, Bool, true, fa
 use Rattle.std.specs.Prelude.{◌==◌}
 use Rattle.std.proofs.lemmas.List.{get_or-set_same, get_or-set_other}
 use Rattle.std.proofs.lemmas.List.FromFn.{length-map-range_with_len, get_or-map-range_with_len, fill_by_all}
-use Rattle.st_heap.specs.Stored.{run}
+use Rattle.st_heap.specs.inside.Stored.{run}
 
 pub length-run : (f : ℕ → ℕ) (n : ℕ) → length (run f n) ≡ n
 length-run f n = length-map-range_with_len f 0 n

@@ -1,17 +1,17 @@
 -- A block of a store that stands at a place: where its words are in the heap, what is read of them, and what a write leaves.
 use Rattle.std.proofs.Common.{◌≡◌, ℕ, ◌+◌, ◌/◌, ◌<◌, ◌≤◌, ◌^◌, List, Option, Some, None, length, take, drop, get_or, set, refl, sym, ap, ◌∙◌, subst, arith, length-set}
-use Rattle.st_cells.specs.Words.{byte_of, with_run, with_bytes}
+use Rattle.st_cells.specs.inside.Words.{byte_of, with_run, with_bytes}
 use Rattle.st_cells.proofs.Written.{length-with_run, length-with_bytes}
 use Rattle.st_model.specs.declared.demand.Demand.{Demand}
 use Rattle.st_table.specs.declared.entry.Entry.{Entry}
 use Rattle.st_heap.specs.declared.block.Block.{Block}
 use Rattle.st_heap.specs.declared.heap.Heap.{Heap}
 use Rattle.st_heap.specs.declared.store.Store.{Store}
-use Rattle.st_heap.specs.Blocks.{block_at, given_back, with_owner, held, HoldsPlace, HoldsRun, IsTied}
-use Rattle.st_heap.specs.Heaps.{words_of, blocks_of}
-use Rattle.st_heap.specs.Places.{place_at}
-use Rattle.st_heap.specs.Stored.{Stored, stored_at, stored_all, stored, slot, with_cell, with_cells, used_of, total, one_stored, stored_words, AreTied}
-use Rattle.st_heap.specs.Stores.{stored_of}
+use Rattle.st_heap.specs.inside.Blocks.{block_at, given_back, with_owner, held, HoldsPlace, HoldsRun, IsTied}
+use Rattle.st_heap.specs.inside.Heaps.{words_of, blocks_of}
+use Rattle.st_heap.specs.inside.Places.{place_at}
+use Rattle.st_heap.specs.inside.Stored.{Stored, stored_at, stored_all, stored, slot, with_cell, with_cells, used_of, total, one_stored, stored_words, AreTied}
+use Rattle.st_heap.specs.inside.Stores.{stored_of}
 use Rattle.st_heap.proofs.Placed.{Entered, entered}
 use Rattle.st_heap.proofs.Runs.{get_or-run}
 use Rattle.st_heap.proofs.Storing.{entry_below, within_words, holds_entry, stored_entry, slot_entry, length_entry, word_set, words_set, lengths_all, set_all, same_all}

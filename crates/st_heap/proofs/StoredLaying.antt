@@ -5,11 +5,11 @@ use Rattle.std.proofs.Math.ListN.{drop_of_length-le}
 use Rattle.std.proofs.lemmas.List.{append-nil, length-replicate, length-take-le, ext_get_or, get_or-take, get_or-replicate, get_or-set_same, get_or-set_other}
 use Rattle.st_model.specs.declared.kind.Kind.{Kind}
 use Rattle.st_model.specs.Objects.{is_method}
-use Rattle.st_cells.specs.Words.{with_run}
+use Rattle.st_cells.specs.inside.Words.{with_run}
 use Rattle.st_cells.proofs.Written.{run_is}
 use Rattle.st_heap.specs.declared.adding.Form.{Form}
-use Rattle.st_heap.specs.Stored.{Stored, run, slot, stored, nothing_stored, Takes}
-use Rattle.st_heap.specs.Fresh.{new_cell}
+use Rattle.st_heap.specs.inside.Stored.{Stored, run, slot, stored, nothing_stored, Takes}
+use Rattle.st_heap.specs.inside.Fresh.{new_cell}
 use Rattle.st_heap.proofs.Runs.{length-run, get_or-run}
 
 -- as many words over all that stood there

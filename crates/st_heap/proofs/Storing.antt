@@ -6,11 +6,11 @@ use Rattle.std.proofs.lemmas.Bool.{cases_lt}
 use Rattle.std.proofs.lemmas.List.{length-map, map-set, ext_get_or, get_or-set_same, get_or-set_other}
 use Rattle.st_table.specs.declared.entry.Entry.{Entry}
 use Rattle.st_heap.specs.declared.block.Block.{Block}
-use Rattle.st_heap.specs.Blocks.{block, block_at, entry_at, moved_entry, IsLaid, IsTied, KeepsBlocks, HoldsPlace}
+use Rattle.st_heap.specs.inside.Blocks.{block, block_at, entry_at, moved_entry, IsLaid, IsTied, KeepsBlocks, HoldsPlace}
 use Rattle.st_heap.specs.declared.heap.Heap.{Heap}
-use Rattle.st_heap.specs.Heaps.{words_of, blocks_of}
+use Rattle.st_heap.specs.inside.Heaps.{words_of, blocks_of}
 use Rattle.st_heap.proofs.Laying.{entered_owner, entry_inside}
-use Rattle.st_heap.specs.Stored.{Stored, run, stored_at, stored_all, slot, stored, nothing_stored, with_cell}
+use Rattle.st_heap.specs.inside.Stored.{Stored, run, stored_at, stored_all, slot, stored, nothing_stored, with_cell}
 use Rattle.st_heap.proofs.Runs.{run_same, run_set, length-run}
 
 pub slot-all : (ws : List ℕ) (bs : List Block) (es : List (Option Entry)) (k : ℕ) → slot (stored_all ws bs es) k ≡ option_map (stored_at ws bs) (get_or es k None)

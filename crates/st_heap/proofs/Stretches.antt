@@ -1,12 +1,12 @@
 -- Words and bytes that are read and written one behind the other in a block.
 use Rattle.std.proofs.Common.{◌≡◌, ℕ, suc, zero, ◌+◌, ◌*◌, ◌/◌, ◌<◌, ◌≤◌, ◌^◌, List, [], ◌∷◌, Option, Some, None, length, take, drop, get_or, set, refl, sym, ap, ◌∙◌, subst, arith, length-set}
 use Rattle.std.proofs.lemmas.List.{ext_get_or, length-drop, length-take-le, get_or-take, get_or-drop}
-use Rattle.st_cells.specs.Words.{byte_of, with_byte, with_run, with_bytes}
+use Rattle.st_cells.specs.inside.Words.{byte_of, with_byte, with_run, with_bytes}
 use Rattle.st_table.specs.declared.entry.Entry.{Entry}
 use Rattle.st_heap.specs.declared.block.Block.{Block}
-use Rattle.st_heap.specs.Blocks.{block_at, HoldsRun, IsLaid, IsTied}
+use Rattle.st_heap.specs.inside.Blocks.{block_at, HoldsRun, IsLaid, IsTied}
 use Rattle.st_heap.proofs.Laying.{entered_owner}
-use Rattle.st_heap.specs.Stored.{Stored, stored_at, stored_all, slot, with_cell, with_cells}
+use Rattle.st_heap.specs.inside.Stored.{Stored, stored_at, stored_all, slot, with_cell, with_cells}
 use Rattle.st_heap.proofs.Runs.{length-run, get_or-run}
 use Rattle.st_heap.proofs.Storing.{word_set, stored_set, slot_entry}
 

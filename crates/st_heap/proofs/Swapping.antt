@@ -7,11 +7,11 @@ use Rattle.st_table.specs.declared.entry.Entry.{Entry}
 use Rattle.st_heap.specs.declared.block.Block.{Block}
 use Rattle.st_heap.specs.declared.heap.Heap.{Heap}
 use Rattle.st_heap.specs.declared.store.Store.{Store}
-use Rattle.st_heap.specs.Heaps.{words_of, blocks_of}
-use Rattle.st_heap.specs.Stores.{stored_of}
-use Rattle.st_heap.specs.Blocks.{block, block_at, entry_at, moved_entry, with_owner, exchanged_entries, exchanged_blocks}
+use Rattle.st_heap.specs.inside.Heaps.{words_of, blocks_of}
+use Rattle.st_heap.specs.inside.Stores.{stored_of}
+use Rattle.st_heap.specs.inside.Blocks.{block, block_at, entry_at, moved_entry, with_owner, exchanged_entries, exchanged_blocks}
 use Rattle.st_heap.proofs.Laying.{entry_inside}
-use Rattle.st_heap.specs.Stored.{stored_at, stored_all, exchanged_stored}
+use Rattle.st_heap.specs.inside.Stored.{stored_at, stored_all, exchanged_stored}
 use Rattle.st_heap.proofs.Storing.{slot_entry, lengths_all, set_all, same_all}
 
 -- two places that are set twice

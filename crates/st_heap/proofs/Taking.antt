@@ -4,11 +4,11 @@ use Rattle.std.specs.Prelude.{◌==◌, nat_lt}
 use Rattle.std.proofs.lemmas.List.{get_or-set_same, get_or-set_other, get_or-replicate, length-replicate, get_or_past}
 use Rattle.st_model.specs.declared.oop.Oop.{Oop}
 use Rattle.st_table.specs.declared.entry.Entry.{Entry}
-use Rattle.st_table.specs.Entries.{IsFree}
+use Rattle.st_table.specs.inside.Entries.{IsFree}
 use Rattle.st_heap.specs.declared.block.Block.{Block}
 use Rattle.st_heap.specs.declared.heap.Heap.{Heap}
-use Rattle.st_heap.specs.Blocks.{none, block, block_at, with_owner, held, IsLaid, IsTied, KeepsBlocks, entry_at, moved_entry}
-use Rattle.st_heap.specs.Heaps.{words_of, blocks_of, Fits, Keeps, Takes}
+use Rattle.st_heap.specs.inside.Blocks.{none, block, block_at, with_owner, held, IsLaid, IsTied, KeepsBlocks, entry_at, moved_entry}
+use Rattle.st_heap.specs.inside.Heaps.{words_of, blocks_of, Fits, Keeps, Takes}
 use Rattle.st_heap.proofs.Laying.{by_set, entered_owner, entry_inside, owned_inside, taken_unowned, taken_owned, held_set, keeps_set, laid_owner, tied_taken}
 
 pub taken_tied : (h h' : Heap) (o : Oop) (at n : ℕ) (es : List (Option Entry)) → Takes h h' o at n → IsTied es (blocks_of h) → IsFree es o → (e : Entry) → e.at ≡ at → IsTied (set es (o.0 / 2) (Some e)) (blocks_of h')

@@ -2,7 +2,7 @@
 use Rattle.std.proofs.Common.{◌≡◌, ◌≢◌, Bool, true, false, length-set, ℕ, zero, suc, ◌+◌, ◌<◌, ◌≤◌, List, [], ◌∷◌, Option, Some, None, length, set, refl, ap, ◌∙◌, arith}
 use Rattle.std.specs.Prelude.{◌==◌}
 use Rattle.std.proofs.lemmas.List.{get_or-set_same, get_or-set_other}
-use Rattle.st_heap.specs.Stored.{Stored, slot, total, one_stored, stored_words, used_of, exchanged_stored}
+use Rattle.st_heap.specs.inside.Stored.{Stored, slot, total, one_stored, stored_words, used_of, exchanged_stored}
 
 -- the number of what stands at a place
 abbrev pub weight_of : (Stored → ℕ) → Option Stored → ℕ

@@ -4,9 +4,9 @@ use Rattle.std.specs.Prelude.{◌==◌}
 use Rattle.std.proofs.lemmas.List.{get_or-set_same, get_or-set_other}
 use Rattle.st_table.specs.declared.entry.Entry.{Entry}
 use Rattle.st_heap.specs.declared.block.Block.{Block}
-use Rattle.st_heap.specs.Blocks.{none, block, held, block_at, entry_at, IsTied}
+use Rattle.st_heap.specs.inside.Blocks.{none, block, held, block_at, entry_at, IsTied}
 use Rattle.st_heap.proofs.Laying.{entry_inside}
-use Rattle.st_heap.specs.Stored.{AreTied}
+use Rattle.st_heap.specs.inside.Stored.{AreTied}
 
 pub entered_of : (x : Option Entry) (at : ℕ) → is_some x ≡ true → entry_at x ≡ at → (e : Entry) × (x ≡ Some e) × (e.at ≡ at)
 entered_of None at h p = cc

@@ -6,9 +6,9 @@ use Rattle.std.proofs.lemmas.Option.{get_or_from_slice_get}
 use Rattle.st_model.specs.declared.kind.Kind.{Kind}
 use Rattle.st_model.specs.declared.kind.Kind.TheVariants.{Pointers, Words, Bytes, Method}
 use Rattle.st_model.specs.Objects.{Object, is_words, first_unit, size_of, with_units, object_with_unit}
-use Rattle.st_cells.specs.Words.{byte_of, with_byte, with_run, with_bytes}
-use Rattle.st_heap.specs.Stored.{Stored, with_cell, with_cells}
-use Rattle.st_heap.specs.Forms.{cell, field_count, unit_count, unit_at, object_from, IsSound}
+use Rattle.st_cells.specs.inside.Words.{byte_of, with_byte, with_run, with_bytes}
+use Rattle.st_heap.specs.inside.Stored.{Stored, with_cell, with_cells}
+use Rattle.st_heap.specs.inside.Forms.{cell, field_count, unit_count, unit_at, object_from, IsSound}
 use Rattle.st_heap.proofs.Runs.{get_or-run}
 use Rattle.st_heap.proofs.Forming.{length-fields, length-units, unit_words, object-word, object-byte, sound_cell}
 use Rattle.st_heap.proofs.Living.{size_in, size_stored, no_fields, count_words, count_bytes, halved, even_before, same_half, byte_below, byte_stored}

@@ -1,9 +1,1 @@
-pub mod Blocks
-pub mod Heaps
-pub mod Links
-pub mod Forms
-pub mod Fresh
-pub mod Places
-pub mod Stored
-pub mod Stores
-pub mod Tables
+pub mod inside

@@ -1,11 +1,11 @@
 ghost use Rattle.std.specs.Prelude.{◌≡◌, ◌+◌, ◌≤◌, ◌/◌, ◌%◌, true, false, Some, slice_set};
 ghost use Rattle.st_model.specs.Objects.{words_of, is_method};
 ghost use Rattle.st_model.specs.Formed.{IsMakeable, fresh};
-ghost use Rattle.st_table.specs.Entries.{place};
-ghost use Rattle.st_heap.specs.Stored.{IsUnused, used_of};
-ghost use Rattle.st_heap.specs.Stores.{stored_of, capacity_of};
-ghost use Rattle.st_heap.specs.Forms.{object_from, IsSound};
-ghost use Rattle.st_heap.specs.Links.{SameOtherLinks};
+ghost use Rattle.st_table.specs.inside.Entries.{place};
+ghost use Rattle.st_heap.specs.inside.Stored.{IsUnused, used_of};
+ghost use Rattle.st_heap.specs.inside.Stores.{stored_of, capacity_of};
+ghost use Rattle.st_heap.specs.inside.Forms.{object_from, IsSound};
+ghost use Rattle.st_heap.specs.inside.Links.{SameOtherLinks};
 
 use crate::store::Store;
 use st_model::{Kind, Oop};
@@ -31,7 +31,7 @@ pub struct Form {
 }
 
 impl Form {
-    ghost use Rattle.st_heap.specs.Fresh.{new_stored, new_cell, IsForm};
+    ghost use Rattle.st_heap.specs.inside.Fresh.{new_stored, new_cell, IsForm};
 
     /// The form of a new object of a class, with so many fields, words or bytes and literals.
     pub fn new(class: Oop, kind: Kind, size: u32, literals: u32) -> Form

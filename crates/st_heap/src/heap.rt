@@ -1,7 +1,7 @@
 ghost use Rattle.std.specs.Prelude.{◌≡◌, ◌≢◌, ◌+◌, ◌<◌, ◌≤◌, ◌/◌, ◌↔◌, length, replicate, take, drop, slice_index, slice_set, IfOk, IfSome, IfNone, IsTrue};
-ghost use Rattle.st_cells.specs.Words.{with_run, ReadsBytes, with_bytes};
-ghost use Rattle.st_table.specs.Entries.{HasEntry, IsFree};
-ghost use Rattle.st_heap.specs.Blocks.{none, block, block_at, held, HoldsPlace, HoldsRun, IsLaid, IsTied, IsClosedBelow, IsAbove, IsBlock, given_back, moved, exchanged_blocks, exchanged_entries};
+ghost use Rattle.st_cells.specs.inside.Words.{with_run, ReadsBytes, with_bytes};
+ghost use Rattle.st_table.specs.inside.Entries.{HasEntry, IsFree};
+ghost use Rattle.st_heap.specs.inside.Blocks.{none, block, block_at, held, HoldsPlace, HoldsRun, IsLaid, IsTied, IsClosedBelow, IsAbove, IsBlock, given_back, moved, exchanged_blocks, exchanged_entries};
 
 use crate::block::Block;
 use crate::holes::Holes;
@@ -24,7 +24,7 @@ pub struct Heap {
 }
 
 impl Heap {
-    ghost use Rattle.st_heap.specs.Heaps.{words_of, blocks_of, Fits, Keeps, Takes, TiedWith, SameRoom, SameContents, IsClosedUp, held_from};
+    ghost use Rattle.st_heap.specs.inside.Heaps.{words_of, blocks_of, Fits, Keeps, Takes, TiedWith, SameRoom, SameContents, IsClosedUp, held_from};
 
     /// A heap of so many words, without blocks.
     pub fn new(alloc: Global, words: u32) -> Result<Heap, AllocError>

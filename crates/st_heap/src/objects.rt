@@ -5,11 +5,11 @@ ghost use Rattle.st_model.specs.Objects.{first_unit, is_words, one, size_of, wit
 ghost use Rattle.st_model.specs.Table.{entry, changed, total_used, first_free, placed};
 ghost use Rattle.st_model.specs.Formed.{IsHeader, IsMakeable, fresh};
 ghost use Rattle.st_model.specs.View.{is_live, object_of, with_exchanged, with_stored, with_unit, with_object};
-ghost use Rattle.st_table.specs.Entries.{place};
-ghost use Rattle.st_heap.specs.Stored.{stored, HasStored};
-ghost use Rattle.st_heap.specs.Stores.{stored_of};
-ghost use Rattle.st_cells.specs.Words.{byte_of, with_run};
-ghost use Rattle.st_heap.specs.Forms.{AllSound, field_count};
+ghost use Rattle.st_table.specs.inside.Entries.{place};
+ghost use Rattle.st_heap.specs.inside.Stored.{stored, HasStored};
+ghost use Rattle.st_heap.specs.inside.Stores.{stored_of};
+ghost use Rattle.st_cells.specs.inside.Words.{byte_of, with_run};
+ghost use Rattle.st_heap.specs.inside.Forms.{AllSound, field_count};
 
 use crate::adding::Form;
 use crate::store::Store;
@@ -24,9 +24,9 @@ pub struct Objects {
 }
 
 impl Objects {
-    ghost use Rattle.st_heap.specs.Tables.{objects_of, room_of};
-    ghost use Rattle.st_heap.specs.Places.{SamePlaces, SameOtherPlaces, Stands};
-    ghost use Rattle.st_heap.specs.Links.{next_of, before_of, SameLinks, SameOtherLinks, WithNext, WithBefore};
+    ghost use Rattle.st_heap.specs.inside.Tables.{objects_of, room_of};
+    ghost use Rattle.st_heap.specs.inside.Places.{SamePlaces, SameOtherPlaces, Stands};
+    ghost use Rattle.st_heap.specs.inside.Links.{next_of, before_of, SameLinks, SameOtherLinks, WithNext, WithBefore};
 
     /// No objects, and room for so many words.
     pub fn new(alloc: Global, words: u32) -> Result<Objects, AllocError>

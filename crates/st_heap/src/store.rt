@@ -1,10 +1,10 @@
 ghost use Rattle.std.specs.Prelude.{◌≡◌, ◌+◌, ◌≤◌, ◌<◌, ◌/◌, ◌↔◌, ℕ, Some, None, true, is_some, length, take, drop, slice_index, slice_index_or, slice_set, IfOk, IfSome, IfNone, IsTrue};
 ghost use Rattle.st_model.specs.declared.oop.Oop.{Oop as Pointer};
-ghost use Rattle.st_cells.specs.Words.{ReadsBytes, with_run, with_bytes};
-ghost use Rattle.st_table.specs.Entries.{place};
-ghost use Rattle.st_heap.specs.Blocks.{held};
-ghost use Rattle.st_heap.specs.Heaps.{words_of, blocks_of};
-ghost use Rattle.st_heap.specs.Stored.{slot, stored, stored_all, HasStored, IsUnused, IsLeastUnused, with_cell, with_cells, Takes, exchanged_stored, used_of, AreTied};
+ghost use Rattle.st_cells.specs.inside.Words.{ReadsBytes, with_run, with_bytes};
+ghost use Rattle.st_table.specs.inside.Entries.{place};
+ghost use Rattle.st_heap.specs.inside.Blocks.{held};
+ghost use Rattle.st_heap.specs.inside.Heaps.{words_of, blocks_of};
+ghost use Rattle.st_heap.specs.inside.Stored.{slot, stored, stored_all, HasStored, IsUnused, IsLeastUnused, with_cell, with_cells, Takes, exchanged_stored, used_of, AreTied};
 
 use crate::heap::Heap;
 use st_model::{Demand, Kind, Oop};
@@ -28,9 +28,9 @@ pub struct Store {
 }
 
 impl Store {
-    ghost use Rattle.st_heap.specs.Stores.{stored_of, capacity_of};
-    ghost use Rattle.st_heap.specs.Places.{place_at, SamePlaces, SameOtherPlaces};
-    ghost use Rattle.st_heap.specs.Links.{next_of, before_of, SameLinks, SameOtherLinks, WithNext, WithBefore};
+    ghost use Rattle.st_heap.specs.inside.Stores.{stored_of, capacity_of};
+    ghost use Rattle.st_heap.specs.inside.Places.{place_at, SamePlaces, SameOtherPlaces};
+    ghost use Rattle.st_heap.specs.inside.Links.{next_of, before_of, SameLinks, SameOtherLinks, WithNext, WithBefore};
 
     /// Nothing stored, and so many words for it.
     pub fn new(alloc: Global, words: u32) -> Result<Store, AllocError>

@@ -7,7 +7,7 @@ use Rattle.std.specs.Prelude.{◌⊎◌, Result, Ok, Err, IsErr, OnOk}
 use Rattle.st_host.specs.Counts.{Rose}
 use Rattle.st_host.specs.Files.{Files}
 use Rattle.st_host.specs.Stops.{SameStops, Here, SaidPart, WhileSaying, Elapses}
-use Rattle.st_host.specs.Names.{same_or_other}
+use Rattle.st_host.specs.inside.Names.{same_or_other}
 use Rattle.st_host.specs.Runs.{LeavesOnly, ReadsAlike, OnlyReads, Narrows, SaysAll, ReadsAndSays, IsSynced, Makes}
 use Rattle.st_host.specs.declared.host.Host.{Ghosts}
 use Rattle.st_host.proofs.Rising.{rose_first, rose_second}

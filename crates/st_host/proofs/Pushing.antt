@@ -7,7 +7,7 @@ use Rattle.st_host.specs.Runs.{Writes, Cuts, WritesAbove}
 use Rattle.st_host.specs.declared.host.Host.{Ghosts}
 use Rattle.st_host.proofs.Rising.{cause_after}
 use Rattle.st_host.proofs.Touching.{keeps_same, touches_none, write_above, cut_above, above_join}
-use Rattle.st_host.specs.Pieces.{Held, end_of, Holds, Adds, WritesFrom, Pushes}
+use Rattle.st_host.specs.inside.Pieces.{Held, end_of, Holds, Adds, WritesFrom, Pushes}
 
 module _ {D : Type 0} (host : Ghosts D) (name : List ℕ) where
   pub adds_join : (a b : List ℕ) (old mid new : D) (p q r : Held) → Adds host name a old mid p q → Adds host name b mid new q r → Adds host name (a ++ b) old new p r

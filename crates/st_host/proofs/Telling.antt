@@ -4,7 +4,7 @@ use Rattle.std.proofs.Math.Seq.{take-append_seam}
 use Rattle.st_host.specs.Files.{Files}
 use Rattle.st_host.specs.Stops.{Here, SaidPart, WhileSaying}
 use Rattle.st_host.specs.Runs.{SaysAll}
-use Rattle.st_host.specs.Telling.{Says}
+use Rattle.st_host.specs.inside.Telling.{Says}
 use Rattle.st_host.specs.declared.host.Host.{Ghosts}
 use Rattle.st_host.proofs.Joining.{alike_join, says_join, says_more}
 

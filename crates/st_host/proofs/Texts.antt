@@ -6,7 +6,7 @@ use Rattle.std.proofs.lemmas.Grind.{same_number_lists}
 use Rattle.std.proofs.Math.Seq.{take-add}
 use Rattle.std.proofs.Common.{length-drop}
 use Rattle.st_host.specs.Files.{bytes_of, IsWritten, IsCut}
-use Rattle.st_host.specs.Pieces.{Holds}
+use Rattle.st_host.specs.inside.Pieces.{Holds}
 
 -- the file before the bytes that were written
 front : (at : ℕ) (bytes : List ℕ) (file new : Option (List ℕ)) → IsWritten at bytes file new → at ≤ length (bytes_of file) → take at (bytes_of new) ≡ take at (bytes_of file)

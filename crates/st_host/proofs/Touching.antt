@@ -3,7 +3,7 @@ use Rattle.std.proofs.Common.{◌≡◌, ◌≢◌, inl, inr, ⊎_elim, ℕ, ◌
 use Rattle.st_host.specs.Counts.{Rose, HasCause}
 use Rattle.st_host.specs.Files.{Files, bytes_of, KeepsBelow}
 use Rattle.st_host.specs.Stops.{Apart, Comes, comes, Follows, Torn, TornByWrite, TornByCut, Here, Elapses}
-use Rattle.st_host.specs.Names.{same_or_other}
+use Rattle.st_host.specs.inside.Names.{same_or_other}
 use Rattle.st_host.specs.Runs.{ReadsAlike, OnlyReads, Narrows, Touched, Touches, Writes, Cuts, Syncs, WritesAbove, Elsewhere, Changes, NarrowsBut, ChangesBoth, Spares}
 use Rattle.st_host.specs.declared.host.Host.{Ghosts}
 use Rattle.st_host.proofs.Rising.{rose_first, rose_second}

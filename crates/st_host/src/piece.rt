@@ -2,7 +2,7 @@
 ghost use Rattle.std.specs.Prelude.{◌≡◌, ◌+◌, ◌<◌, ◌≤◌, ◌^◌, ◌++◌, List, [], ℕ, length, IsTrue, IfOk, OnOk, Some};
 ghost use Rattle.st_host.specs.Counts.{HasCause};
 ghost use Rattle.st_host.specs.Runs.{IsSynced};
-ghost use Rattle.st_host.specs.Pieces.{end_of, Holds, WritesFrom, Pushes};
+ghost use Rattle.st_host.specs.inside.Pieces.{end_of, Holds, WritesFrom, Pushes};
 
 use crate::{Host, HostFault, cut_synced, write_bytes};
 use std::marker::Model;
@@ -17,7 +17,7 @@ pub struct Piece {
 
 impl Model for Piece {
     ghost use Rattle.std.specs.Prelude.{◌≤◌, take};
-    ghost use Rattle.st_host.specs.Pieces.{Held};
+    ghost use Rattle.st_host.specs.inside.Pieces.{Held};
 
     ghost Value = { Held };
 

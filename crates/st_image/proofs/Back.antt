@@ -10,8 +10,8 @@ use Rattle.st_model.specs.Start.{idle_state, start, start_view}
 use Rattle.st_model.specs.Faults.{IsWellFormed}
 use Rattle.st_frames.specs.declared.frame.Frame.{Frame}
 use Rattle.st_image.specs.HeadValues.{no_values, head_over}
-use Rattle.st_image.specs.Reading.{IsStart}
-use Rattle.st_image.specs.Back.{CanStart}
+use Rattle.st_image.specs.inside.Reading.{IsStart}
+use Rattle.st_image.specs.inside.Back.{CanStart}
 use Rattle.st_image.proofs.Starts.{is_well_formed}
 use Rattle.st_writer.specs.Written.{used_below, text_of, image_of}
 use Rattle.st_writer.proofs.Placing.{head_back}

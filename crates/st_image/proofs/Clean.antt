@@ -10,9 +10,9 @@ use Rattle.st_model.specs.declared.page.PageObject.{PageObject}
 use Rattle.st_model.specs.declared.page.PageObject.TheVariants.{NilObject, FalseObject, TrueObject, SchedulerAssociation, SmallIntegerClass, StringClass, ArrayClass, MethodContextClass, BlockContextClass, PointClass, LargeClass, MessageClass, MethodClass, CharacterClass, NotUnderstood, CannotReturn, Selectors, Characters, MustBeBoolean, SymbolClass}
 use Rattle.st_model.specs.Image.{entries_of, has_pointers, is_used, size, class, body, names, literal_count}
 use Rattle.st_model.specs.Faults.{Fails, At, ShareWord, used_below, capacity_fails, size_fails, class_fails, field_fails, method_fails, root_fails, roots}
-use Rattle.st_image.specs.Sizes.{AreInside}
-use Rattle.st_image.specs.Rows.{IsCleanBelow}
-use Rattle.st_image.specs.Loads.{IsSound}
+use Rattle.st_image.specs.inside.Sizes.{AreInside}
+use Rattle.st_image.specs.inside.Rows.{IsCleanBelow}
+use Rattle.st_image.specs.inside.Loads.{IsSound}
 use Rattle.st_image.proofs.FaultRows.{most_in_version, inside, named, named_used}
 use Rattle.st_image.proofs.Shapes.{kind_method}
 

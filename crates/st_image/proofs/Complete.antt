@@ -18,8 +18,8 @@ use Rattle.st_model.specs.View.{View, Held, IsComplete, is_live, empty_view, tab
 use Rattle.st_model.specs.Image.{entries_of, has_pointers, is_used, size, class, body, names, literal_count}
 use Rattle.st_model.specs.Start.{kind_in, has_words, fields_in, field_in, field_count, object_in, entry_in, machine_head, start_view}
 use Rattle.st_model.specs.Faults.{field_fails, is_field}
-use Rattle.st_image.specs.Rows.{IsCleanBelow}
-use Rattle.st_image.specs.Loads.{IsSound, IsEmpty}
+use Rattle.st_image.specs.inside.Rows.{IsCleanBelow}
+use Rattle.st_image.specs.inside.Loads.{IsSound, IsEmpty}
 use Rattle.st_image.proofs.FaultRows.{beyond, named, named_even, named_used, used_below_end}
 use Rattle.st_image.proofs.Shapes.{kind_method}
 use Rattle.st_image.proofs.Clean.{clean_sound, clean_field, clean_page, clean_globals, clean_symbols}

@@ -5,7 +5,7 @@ use Rattle.st_model.specs.Lists.{made}
 use Rattle.std.proofs.lemmas.Bool.{cases_lt, cases_Bool}
 use Rattle.std.proofs.Math.ListN.{length-set}
 use Rattle.st_image.specs.declared.spans.Span.{Span}
-use Rattle.st_image.specs.Spans.{IsFirstShared, sum_below, width}
+use Rattle.st_image.specs.inside.Spans.{IsFirstShared, sum_below, width}
 use Rattle.st_image.proofs.Sums.{widths_fit}
 use Rattle.st_model.specs.declared.head.ImageHead.{ImageHead}
 use Rattle.st_model.specs.Values.{Ref}
@@ -15,9 +15,9 @@ use Rattle.st_model.specs.View.{View, with_object}
 use Rattle.st_model.specs.Image.{entries_of, is_used, size}
 use Rattle.st_model.specs.Start.{object_in, entry_in, kind_in, fields_in, units_in, field_in, unit_in}
 use Rattle.st_model.specs.Faults.{used_below}
-use Rattle.st_image.specs.Sizes.{span_of}
-use Rattle.st_image.specs.Rows.{IsCleanBelow}
-use Rattle.st_image.specs.Loads.{IsSound, IsEmpty, HasRoom, with_entry, loaded_below}
+use Rattle.st_image.specs.inside.Sizes.{span_of}
+use Rattle.st_image.specs.inside.Rows.{IsCleanBelow}
+use Rattle.st_image.specs.inside.Loads.{IsSound, IsEmpty, HasRoom, with_entry, loaded_below}
 use Rattle.st_image.proofs.FaultRows.{beyond}
 use Rattle.st_image.proofs.Overlaps.{AreSpans, span_used, spans_within, share_from}
 use Rattle.st_image.proofs.Shapes.{words_of_parts, words_fit_size}

@@ -5,7 +5,7 @@ use Rattle.st_model.specs.declared.head.ImageHead.{ImageHead}
 use Rattle.st_model.specs.declared.fault.ImageFault.{ImageFault}
 use Rattle.st_model.specs.declared.fault.ImageFault.TheVariants.{Short, Lengths, Capacity, Size, Overlap, Class, Field, Method, Root, Scheduler}
 use Rattle.st_model.specs.Faults.{Fails, row, first_number, second_number, Before, IsImageFault, IsWellFormed}
-use Rattle.st_image.specs.Rows.{IsClean, IsFirstOf, IsCleanBelow}
+use Rattle.st_image.specs.inside.Rows.{IsClean, IsFirstOf, IsCleanBelow}
 
 -- a fault is determined by its row and its numbers
 abbrev pub fault_at : ℕ → ℕ → ℕ → ImageFault

@@ -9,9 +9,9 @@ use Rattle.st_model.specs.declared.fault.ImageFault.{ImageFault}
 use Rattle.st_model.specs.declared.fault.ImageFault.TheVariants.{Short, Lengths, Capacity, Size, Class, Field, Method, Root}
 use Rattle.st_model.specs.Image.{table_end, first_form, second_form, form_of, entries_of, is_used, names}
 use Rattle.st_model.specs.Faults.{Fails, At, row, Sooner, short_fails, lengths_fail, capacity_fails, size_fails, class_fails, field_fails, method_fails, root_fails, roots}
-use Rattle.st_image.specs.Sizes.{IsSized, AreInside}
-use Rattle.st_image.specs.Passes.{IsFirst, IsFirstPair, IsLeastAmong}
-use Rattle.st_image.specs.Rows.{IsClean, IsFirstOf}
+use Rattle.st_image.specs.inside.Sizes.{IsSized, AreInside}
+use Rattle.st_image.specs.inside.Passes.{IsFirst, IsFirstPair, IsLeastAmong}
+use Rattle.st_image.specs.inside.Rows.{IsClean, IsFirstOf}
 
 -- past the table no entry is in use
 pub beyond : (h : ImageHead) (bytes : List ℕ) (k : ℕ) → entries_of h ≤ k → is_used h bytes k ≡ false

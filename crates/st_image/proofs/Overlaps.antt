@@ -2,14 +2,14 @@
 use Rattle.std.proofs.Common.{◌≡◌, ℕ, ◌+◌, ◌*◌, ◌/◌, ◌<◌, ◌≤◌, ◌⊎◌, true, false, List, length, arith, refl, subst, ◌∙◌, inl, inr, Some, None}
 use Rattle.std.proofs.lemmas.Bool.{cases_lt, both_ways, cases_Bool}
 use Rattle.st_image.specs.declared.spans.Span.{Span}
-use Rattle.st_image.specs.Spans.{span, Shares, IsFirstShared, AreWithin, IsWithin}
+use Rattle.st_image.specs.inside.Spans.{span, Shares, IsFirstShared, AreWithin, IsWithin}
 use Rattle.st_model.specs.declared.head.ImageHead.{ImageHead}
 use Rattle.st_model.specs.declared.fault.ImageFault.{ImageFault}
 use Rattle.st_model.specs.declared.fault.ImageFault.TheVariants.{Overlap}
 use Rattle.st_model.specs.Image.{entries_of, is_used, place, size}
 use Rattle.st_model.specs.Faults.{Fails, row, Sooner, HasWord, ShareWord}
-use Rattle.st_image.specs.Sizes.{span_of, AreInside}
-use Rattle.st_image.specs.Rows.{IsClean, IsFirstOf}
+use Rattle.st_image.specs.inside.Sizes.{span_of, AreInside}
+use Rattle.st_image.specs.inside.Rows.{IsClean, IsFirstOf}
 use Rattle.st_image.proofs.FaultRows.{beyond}
 
 pub span_used : (h : ImageHead) (bytes : List ℕ) (k : ℕ) → is_used h bytes k ≡ true

@@ -14,7 +14,7 @@ use Rattle.st_model.specs.Formed.{IsHeader}
 use Rattle.st_model.specs.Image.{body, literal_count, size}
 use Rattle.st_model.specs.Start.{kind_in, field_count, fields_in, units_in, field_in, unit_in, units_start, object_in}
 use Rattle.st_model.proofs.Words.{is_small-value_of, literals_of-value_of}
-use Rattle.st_image.specs.Loads.{IsSound, fresh_in, filled_in, with_fields, with_units}
+use Rattle.st_image.specs.inside.Loads.{IsSound, fresh_in, filled_in, with_fields, with_units}
 use Rattle.st_image.proofs.Shapes.{fresh_in-class, fresh_in-fields, fresh_in-units}
 
 pub with_fields-length : (o : Object) (f : ℕ → Value) (n : ℕ) → length (with_fields o f n).fields ≡ length o.fields

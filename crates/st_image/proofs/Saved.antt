@@ -15,7 +15,7 @@ use Rattle.st_model.specs.Settled.{IsRoot, page_root, IsReferredFrom, IsSettled,
 use Rattle.st_model.specs.Contexts.{fetch_scheduled_registers}
 use Rattle.st_model.specs.Cycles.{switch_if_waiting}
 use Rattle.st_model.specs.Saving.{store_active, store_process, settled_after, save}
-use Rattle.st_model.specs.Calls.{itself}
+use Rattle.st_model.specs.inside.Calls.{itself}
 use Rattle.st_simulation.proofs.Same.{TransitionSame, Anything}
 use Rattle.st_simulation.proofs.ContextsSame.{fetch_scheduled_registers-same}
 use Rattle.st_simulation.proofs.HeapsSame.{cycle_simulation}
@@ -24,9 +24,9 @@ use Rattle.st_model.proofs.BirthLemmas.{borne_before}
 use Rattle.st_model.proofs.SettledLemmas.{some_is, is_some-of, settled-borne, bearer-borne, object_born-settled}
 use Rattle.st_model.proofs.SettledIs.{settled_is}
 use Rattle.st_frames.specs.declared.frame.Frame.{Frame}
-use Rattle.st_frames.specs.Shown.{shown}
-use Rattle.st_image.specs.Back.{CanStart}
-use Rattle.st_image.specs.Reading.{IsStart}
+use Rattle.st_frames.specs.inside.Shown.{shown}
+use Rattle.st_image.specs.inside.Back.{CanStart}
+use Rattle.st_image.specs.inside.Reading.{IsStart}
 use Rattle.st_image.proofs.Fetching.{AlsoGoes, goes_fetch}
 use Rattle.st_model.proofs.Reclaiming.{one_or_set, set_within, one_within}
 

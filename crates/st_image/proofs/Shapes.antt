@@ -9,8 +9,8 @@ use Rattle.st_model.specs.Objects.{Object, nil, is_words, is_method, words_of}
 use Rattle.st_model.specs.Formed.{fresh, IsMakeable}
 use Rattle.st_model.specs.Image.{has_odd_length, has_pointers, size, class, body, literal_count}
 use Rattle.st_model.specs.Start.{kind_in, has_words, fields_in, units_in, field_count, unit_count}
-use Rattle.st_image.specs.Shape.{size_as, literals_as}
-use Rattle.st_image.specs.Loads.{IsSound, fresh_in}
+use Rattle.st_image.specs.inside.Shape.{size_as, literals_as}
+use Rattle.st_image.specs.inside.Loads.{IsSound, fresh_in}
 
 -- the kind of an object by its marks and its class
 pub kind_method : (h : ImageHead) (bytes : List ℕ) (k : ℕ) → is_method (kind_in h bytes k) ≡ true → (class h bytes k == 34) ≡ true

@@ -10,19 +10,19 @@ use Rattle.st_model.specs.Births.{Births}
 use Rattle.st_model.specs.Table.{Table, table}
 use Rattle.st_model.specs.View.{View, IsComplete, no_devices, empty_view, nothing_held}
 use Rattle.st_model.specs.Show.{Shows, IsClosed}
-use Rattle.st_model.specs.Foreseen.{ShownAgain}
+use Rattle.st_model.specs.inside.Foreseen.{ShownAgain}
 use Rattle.st_model.specs.Contexts.{fetch_scheduled_registers}
 use Rattle.st_model.specs.Start.{start_view, start, begin, idle_state, idle_registers}
 use Rattle.st_model.specs.Faults.{Fails, row, Sooner, short_fails, IsImageFault, IsWellFormed}
 use Rattle.st_simulation.proofs.Again.{begin_shown}
 use Rattle.st_frames.specs.declared.frame.Frame.{Frame}
-use Rattle.st_frames.specs.Shown.{StaysFrame, FetchesFrame, shown}
+use Rattle.st_frames.specs.inside.Shown.{StaysFrame, FetchesFrame, shown}
 use Rattle.st_frames.proofs.Closed.{closed_idle}
 use Rattle.st_image.specs.declared.error.ReadImage.{ReadImage}
 use Rattle.st_frames.proofs.Closed.{closed_idle}
 use Rattle.st_image.specs.declared.error.ReadImage.TheVariants.{Fault, OutOfMemory}
-use Rattle.st_image.specs.Rows.{IsReadFault, IsCleanBelow}
-use Rattle.st_image.specs.Reading.{IsStart}
+use Rattle.st_image.specs.inside.Rows.{IsReadFault, IsCleanBelow}
+use Rattle.st_image.specs.inside.Reading.{IsStart}
 use Rattle.st_image.proofs.FaultRows.{short_first}
 use Rattle.st_image.proofs.FaultOrder.{found_fault, clean_none, no_fault}
 use Rattle.std.proofs.lemmas.Bool.{or_left, lt-ltb}

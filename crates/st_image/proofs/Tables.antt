@@ -7,7 +7,7 @@ use Rattle.st_model.specs.Values.{Value, Ref}
 use Rattle.st_model.specs.Objects.{Object, with_field, object_with_unit}
 use Rattle.st_model.specs.Table.{Table, entry, total_used}
 use Rattle.st_model.specs.View.{View, is_live, object_of, with_object, with_stored, with_unit}
-use Rattle.st_image.specs.Loads.{IsAt, Puts}
+use Rattle.st_image.specs.inside.Loads.{IsAt, Puts}
 use Rattle.st_model.proofs.Entries.{entry-set_same, changed-set, set-same}
 
 pub total_used-none : (weight : Object → ℕ) (t : Table) → ((k : ℕ) → entry t k ≡ None) → total_used weight t ≡ 0

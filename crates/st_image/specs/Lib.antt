@@ -1,9 +1,2 @@
-pub mod Sizes
-pub mod Shape
-pub mod Passes
-pub mod Rows
-pub mod Loads
-pub mod Reading
 pub mod HeadValues
-pub mod Back
-pub mod Spans
+pub mod inside

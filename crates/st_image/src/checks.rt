@@ -1,7 +1,7 @@
 ghost use Rattle.std.specs.Prelude.{◌≡◌, ◌*◌, ◌<◌, IfOk, IfErr, OnOk};
 ghost use Rattle.st_model.specs.{Image.entries_of, Faults.IsImageFault};
-ghost use Rattle.st_image.specs.{Sizes.AreInside, HeadValues.head_over};
-ghost use Rattle.st_image.specs.Rows.{IsRow, IsMemoryRow, IsReadFault, IsCleanBelow};
+ghost use Rattle.st_image.specs.{inside.Sizes.AreInside, HeadValues.head_over};
+ghost use Rattle.st_image.specs.inside.Rows.{IsRow, IsMemoryRow, IsReadFault, IsCleanBelow};
 
 use crate::error::ReadImage;
 use crate::head::{HeadValues, read_head_over};

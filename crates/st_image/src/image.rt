@@ -1,4 +1,4 @@
-ghost use Rattle.st_image.specs.Sizes.{IsSized};
+ghost use Rattle.st_image.specs.inside.Sizes.{IsSized};
 
 use crate::form::entry_width;
 use crate::numbers::{read16, read32};
@@ -17,7 +17,7 @@ pub struct Image<'a> {
 impl Image<'_> {
     ghost use Rattle.std.specs.Prelude.{◌≡◌, ℕ, ◌+◌, ◌*◌, ◌/◌, ◌%◌, ◌==◌, ◌<◌, ◌≤◌, length, true};
     ghost use Rattle.st_model.specs.Image.{bit, table_start, form_of, entries_of, entry_start, flags, has_odd_length, has_pointers, is_used, place, word, size, class, body, names, literal_count};
-    ghost use Rattle.st_image.specs.Sizes.{IsInside};
+    ghost use Rattle.st_image.specs.inside.Sizes.{IsInside};
 
     /// The pointer of the class of methods.
     pub const METHOD_CLASS: u16 = 34;

@@ -4,7 +4,7 @@ ghost use Rattle.st_model.specs.{Faults.{IsImageFault, IsWellFormed}, Machine.{S
 ghost use Rattle.st_model.specs.{Births.{Births, births}, Table.Table, Show.Shows, Start.begin, Saving.save};
 ghost use Rattle.st_model.specs.View.{View, IsWhole};
 ghost use Rattle.st_frames.specs.declared.frame.Frame.{Frame};
-ghost use Rattle.st_image.specs.{HeadValues.{no_values, head_over}, Reading.IsStart, Back.CanStart};
+ghost use Rattle.st_image.specs.{HeadValues.{no_values, head_over}, inside.Reading.IsStart, inside.Back.CanStart};
 ghost use Rattle.st_writer.specs.Written.{image_of};
 
 /// The law that an image file has at most one fault.

@@ -1,8 +1,8 @@
 ghost use Rattle.std.specs.Prelude.{◌≡◌, ◌*◌, ◌<◌, true, false, IfOk};
 ghost use Rattle.st_model.specs.{Values.{value, Ref}, Objects.is_words, Lists.made, Image.is_used};
 ghost use Rattle.st_model.specs.Start.{kind_in, entry_in, machine_head, start_view};
-ghost use Rattle.st_image.specs.Rows.{IsCleanBelow};
-ghost use Rattle.st_image.specs.Loads.{IsSound, IsShape, HasRoom, fresh_in, filled_in, IsAt, IsEmpty, Puts, PutsObject};
+ghost use Rattle.st_image.specs.inside.Rows.{IsCleanBelow};
+ghost use Rattle.st_image.specs.inside.Loads.{IsSound, IsShape, HasRoom, fresh_in, filled_in, IsAt, IsEmpty, Puts, PutsObject};
 
 use crate::image::Image;
 use crate::shape::{Shape, shape_of};

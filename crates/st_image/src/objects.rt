@@ -1,8 +1,8 @@
 ghost use Rattle.std.specs.Prelude.{◌≡◌, ℕ, ◌+◌, ◌<◌, length, true, IfOk, IfSome};
 ghost use Rattle.st_model.specs.Image.{entries_of, is_used, size};
 ghost use Rattle.st_model.specs.Faults.{size_fails, class_fails, is_field, field_fails, method_fails};
-ghost use Rattle.st_image.specs.{Spans.span, Passes.{IsFirst, IsLeast, IsFirstPair}};
-ghost use Rattle.st_image.specs.Sizes.{IsInside, AreInside, span_of};
+ghost use Rattle.st_image.specs.{inside.Spans.span, inside.Passes.{IsFirst, IsLeast, IsFirstPair}};
+ghost use Rattle.st_image.specs.inside.Sizes.{IsInside, AreInside, span_of};
 
 use crate::image::Image;
 use crate::numbers::literal_count;
@@ -42,7 +42,7 @@ pub fn first_bad_size(image: &Image<'_>) -> Option<usize>
 }
 
 /// The words of an entry's object; none of a free entry.
-#[tactic(auto, unfolding(crate::specs::Sizes::span_of))]
+#[tactic(auto, unfolding(crate::specs::inside::Sizes::span_of))]
 fn span_at(image: &Image<'_>, k: usize) -> Span
     requires entry { k < entries_of image.now.head }
     requires inside { is_used image.now.head image.now.bytes.now k ≡ true →

@@ -1,8 +1,8 @@
 ghost use Rattle.std.specs.Prelude.{OnOk, IfOk, IfErr, IsOkUnless};
 ghost use Rattle.st_model.specs.Faults.{IsWellFormed};
 ghost use Rattle.st_image.specs.HeadValues.{head_over};
-ghost use Rattle.st_image.specs.Rows.{IsReadFault};
-ghost use Rattle.st_image.specs.Reading.{IsStart};
+ghost use Rattle.st_image.specs.inside.Rows.{IsReadFault};
+ghost use Rattle.st_image.specs.inside.Reading.{IsStart};
 
 use crate::checks::check;
 use crate::error::ReadImage;

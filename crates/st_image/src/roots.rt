@@ -1,6 +1,6 @@
 ghost use Rattle.std.specs.Prelude.{◌≡◌, length};
 ghost use Rattle.st_model.specs.Faults.{root_fails, roots};
-ghost use Rattle.st_image.specs.Passes.{IsLeastAmong, IsLesser};
+ghost use Rattle.st_image.specs.inside.Passes.{IsLeastAmong, IsLesser};
 
 use crate::image::Image;
 use st_model::ImageHead;

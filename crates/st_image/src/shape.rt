@@ -1,7 +1,7 @@
 ghost use Rattle.std.specs.Prelude.{◌≡◌, ◌+◌, ◌<◌, true};
 ghost use Rattle.st_model.specs.{Objects.is_method, Image.{entries_of, size}};
 ghost use Rattle.st_model.specs.Start.{is_word_class, has_words, kind_in, fields_in, units_in};
-ghost use Rattle.st_image.specs.{Sizes.IsInside, Loads.{IsSound, IsShape}};
+ghost use Rattle.st_image.specs.{inside.Sizes.IsInside, inside.Loads.{IsSound, IsShape}};
 
 use crate::head::has_letters;
 use crate::image::Image;
@@ -22,7 +22,7 @@ pub struct Shape {
 impl Shape {
     ghost use Rattle.std.specs.Prelude.{◌≡◌, ◌<◌, true};
     ghost use Rattle.st_model.specs.Objects.{is_method};
-    ghost use Rattle.st_image.specs.Shape.{size_as, literals_as};
+    ghost use Rattle.st_image.specs.inside.Shape.{size_as, literals_as};
 
     /// The size in fields, words or bytes; all bytes of a method.
     pub fn size(&self) -> u32

@@ -2,7 +2,7 @@
 
 ghost use Rattle.std.specs.Prelude.{◌≡◌, ℕ, ◌+◌, ◌-◌, ◌<◌, ◌≤◌, List, length, slice_index, IfOk, IsTrue, ◌↔◌};
 ghost use Rattle.st_image.specs.declared.spans.Span.{Span};
-ghost use Rattle.st_image.specs.Spans.{SharesWord, IsFirstShared, AreWithin, owners_of, HasShared, IsNextSharing, IsRoomFor, count_below, begins_at, ends_at};
+ghost use Rattle.st_image.specs.inside.Spans.{SharesWord, IsFirstShared, AreWithin, owners_of, HasShared, IsNextSharing, IsRoomFor, count_below, begins_at, ends_at};
 
 use std::alloc::{AllocError, Global};
 

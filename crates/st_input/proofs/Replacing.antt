@@ -9,7 +9,7 @@ use Rattle.st_model.specs.Objects.{Object, is_bytes, has_bytes, first_unit, size
 use Rattle.st_model.specs.Table.{Table, entry, changed}
 use Rattle.st_model.specs.View.{View, IsWhole, is_live, object_of, nothing}
 use Rattle.st_model.specs.Deeds.{changed_object, changed_by, byte_stored, bytes_stored, bytes_replaced, bytes_of_object, bytes_from}
-use Rattle.st_memory.specs.Copied.{HasBytes, laid, with_units_in, with_bytes_of}
+use Rattle.st_memory.specs.inside.Copied.{HasBytes, laid, with_units_in, with_bytes_of}
 use Rattle.st_memory.proofs.Bodies.{no_fields}
 use Rattle.st_input.proofs.Done.{gone_stays, left_stays}
 use Rattle.st_model.proofs.KindTests.{text_fields, text_pointers}

@@ -2,7 +2,7 @@ ghost use Rattle.std.specs.Prelude.{◌≡◌, OnErr};
 ghost use Rattle.st_model.specs.{Objects.nil, Machine.{World as Surroundings}};
 ghost use Rattle.st_model.specs.Events.{comes, is_due, word_comes, time_comes};
 ghost use Rattle.st_frames.specs.Naming.{IsNaming, naming};
-ghost use Rattle.st_input.specs.{Coming.{HasPlace, came}, Holding.HoldsNamed};
+ghost use Rattle.st_input.specs.{inside.Coming.{HasPlace, came}, inside.Holding.HoldsNamed};
 
 use crate::naming::{add_signal, signal_once};
 use st_frames::World;

@@ -1,7 +1,7 @@
 ghost use Rattle.std.specs.Prelude.{◌≡◌, ◌&&◌, nat_le, if◌then◌else◌};
 ghost use Rattle.st_model.specs.{Surroundings.{changed_world, MoveMouse}, Deeds.world_done};
 ghost use Rattle.st_frames.specs.Naming.{IsNaming, naming};
-ghost use Rattle.st_input.specs.Holding.{HoldsNamed};
+ghost use Rattle.st_input.specs.inside.Holding.{HoldsNamed};
 ghost use Rattle.st_model.specs.declared.deed.Deed.TheVariants as deed;
 
 use crate::naming::{add_signal, hold};

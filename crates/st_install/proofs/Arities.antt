@@ -2,12 +2,12 @@
 use Rattle.std.proofs.Common.{ℕ, List, Some, ap, ◌∙◌}
 use Rattle.st_scan.specs.Views.{ExpressionView, StatementsView, MessagesView, ExpressionsView, MethodView}
 use Rattle.st_scan.specs.Views as views
-use Rattle.st_grammar.specs.Formed.{IsSelector, ReceiverFormed, StatementsFormed, MessagesFormed, ArgumentsFormed, count_of}
-use Rattle.st_grammar.specs.Texts.{Means}
+use Rattle.st_grammar.specs.inside.Formed.{IsSelector, ReceiverFormed, StatementsFormed, MessagesFormed, ArgumentsFormed, count_of}
+use Rattle.st_grammar.specs.inside.Meant.{Means}
 use Rattle.st_grammar.proofs.FormedTrees.{means_formed}
 use Rattle.st_emit.proofs.SpecialSelectors.{special-arguments}
 use Rattle.st_resolved.proofs.Arity.{arity_is}
-use Rattle.st_install.specs.Messages.{TakesArguments, HasArguments, HaveArguments, MessagesHaveArguments, AllHaveArguments}
+use Rattle.st_install.specs.inside.Messages.{TakesArguments, HasArguments, HaveArguments, MessagesHaveArguments, AllHaveArguments}
 
 takes : (text : List ℕ) (n : ℕ) → IsSelector text n → TakesArguments text n
 takes text n is k e = special-arguments text k e ∙ ap (λ m. Some (text, m)) (arity_is text n is)

@@ -8,18 +8,18 @@ use Rattle.st_model.specs.Objects.{nil}
 use Rattle.st_model.specs.Machine.{Step, ◌>>=◌}
 use Rattle.st_model.specs.Steps.{of_page}
 use Rattle.st_model.specs.Table.{Table, table, bounded_table}
-use Rattle.st_model.specs.Calls.{Reads, itself}
+use Rattle.st_model.specs.inside.Calls.{Reads, itself}
 use Rattle.st_model.specs.View.{View, IsWhole, fits}
 use Rattle.st_install.specs.declared.plan.NewObject.{NewObject as CodeObject}
 use Rattle.st_install.specs.declared.plan.Ready.{Ready}
 use Rattle.st_install.specs.declared.storing.Placing.{Placing as CodePlacing}
 use Rattle.st_install.specs.Plans.{NewObject, Plan, words_of_new, words_of_all, demand_of_all}
-use Rattle.st_install.specs.Goes.{IsReadyFor, IsOfKind}
-use Rattle.st_install.specs.Carried.{HasGone, Goes, Becomes, IsPlannable}
+use Rattle.st_install.specs.inside.Goes.{IsReadyFor, IsOfKind}
+use Rattle.st_install.specs.inside.Carried.{HasGone, Goes, Becomes, IsPlannable}
 use Rattle.st_install.specs.Installing.{part_value, make_all, fill_all, target, Placing, find_place, store_planned, fill_and_store, install}
-use Rattle.st_install.specs.Placings.{placing_of}
-use Rattle.st_scope.specs.Meanings.{values}
-use Rattle.st_install.specs.Readies.{part_of, objects_of, plan_of}
+use Rattle.st_install.specs.inside.Placings.{placing_of}
+use Rattle.st_scope.specs.inside.Meanings.{values}
+use Rattle.st_install.specs.inside.Readies.{part_of, objects_of, plan_of}
 use Rattle.st_install.proofs.Going.{goes-first, goes-after, goes-read, goes-then, becomes-after, becomes-read, becomes-then}
 use Rattle.st_install.proofs.Unbounded.{fill_and_store-same}
 use Rattle.st_install.proofs.GoesLaw.{ready_installs, ready_objects, plan_room}

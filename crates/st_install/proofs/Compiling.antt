@@ -5,25 +5,25 @@ use Rattle.st_model.specs.Births.{Births}
 use Rattle.st_model.specs.Table.{Table, table}
 use Rattle.st_model.specs.Settled.{reclaim}
 use Rattle.st_model.specs.Show.{Shows}
-use Rattle.st_simulation.specs.Laws.{Runs}
+use Rattle.st_simulation.specs.inside.Laws.{Runs}
 use Rattle.st_model.specs.View.{View, IsWhole}
 use Rattle.st_frames.specs.declared.frame.Frame.{Frame}
-use Rattle.st_frames.specs.Shown.{IsFrame, IsReady, shown}
+use Rattle.st_frames.specs.inside.Shown.{IsFrame, IsReady, shown}
 use Rattle.st_frames.proofs.Closed.{is_closed}
 use Rattle.st_frames.proofs.Settled.{settled_same}
 use Rattle.st_chunk.specs.Definitions.{Definition}
-use Rattle.st_install.specs.Carried.{Installs}
-use Rattle.st_install.specs.Goes.{IsReadyFor}
-use Rattle.st_install.specs.Readies.{plan_of}
+use Rattle.st_install.specs.inside.Carried.{Installs}
+use Rattle.st_install.specs.inside.Goes.{IsReadyFor}
+use Rattle.st_install.specs.inside.Readies.{plan_of}
 use Rattle.st_install.proofs.GoesLaw.{ready_installs}
 use Rattle.st_install.proofs.Headed.{code_headed}
 use Rattle.st_protocol.specs.declared.refusal.Refusal.{Refusal}
 use Rattle.st_protocol.specs.declared.installation.Installation.TheVariants as installation
 use Rattle.st_install.specs.declared.preparing.Prepared.{Prepared}
 use Rattle.st_protocol.specs.Installing.{Installed, Refused, Accepted}
-use Rattle.st_protocol.specs.Installations.{InstallsAs}
+use Rattle.st_protocol.specs.inside.Installations.{InstallsAs}
 use Rattle.st_install.specs.Defining.{installed}
-use Rattle.st_install.specs.Prepareds.{IsPrepared}
+use Rattle.st_install.specs.inside.Prepareds.{IsPrepared}
 use Rattle.st_install.proofs.Joining.{installs}
 
 -- a memory that holds the same is ready for the same registers and world

@@ -10,7 +10,7 @@ use Rattle.st_model.specs.Objects.{place_of}
 use Rattle.st_model.specs.Machine.{State, Died, Went, Step, answer, ◌>>=◌, ◌>>◌}
 use Rattle.st_model.specs.Steps.{of_page}
 use Rattle.st_model.specs.Table.{Table, table}
-use Rattle.st_model.specs.Calls.{Reads, itself}
+use Rattle.st_model.specs.inside.Calls.{Reads, itself}
 use Rattle.st_model.proofs.Runs.{run-then, run-next, after-went, after-died, run-of_page}
 use Rattle.st_code.specs.Methods.{PartsView}
 use Rattle.st_install.specs.declared.planning.PlanDraft.{PlanDraft}
@@ -22,8 +22,8 @@ use Rattle.st_install.specs.Symbols.{Symbols}
 use Rattle.st_install.specs.Literals.{PlacedAll}
 use Rattle.st_install.specs.Shapes.{check_size}
 use Rattle.st_install.specs.Planning.{method_number, objects_with_method, grown_number, sized, plan_objects}
-use Rattle.st_install.specs.Readies.{part_of, object_of, objects_of}
-use Rattle.st_install.specs.PlanDrafts.{IsGrowth, growth_then, TellsGrowth, IsDraft, method_of, plan_from}
+use Rattle.st_install.specs.inside.Readies.{part_of, object_of, objects_of}
+use Rattle.st_install.specs.inside.PlanDrafts.{IsGrowth, growth_then, TellsGrowth, IsDraft, method_of, plan_from}
 
 module _ (class : Oop) (d : PlanDraft) (method : NewObject) (t : Table) (next : ℕ) (e : next ≡ length d.objects.items + 1) (parts : PartsView) (symbols : Symbols) (literals : PlacedAll)
     (m : method ≡ method_of parts literals) (h : IsDraft d symbols literals) where

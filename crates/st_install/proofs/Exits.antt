@@ -7,11 +7,11 @@ use Rattle.st_model.specs.Births.{Births}
 use Rattle.st_model.specs.Table.{Table, table}
 use Rattle.st_model.specs.Show.{Shows}
 use Rattle.st_model.specs.View.{View}
-use Rattle.st_model.specs.Calls.{Reads}
+use Rattle.st_model.specs.inside.Calls.{Reads}
 use Rattle.st_scan.specs.declared.fault.SyntaxFault.{SyntaxFault}
 use Rattle.st_scan.specs.declared.fault.SyntaxFault.TheVariants as syntax_at
 use Rattle.st_scan.specs.Views.{MethodView}
-use Rattle.st_grammar.specs.Texts.{IsFaultOf}
+use Rattle.st_grammar.specs.inside.Meant.{IsFaultOf}
 use Rattle.st_emit.specs.Names.{NamesView}
 use Rattle.st_code.specs.declared.fault.Fault.{Fault}
 use Rattle.st_code.specs.declared.fault.CodeFault.{CodeFault}
@@ -22,19 +22,20 @@ use Rattle.st_scope.specs.declared.fault.InstallFault.{InstallFault}
 use Rattle.st_scope.specs.declared.fault.InstallFault.TheVariants as fault_of
 use Rattle.st_scope.specs.Calls.{class_of_name, names}
 use Rattle.st_install.specs.Calls.{ready}
-use Rattle.st_scope.specs.Meanings.{class_found}
-use Rattle.st_install.specs.Rooms.{TellsReady}
-use Rattle.st_scope.specs.Seen.{AnswersNames}
-use Rattle.st_scope.specs.Alike.{SeesAlike}
+use Rattle.st_scope.specs.inside.Meanings.{class_found}
+use Rattle.st_install.specs.inside.Rooms.{TellsReady}
+use Rattle.st_scope.specs.inside.Seen.{AnswersNames}
+use Rattle.st_scope.specs.inside.Alike.{SeesAlike}
 use Rattle.st_scope.proofs.Alike.{code_alike}
 use Rattle.st_chunk.specs.Definitions.{Definition}
 use Rattle.st_protocol.specs.declared.refusal.Refusal.{Refusal}
 use Rattle.st_protocol.specs.declared.refusal.Refusal.TheVariants.{Syntax, Code}
 use Rattle.st_protocol.specs.Installing.{Refused}
-use Rattle.st_grammar.specs.Syntax.{IsSyntax, syntax}
+use Rattle.st_grammar.specs.inside.SyntaxMeant.{IsSyntax}
+use Rattle.st_grammar.specs.Syntax.{syntax}
 use Rattle.st_install.specs.Defining.{of_install, of_code, installed}
-use Rattle.st_install.specs.Unprepareds.{by_install, by_syntax, by_code}
-use Rattle.st_install.specs.Prepareds.{IsOver, PreparesAs}
+use Rattle.st_install.specs.inside.Unprepareds.{by_install, by_syntax, by_code}
+use Rattle.st_install.specs.inside.Prepareds.{IsOver, PreparesAs}
 use Rattle.st_grammar.proofs.Syntaxes.{only}
 use Rattle.st_install.proofs.Joining.{refused_class, refused_syntax, refused_names, refused_code, refused_ready}
 

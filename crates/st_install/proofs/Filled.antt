@@ -15,11 +15,11 @@ use Rattle.st_model.specs.View.{View}
 use Rattle.st_install.specs.declared.plan.Part.{Part as CodePart}
 use Rattle.st_install.specs.declared.plan.Part.TheVariants as part
 use Rattle.st_install.specs.declared.plan.NewObject.{NewObject as CodeObject}
-use Rattle.st_scope.specs.Meanings.{values}
-use Rattle.st_install.specs.Readies.{part_of, parts_of, objects_of}
-use Rattle.st_install.specs.Readies.{object_of as planned_of}
-use Rattle.st_install.specs.Carried.{Goes, Becomes, KeepsFields, IsPlannable, IsShaped, AreShaped}
-use Rattle.st_install.specs.Goes.{HasHeader}
+use Rattle.st_scope.specs.inside.Meanings.{values}
+use Rattle.st_install.specs.inside.Readies.{part_of, parts_of, objects_of}
+use Rattle.st_install.specs.inside.Readies.{object_of as planned_of}
+use Rattle.st_install.specs.inside.Carried.{Goes, Becomes, KeepsFields, IsPlannable, IsShaped, AreShaped}
+use Rattle.st_install.specs.inside.Goes.{HasHeader}
 use Rattle.st_install.specs.Installing.{part_value, part_values, store_method_fields, fill_method, fill_by, fill_all}
 use Rattle.st_install.proofs.InTurn.{InTurn}
 use Rattle.st_install.proofs.Going.{goes-first, goes-after, goes-then, becomes-after, becomes-then, Left, left_goes, left_next, left_done}

@@ -10,7 +10,7 @@ use Rattle.st_model.specs.Steps.{object, check, same_value, count_fields}
 use Rattle.st_model.specs.Lookup.{search_dictionary, method_in_class, find}
 use Rattle.st_model.specs.Table.{Table, table}
 use Rattle.st_model.specs.View.{field_of}
-use Rattle.st_install.specs.Gains.{superclasses, superclass_list}
+use Rattle.st_install.specs.inside.Gains.{superclasses, superclass_list}
 use Rattle.st_install.proofs.Goes.{object_at}
 use Rattle.st_install.proofs.GoesReading.{IsField}
 use Rattle.st_install.proofs.GainsPlaces.{IsAbsent}

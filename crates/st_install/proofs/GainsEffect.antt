@@ -14,8 +14,8 @@ use Rattle.st_install.specs.Installing.{adopt, add_at, part_value, part_values, 
 use Rattle.st_model.proofs.Runs.{run-then, after-went}
 use Rattle.st_install.proofs.Goes.{object_at, IsKept, all_kept, kept_then, there_kept, Goes, then_goes, next_goes, read_goes, answer_goes, tells_page, tells_field}
 use Rattle.st_install.proofs.GoesMaking.{IsShaped, blank_kind, HasRoom, Makes, make_all_goes}
-use Rattle.st_install.specs.Goes.{HasHeader}
-use Rattle.st_install.specs.Gains.{IsNoneOf}
+use Rattle.st_install.specs.inside.Goes.{HasHeader}
+use Rattle.st_install.specs.inside.Gains.{IsNoneOf}
 use Rattle.st_install.proofs.GoesFilling.{AllShaped, IsFilled, FillsAll, fill_all_goes}
 use Rattle.st_install.proofs.GoesSeeking.{at_place, half_of, ending_for, bounded_reads, tells_seek, ending_within}
 use Rattle.st_install.proofs.GoesRefilling.{get_set_other}

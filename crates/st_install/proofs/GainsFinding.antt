@@ -14,7 +14,7 @@ use Rattle.st_model.specs.Methods.{method_header}
 use Rattle.st_model.specs.Lookup.{half_word, checked_method, method_at, place_says, look_at_place, look_at_places, search_from, search_dictionary, or_above, method_in_class, look_in_class, unless_nil, end_at_nil, find_within, find}
 use Rattle.st_model.specs.Table.{Table, entry, table}
 use Rattle.st_model.specs.View.{object_of, field_of}
-use Rattle.st_install.specs.Gains.{superclasses, superclass_list, SameAnswer}
+use Rattle.st_install.specs.inside.Gains.{superclasses, superclass_list, SameAnswer}
 use Rattle.st_model.proofs.Runs.{run-then, run-next, after-went, after-died, run-failed}
 use Rattle.st_install.proofs.Goes.{object_at, over}
 use Rattle.st_install.proofs.GoesSeeking.{half_of, table_reads, half_tells}

@@ -17,8 +17,8 @@ use Rattle.st_model.specs.View.{View, IsWhole, object_of, field_of}
 use Rattle.st_install.specs.Plans.{Plan}
 use Rattle.st_install.specs.Dictionaries.{Ending, Holds, place_of_selector}
 use Rattle.st_install.specs.Installing.{part_value, make_all, install}
-use Rattle.st_install.specs.Goes.{IsReadyFor}
-use Rattle.st_install.specs.Gains.{dictionary_of, methods_of, superclasses, superclass_list, IsNoneOf, AreDifferent, touched, IsUntouched, IsOrderly, SameAnswer, IsInstalled, Gained, Gains}
+use Rattle.st_install.specs.inside.Goes.{IsReadyFor}
+use Rattle.st_install.specs.inside.Gains.{dictionary_of, methods_of, superclasses, superclass_list, IsNoneOf, AreDifferent, touched, IsUntouched, IsOrderly, SameAnswer, IsInstalled, Gained, Gains}
 use Rattle.st_install.proofs.Goes.{object_at, over, same_or_other}
 use Rattle.st_install.proofs.GoesSeeking.{at_place, half_of, table_reads, tells_seek}
 use Rattle.st_install.proofs.GoesStoring.{there_at}

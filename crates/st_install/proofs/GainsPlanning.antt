@@ -11,7 +11,7 @@ use Rattle.st_code.specs.Methods.{PartsView}
 use Rattle.st_scope.specs.declared.fault.InstallFault.{InstallFault}
 use Rattle.st_scope.specs.declared.fault.InstallFault.TheVariants.{Shape}
 use Rattle.st_install.specs.Plans.{Part, There, Made, NewObject, Store, Plan, method_object, bytes_object}
-use Rattle.st_install.specs.Goes.{IsHeaded}
+use Rattle.st_install.specs.inside.Goes.{IsHeaded}
 use Rattle.st_install.specs.Symbols.{Symbols, symbols_in, symbol_part, vacant_field, symbol_in_field, symbol_in_array, with_new_symbol, make_symbol, found_or_made, seek_unless, with_symbol, with_symbols, symbols_there, symbols_for}
 use Rattle.st_install.specs.Literals.{PlacedAll, place_owner}
 use Rattle.st_install.specs.Planning.{method_number, objects_with_method, grown_number, grown_if, sized, plan_objects, plan}

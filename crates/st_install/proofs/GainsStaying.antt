@@ -14,7 +14,7 @@ use Rattle.st_model.specs.Table.{Table, entry, table, bounded_table}
 use Rattle.st_model.specs.View.{object_of, field_of}
 use Rattle.st_model.proofs.SettledLemmas.{settled-entry}
 use Rattle.st_model.proofs.Reclaiming.{reclaim_closed}
-use Rattle.st_install.specs.Gains.{SameAnswer, GainsStay}
+use Rattle.st_install.specs.inside.Gains.{SameAnswer, GainsStay}
 use Rattle.st_install.proofs.Goes.{object_at, over}
 use Rattle.st_install.proofs.GoesReading.{IsField}
 use Rattle.st_install.proofs.GoesSeeking.{at_place, half_of}

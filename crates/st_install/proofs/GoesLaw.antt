@@ -13,12 +13,12 @@ use Rattle.st_model.specs.Machine.{State, is_there, empty_world}
 use Rattle.st_model.specs.Table.{Table, entry, bounded_table}
 use Rattle.st_model.specs.Show.{IsUsed}
 use Rattle.st_model.specs.View.{View, IsWhole, is_live, object_of, nothing}
-use Rattle.st_model.specs.Calls.{Changes, itself}
+use Rattle.st_model.specs.inside.Calls.{Changes, itself}
 use Rattle.st_code.specs.Methods.{PartsView}
 use Rattle.st_install.specs.Plans.{NewObject, Plan, words_of_all}
 use Rattle.st_install.proofs.GoesMaking.{IsShaped, CanMake, HasRoom}
 use Rattle.st_install.specs.Installing.{install}
-use Rattle.st_install.specs.Goes.{IsHeaded, HasHeader, IsOfKind, IsReadyFor, Stays, Installs, ReadyInstalls, ReadyObjects}
+use Rattle.st_install.specs.inside.Goes.{IsHeaded, HasHeader, IsOfKind, IsReadyFor, Stays, Installs, ReadyInstalls, ReadyObjects}
 use Rattle.st_install.proofs.Goes.{object_at, IsLike, IsKept, Goes, over}
 use Rattle.st_install.proofs.GoesInstalling.{install_goes}
 use Rattle.st_install.proofs.GoesReading.{IsSoundTable}

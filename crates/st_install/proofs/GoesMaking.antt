@@ -14,7 +14,7 @@ use Rattle.st_model.specs.Steps.{made, make_named, make}
 use Rattle.st_model.specs.Table.{Table, entry, placed, first_free, bounded_table, total_used}
 use Rattle.st_model.proofs.TableLemmas.{placed-first, placed-other, first_free-none}
 use Rattle.st_simulation.proofs.Bounded.{total-placed}
-use Rattle.st_install.specs.Goes.{HasHeader}
+use Rattle.st_install.specs.inside.Goes.{HasHeader}
 use Rattle.st_install.specs.Plans.{Part, NewObject, words_of_new, words_of_all}
 use Rattle.st_install.specs.Installing.{size_by, literals_by, make_new, make_all}
 use Rattle.st_install.proofs.Goes.{object_at, Goes, over, then_goes, answer_goes}

@@ -17,7 +17,7 @@ use Rattle.st_code.specs.Methods.{PartsView}
 use Rattle.st_scope.specs.declared.fault.InstallFault.{InstallFault}
 use Rattle.st_scope.specs.declared.fault.InstallFault.TheVariants.{Shape}
 use Rattle.st_install.specs.Plans.{Part, There, Made, NewObject, Plan, method_object, pointers_object, words_of_all, demand_of_all}
-use Rattle.st_install.specs.Goes.{IsHeaded}
+use Rattle.st_install.specs.inside.Goes.{IsHeaded}
 use Rattle.st_scope.specs.Classes.{class_fields, class_association}
 use Rattle.st_install.specs.Symbols.{Symbols, symbols_in, symbol_part}
 use Rattle.st_install.specs.Literals.{PlacedAll, place_owner}

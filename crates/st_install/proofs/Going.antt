@@ -12,10 +12,10 @@ use Rattle.st_model.specs.Formed.{IsHeader}
 use Rattle.st_model.specs.Machine.{State, Transition, Died, Went, Step, after, answer, die, ◌>>=◌, ◌>>◌, empty_world, is_there}
 use Rattle.st_model.specs.Steps.{object, object_named, found, check, or_die, fetch_field, store_field, store_method_field, store_byte, set_field, store_at, stored_at}
 use Rattle.st_model.specs.Table.{Table, table, entry, changed}
-use Rattle.st_model.specs.Calls.{Reads}
+use Rattle.st_model.specs.inside.Calls.{Reads}
 use Rattle.st_model.specs.View.{View, IsKnown, Has, is_live, object_of, nothing, with_stored, with_unit}
 use Rattle.st_model.proofs.Runs.{run-then, run-next, after-went, run-live, run-passed, run-some, run-set_field, run-store_byte}
-use Rattle.st_install.specs.Carried.{HasGone, Goes, Becomes, KeepsFields}
+use Rattle.st_install.specs.inside.Carried.{HasGone, Goes, Becomes, KeepsFields}
 use Rattle.st_model.proofs.KindTests.{bytes_pointers}
 
 -- ONE STEP AND THE NEXT

@@ -10,7 +10,7 @@ use Rattle.st_model.specs.Machine.{State, Transition, Died, Went, after, answer,
 use Rattle.st_model.specs.Steps.{fetch_field, same_value, of_page, class_of}
 use Rattle.st_model.specs.declared.page.PageObject.TheVariants.{NilObject, ArrayClass}
 use Rattle.st_model.specs.Table.{Table, table}
-use Rattle.st_model.specs.Calls.{Reads, itself}
+use Rattle.st_model.specs.inside.Calls.{Reads, itself}
 use Rattle.st_model.proofs.Runs.{run-then, after-went, after-died, run-of_page}
 use Rattle.st_install.specs.declared.plan.Part.{Part as CodePart}
 use Rattle.st_install.specs.declared.plan.NewObject.{NewObject as CodeObject}
@@ -18,12 +18,12 @@ use Rattle.st_install.specs.declared.plan.Part.TheVariants as part
 use Rattle.st_install.specs.Plans.{There, Made, pointers_object}
 use Rattle.st_install.specs.Dictionaries.{one_more_if, count_places, count_vacant, grows_for, grown_objects}
 use Rattle.st_install.specs.Planning.{grown_if}
-use Rattle.st_install.specs.Readies.{part_of, parts_of, object_of, objects_of}
+use Rattle.st_install.specs.inside.Readies.{part_of, parts_of, object_of, objects_of}
 use Rattle.st_scope.specs.declared.unread.Unread.{Unread}
 use Rattle.st_scope.specs.declared.unread.Unread.TheVariants.{Dies, OutOfMemory}
-use Rattle.st_scope.specs.Findings.{Finds}
-use Rattle.st_install.specs.Naming.{nil}
-use Rattle.st_install.specs.Growing.{objects_in, IsGrown, Grows}
+use Rattle.st_scope.specs.inside.Findings.{Finds}
+use Rattle.st_install.specs.inside.Naming.{nil}
+use Rattle.st_install.specs.inside.Growing.{objects_in, IsGrown, Grows}
 
 -- what follows so many places of nil
 abbrev pub counted : ℕ → Transition (State Table) ℕ → Transition (State Table) ℕ

@@ -7,7 +7,7 @@ use Rattle.st_model.specs.Values.{Value, value}
 use Rattle.st_model.specs.Machine.{State, Died, Went, Step, after, ◌>>=◌}
 use Rattle.st_model.specs.Table.{Table, table}
 use Rattle.st_model.specs.Steps.{fetch_field}
-use Rattle.st_model.specs.Calls.{Reads, itself}
+use Rattle.st_model.specs.inside.Calls.{Reads, itself}
 use Rattle.st_model.specs.declared.oop.Oop.{Oop}
 use Rattle.std.specs.Global.{Vec}
 use Rattle.std.proofs.lemmas.List.{append_assoc, map-append}
@@ -17,12 +17,12 @@ use Rattle.st_install.specs.declared.plan.Ready.{Ready}
 use Rattle.st_install.specs.declared.planning.PlanDraft.{PlanDraft}
 use Rattle.st_install.specs.declared.planning.Growth.{Growth}
 use Rattle.st_install.specs.Shapes.{check_size}
-use Rattle.st_install.specs.Readies.{part_of, object_of, objects_of, plan_of}
+use Rattle.st_install.specs.inside.Readies.{part_of, object_of, objects_of, plan_of}
 use Rattle.st_scope.specs.declared.unread.Unread.{Unread}
 use Rattle.st_scope.specs.declared.unread.Unread.TheVariants.{Dies, OutOfMemory}
 use Rattle.st_install.specs.Plans.{Part, Made, NewObject}
-use Rattle.st_install.specs.Growing.{Grows}
-use Rattle.st_install.specs.PlanDrafts.{TellsGrowth, IsGrowth, plan_from, TellsPlan}
+use Rattle.st_install.specs.inside.Growing.{Grows}
+use Rattle.st_install.specs.inside.PlanDrafts.{TellsGrowth, IsGrowth, plan_from, TellsPlan}
 use Rattle.st_install.proofs.Drafting.{growth_dies, too_large, planned_so}
 
 module _ {A B : Type 0} where

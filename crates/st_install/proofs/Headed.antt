@@ -14,7 +14,7 @@ use Rattle.st_code.specs.declared.simple.Simple.{Simple}
 use Rattle.st_code.specs.declared.simple.Simple.TheVariants.{Itself, ItsField}
 use Rattle.st_code.specs.Methods.{PartsView, passes, simple, simple_flag, has_variables, flag_of, returned_field, count_of, fault_if, symbols_fault, primitive_fault, bounds_fault, variables, depth, steps, body, flag, header_count, literals, header, parts, parts_or, whole_fault, fault, code}
 use Rattle.st_code.specs.Faults.{method_fault}
-use Rattle.st_install.specs.Goes.{IsHeaded}
+use Rattle.st_install.specs.inside.Goes.{IsHeaded}
 use Rattle.st_install.proofs.SameHeaders.{code_header}
 use Rattle.st_grammar.proofs.Readers.{or_right}
 

@@ -6,7 +6,7 @@ use Rattle.st_model.specs.Births.{Births, births}
 use Rattle.st_model.specs.Table.{Table, table, bounded_table}
 use Rattle.st_model.specs.Settled.{reclaim}
 use Rattle.st_model.specs.Show.{Shows}
-use Rattle.st_simulation.specs.Laws.{Runs}
+use Rattle.st_simulation.specs.inside.Laws.{Runs}
 use Rattle.st_scan.specs.declared.fault.Fault as syntax_fault
 use Rattle.st_scan.specs.Views.{MethodView}
 use Rattle.st_emit.specs.Names.{NamesView}

@@ -20,12 +20,12 @@ use Rattle.st_model.proofs.Making.{total_used-placed, live_placed, live_new}
 use Rattle.st_memory.proofs.Fresh.{words_pointers, words_bytes, words_method}
 use Rattle.st_install.specs.declared.plan.NewObject.{NewObject as CodeObject}
 use Rattle.st_install.specs.Plans.{Part, There, Made, NewObject, words_of_new, words_of_all, demand_of_all}
-use Rattle.st_install.specs.Carried.{HasGone, Goes, Becomes, Makes, IsPlannable, IsShaped, AreShaped}
-use Rattle.st_install.specs.Goes.{HasHeader}
+use Rattle.st_install.specs.inside.Carried.{HasGone, Goes, Becomes, Makes, IsPlannable, IsShaped, AreShaped}
+use Rattle.st_install.specs.inside.Goes.{HasHeader}
 use Rattle.st_install.specs.Installing.{size_by, literals_by, make_new, make_all}
-use Rattle.st_scope.specs.Meanings.{values}
-use Rattle.st_install.specs.Readies.{objects_of}
-use Rattle.st_install.specs.Readies.{object_of as planned_of}
+use Rattle.st_scope.specs.inside.Meanings.{values}
+use Rattle.st_install.specs.inside.Readies.{objects_of}
+use Rattle.st_install.specs.inside.Readies.{object_of as planned_of}
 use Rattle.st_install.proofs.Going.{gone_first, same_state, state_of}
 use Rattle.st_install.proofs.Filled.{drop_next, drop_past}
 use Rattle.st_memory.proofs.Wide.{named_word}

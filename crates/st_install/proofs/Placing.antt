@@ -17,8 +17,8 @@ use Rattle.st_emit.specs.declared.literal.Literal.TheVariants.{Number, Character
 use Rattle.st_emit.specs.Literals.{array}
 use Rattle.st_emit.proofs.Members.{array_view}
 use Rattle.st_model.specs.declared.oop.Oop.{Oop}
-use Rattle.st_model.specs.Calls.{Reads}
-use Rattle.st_emit.specs.Views.{literal_view, literals_view, members_view}
+use Rattle.st_model.specs.inside.Calls.{Reads}
+use Rattle.st_emit.specs.inside.Views.{literal_view, literals_view, members_view}
 use Rattle.st_install.specs.declared.plan.Part.{Part as CodePart}
 use Rattle.st_install.specs.declared.plan.NewObject.{NewObject as CodeObject}
 use Rattle.st_scope.specs.declared.classes.Owner.{Owner}
@@ -27,8 +27,8 @@ use Rattle.st_scope.specs.declared.unread.Unread.TheVariants.{Dies, OutOfMemory}
 use Rattle.st_install.specs.Plans.{Part, Made, NewObject, pointers_object}
 use Rattle.st_install.specs.Symbols.{NamedSymbol}
 use Rattle.st_install.specs.Literals.{Placed, PlacedAll, then_placed, none_placed, place_number, place_character, place_string, place_symbol, place_pointer, place_array, place_literal, place_members, place_literals}
-use Rattle.st_install.specs.Readies.{part_of, parts_of, object_of, objects_of}
-use Rattle.st_install.specs.Told.{TellsSingle, Places, PlacesAll, single_placed, IsSingle, part_placed, owner_step, named_of, IsPlaced, ArePlaced, literal_step, literals_step, array_step}
+use Rattle.st_install.specs.inside.Readies.{part_of, parts_of, object_of, objects_of}
+use Rattle.st_install.specs.inside.Told.{TellsSingle, Places, PlacesAll, single_placed, IsSingle, part_placed, owner_step, named_of, IsPlaced, ArePlaced, literal_step, literals_step, array_step}
 use Rattle.st_install.specs.declared.single.Single.{Single}
 use Rattle.st_install.proofs.Growth.{array_class}
 

@@ -11,7 +11,7 @@ use Rattle.st_model.proofs.Runs.{run-then, after-went, after-died, run-some, run
 use Rattle.st_emit.specs.declared.literal.Literal.{Literal}
 use Rattle.st_emit.specs.Literals.{LiteralView, LiteralsView}
 use Rattle.st_emit.specs.Literals as literals
-use Rattle.st_emit.specs.Views.{literals_view}
+use Rattle.st_emit.specs.inside.Views.{literals_view}
 use Rattle.st_code.specs.Methods.{PartsView}
 use Rattle.st_install.specs.declared.plan.Part.{Part as CodePart}
 use Rattle.st_install.specs.declared.plan.NewObject.{NewObject as CodeObject}
@@ -21,10 +21,10 @@ use Rattle.st_install.specs.Plans.{Part}
 use Rattle.st_install.specs.Symbols.{NamedSymbol, symbol_part, symbols_in, symbols_for}
 use Rattle.st_install.specs.Literals.{Placed, PlacedAll, as_it_is, then_placed, place_symbol, place_literal, place_members, place_literals}
 use Rattle.st_install.specs.Planning.{plan, plan_objects}
-use Rattle.st_install.specs.Readies.{part_of, parts_of, object_of}
-use Rattle.st_install.specs.Told.{owner_step, named_of, ArePlaced, literals_step}
-use Rattle.st_install.specs.Naming.{Names}
-use Rattle.st_install.specs.PlanDrafts.{plan_step}
+use Rattle.st_install.specs.inside.Readies.{part_of, parts_of, object_of}
+use Rattle.st_install.specs.inside.Told.{owner_step, named_of, ArePlaced, literals_step}
+use Rattle.st_install.specs.inside.Naming.{Names}
+use Rattle.st_install.specs.inside.PlanDrafts.{plan_step}
 
 -- LITERALS KNOW SYMBOLS BY THEIR TEXTS ALONE
 

@@ -11,14 +11,14 @@ use Rattle.st_model.specs.Values.{Value, Ref, value, value_of}
 use Rattle.st_model.specs.Objects.{place_of}
 use Rattle.st_model.specs.Machine.{Head, State, Died, Went, Step, after, answer, or_left, tried, ◌>>=◌}
 use Rattle.st_model.specs.Table.{Table, table}
-use Rattle.st_model.specs.Calls.{Reads}
+use Rattle.st_model.specs.inside.Calls.{Reads}
 use Rattle.st_model.specs.View.{View, table_of}
 use Rattle.st_model.proofs.Runs.{run-then, after-went, after-died, run-some, run-none, run-tried_went, run-tried_died}
 use Rattle.st_emit.specs.declared.literal.Literal.{Literal}
-use Rattle.st_emit.specs.Views.{literals_view}
+use Rattle.st_emit.specs.inside.Views.{literals_view}
 use Rattle.st_code.specs.declared.compiler.MethodParts.{MethodParts}
 use Rattle.st_code.specs.Methods.{PartsView}
-use Rattle.st_code.specs.MethodDrafts.{parts_view}
+use Rattle.st_code.specs.inside.MethodDrafts.{parts_view}
 use Rattle.st_scope.specs.declared.fault.InstallFault.{InstallFault}
 use Rattle.st_scope.specs.declared.fault.InstallFault.TheVariants as fault
 use Rattle.st_install.specs.declared.plan.NewObject.{NewObject as CodeObject}
@@ -32,15 +32,15 @@ use Rattle.st_scope.specs.declared.unread.Unread.TheVariants.{Dies, OutOfMemory}
 use Rattle.st_install.specs.Plans.{There, Plan, method_object}
 use Rattle.st_install.specs.Symbols.{symbol_part, symbols_in, symbols_for}
 use Rattle.st_scope.specs.Classes.{class_association}
-use Rattle.st_scope.specs.Owners.{IsOwner}
+use Rattle.st_scope.specs.inside.Owners.{IsOwner}
 use Rattle.st_install.specs.Literals.{PlacedAll}
 use Rattle.st_install.specs.Calls.{planned_for, planned, ready_for, ready, with_room}
-use Rattle.st_install.specs.Readies.{part_of, parts_of, object_of, objects_of, stores_of, plan_of}
-use Rattle.st_scope.specs.Findings.{Finds}
-use Rattle.st_install.specs.Told.{named_of, ArePlaced, PlacesAll, literals_step}
-use Rattle.st_install.specs.Naming.{Names, TellsNames}
-use Rattle.st_install.specs.Rooms.{TellsReady}
-use Rattle.st_install.specs.PlanDrafts.{IsDraft, method_of, TellsPlan, plan_step, planned_step, ready_step}
+use Rattle.st_install.specs.inside.Readies.{part_of, parts_of, object_of, objects_of, stores_of, plan_of}
+use Rattle.st_scope.specs.inside.Findings.{Finds}
+use Rattle.st_install.specs.inside.Told.{named_of, ArePlaced, PlacesAll, literals_step}
+use Rattle.st_install.specs.inside.Naming.{Names, TellsNames}
+use Rattle.st_install.specs.inside.Rooms.{TellsReady}
+use Rattle.st_install.specs.inside.PlanDrafts.{IsDraft, method_of, TellsPlan, plan_step, planned_step, ready_step}
 use Rattle.st_install.proofs.Planned.{unnamed, unplaced, all_placed, no_selector, planned_as}
 
 -- THE PLAN

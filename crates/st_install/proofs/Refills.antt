@@ -9,14 +9,14 @@ use Rattle.st_model.specs.Values.{Value, value}
 use Rattle.st_model.specs.Machine.{Went, Step, answer, die, ◌>>=◌, ◌>>◌}
 use Rattle.st_model.specs.Steps.{of_page, same_value, fetch_field, store_field}
 use Rattle.st_model.specs.Table.{Table, table}
-use Rattle.st_model.specs.Calls.{Reads, itself}
+use Rattle.st_model.specs.inside.Calls.{Reads, itself}
 use Rattle.st_model.specs.View.{View}
 use Rattle.st_model.proofs.Runs.{run-of_page}
 use Rattle.st_model.proofs.Words.{same_words, value_of-nil}
 use Rattle.st_install.specs.declared.places.Place.{Place}
-use Rattle.st_install.specs.Carried.{HasGone, Goes, Becomes}
+use Rattle.st_install.specs.inside.Carried.{HasGone, Goes, Becomes}
 use Rattle.st_install.specs.Dictionaries.{Ending, Holds, Vacant, Nowhere, count_places, seek, put_method, put_at, refill_unless, refill_from, refill_among, refill}
-use Rattle.st_install.specs.Endings.{ending_of}
+use Rattle.st_install.specs.inside.Endings.{ending_of}
 use Rattle.st_install.proofs.Going.{goes-first, goes-after, goes-read, goes-then, becomes-after, becomes-read, becomes-then, becomes-answer, state_of}
 
 -- a step that goes answers, and doesn't die

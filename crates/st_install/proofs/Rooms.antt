@@ -11,7 +11,7 @@ use Rattle.st_model.specs.Table.{Table, table, total_used}
 use Rattle.st_model.specs.View.{View, fits}
 use Rattle.st_scope.specs.declared.fault.InstallFault.TheVariants.{NoRoom}
 use Rattle.st_install.specs.declared.plan.NewObject.{NewObject as CodeObject}
-use Rattle.st_install.specs.Readies.{object_of, objects_of}
+use Rattle.st_install.specs.inside.Readies.{object_of, objects_of}
 use Rattle.st_install.specs.Plans.{NewObject, Plan, words_of_new, words_of_all, demand_of_all}
 use Rattle.st_install.specs.Calls.{both, is_crowded, room_or, with_room}
 

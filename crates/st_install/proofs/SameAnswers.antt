@@ -8,7 +8,7 @@ use Rattle.st_model.specs.Table.{Table, table, bounded_table}
 use Rattle.st_model.specs.Settled.{reclaim}
 use Rattle.st_model.specs.Saving.{settled_after}
 use Rattle.st_model.specs.Show.{pointer_of, IsKept, Shows}
-use Rattle.st_simulation.specs.Laws.{Runs}
+use Rattle.st_simulation.specs.inside.Laws.{Runs}
 use Rattle.st_scan.specs.Views.{MethodView}
 use Rattle.st_emit.specs.Names.{NamesView}
 use Rattle.st_code.specs.Methods.{PartsView}
@@ -17,8 +17,8 @@ use Rattle.st_install.specs.Plans.{Plan}
 use Rattle.st_scope.specs.Calls.{class_of_name, names}
 use Rattle.st_install.specs.Calls.{ready}
 use Rattle.st_install.specs.Installing.{install}
-use Rattle.st_install.specs.SamePlans.{renamed_class, IsLiveClass, renamed_ready, IsLiveReady, renamed_plan}
-use Rattle.st_install.specs.Same.{AnswersAlike, RunsOn, HasHeader, IsReady}
+use Rattle.st_install.specs.inside.SamePlans.{renamed_class, IsLiveClass, renamed_ready, IsLiveReady, renamed_plan}
+use Rattle.st_install.specs.inside.Same.{AnswersAlike, RunsOn, HasHeader, IsReady}
 use Rattle.st_install.proofs.SameCalls.{class_shows, names_show, ready_shows}
 use Rattle.st_install.proofs.SameInstalls.{install_shows, install_settles}
 

@@ -16,8 +16,8 @@ use Rattle.st_scope.specs.declared.fault.InstallFault.TheVariants.{NoClass, NoRo
 use Rattle.st_install.specs.Plans.{NewObject, Plan, words_of_all, demand_of_all}
 use Rattle.st_scope.specs.Calls.{or_fault, class_among, class_of_name, as_table, names_seen, names}
 use Rattle.st_install.specs.Calls.{both, is_crowded, room_or, with_room, planned_for, planned, ready}
-use Rattle.st_install.specs.SamePlans.{renamed_objects, renamed_plan, renamed_class, IsLiveClass, renamed_ready, IsLiveReady, as_it_was, IsNameless}
-use Rattle.st_install.specs.Same.{AnswersAlike, HasHeader, ClassShows, NamesShow, ReadyShows}
+use Rattle.st_install.specs.inside.SamePlans.{renamed_objects, renamed_plan, renamed_class, IsLiveClass, renamed_ready, IsLiveReady, as_it_was, IsNameless}
+use Rattle.st_install.specs.inside.Same.{AnswersAlike, HasHeader, ClassShows, NamesShow, ReadyShows}
 use Rattle.st_install.proofs.SameReads.{Shown, lives, name, TransitionAlike, Alike, ValueAlike, ValuesAlike, OptionalAlike, AlikeAnswer, IsLiveAny, any_renamed, then-alike, then_value-alike, then_option-alike, then_answer-alike, answer-alike, tried-alike, tried_value-alike, joins_alike}
 use Rattle.st_install.proofs.SameSteps.{reads_alike, value_or_die-alike}
 use Rattle.st_install.proofs.SameTables.{class_association-alike, class_named-alike, lineage-alike, then_lineage-alike}

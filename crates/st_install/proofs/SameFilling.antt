@@ -12,7 +12,7 @@ use Rattle.st_simulation.proofs.LookupSame.{half_word-same}
 use Rattle.st_install.specs.Plans.{Part, There, Made, NewObject, Store, Plan}
 use Rattle.st_install.specs.Dictionaries.{Ending, Holds, Vacant, Nowhere, ends_at, seek_at, seek_among, seek_from, count_places, seek, place_of_selector, put_method, put_at, refill_unless, refill_from, refill_among, refill, raised_tally}
 use Rattle.st_install.specs.Installing.{size_by, literals_by, make_new, make_all, part_value, part_values, store_method_fields, fill_method, fill_by, fill_all, store_all, Placing, target, find_place, adopt, add_at, store_planned, fill_and_store, install}
-use Rattle.st_install.specs.SamePlans.{renamed_part, renamed_parts, renamed_new, renamed_objects, renamed_stores, renamed_plan, IsLivePart, AllLiveParts, IsLiveNew, AllLiveObjects, AllLiveStores, IsLivePlan}
+use Rattle.st_install.specs.inside.SamePlans.{renamed_part, renamed_parts, renamed_new, renamed_objects, renamed_stores, renamed_plan, IsLivePart, AllLiveParts, IsLiveNew, AllLiveObjects, AllLiveStores, IsLivePlan}
 use Rattle.st_install.proofs.SameParts.{length-parts}
 
 size-renamed : (f : ℕ → ℕ) (k : Kind) (o : NewObject) → size_by k (renamed_new f o) ≡ size_by k o

@@ -9,7 +9,7 @@ use Rattle.st_emit.specs.Names.{NamesView}
 use Rattle.st_emit.specs.declared.level.Level.{Level}
 use Rattle.st_code.specs.declared.fault.Fault.{Fault}
 use Rattle.st_code.specs.Methods.{PartsView, passes, room_bit, flag, header_count, variables, depth, literals, fault, parts, parts_or, code}
-use Rattle.st_install.specs.Same.{HasHeader}
+use Rattle.st_install.specs.inside.Same.{HasHeader}
 
 room_if : (b : Bool) → (if b then 128 else 0) % 2 ≡ 0
 room_if true = refl

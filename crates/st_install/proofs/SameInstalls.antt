@@ -8,11 +8,11 @@ use Rattle.st_model.specs.Outcomes as outcome
 use Rattle.st_model.specs.Machine.{Head, State, Transition, Died, Went, answer, after, ◌>>=◌, tried, used, is_over}
 use Rattle.st_model.specs.Births.{Births, births}
 use Rattle.st_model.specs.Table.{Table, table, bounded_table}
-use Rattle.st_model.specs.Calls.{itself}
+use Rattle.st_model.specs.inside.Calls.{itself}
 use Rattle.st_model.specs.Saving.{settled_after}
 use Rattle.st_model.specs.Show.{pointer_of, IsKept}
-use Rattle.st_model.specs.Foreseen.{IsSound}
-use Rattle.st_simulation.specs.Laws.{Runs}
+use Rattle.st_model.specs.inside.Foreseen.{IsSound}
+use Rattle.st_simulation.specs.inside.Laws.{Runs}
 use Rattle.st_model.proofs.BirthLemmas.{pointer_of-borne}
 use Rattle.st_model.proofs.Names.{map_live, same_value}
 use Rattle.st_simulation.proofs.Same.{TransitionSame, Anything, SameAnswer, StateSame}
@@ -26,8 +26,8 @@ use Rattle.st_code.specs.Methods.{PartsView}
 use Rattle.st_install.specs.Plans.{Part, There, Made, NewObject, Store, Plan, words_of_all, demand_of_all}
 use Rattle.st_install.specs.Calls.{both, is_crowded, room_or, with_room, planned, ready}
 use Rattle.st_install.specs.Installing.{install}
-use Rattle.st_install.specs.SamePlans.{renamed_part, renamed_parts, renamed_objects, renamed_stores, renamed_plan, renamed_ready, IsLivePart, AllLiveParts, AllLiveObjects, AllLiveStores, IsLivePlan}
-use Rattle.st_install.specs.Same.{RunsOn, IsReady, InstallShows, InstallSettles}
+use Rattle.st_install.specs.inside.SamePlans.{renamed_part, renamed_parts, renamed_objects, renamed_stores, renamed_plan, renamed_ready, IsLivePart, AllLiveParts, AllLiveObjects, AllLiveStores, IsLivePlan}
+use Rattle.st_install.specs.inside.Same.{RunsOn, IsReady, InstallShows, InstallSettles}
 use Rattle.st_install.proofs.SameReads.{Shown, TransitionAlike}
 use Rattle.st_install.proofs.SameParts.{AllFormed, length-parts, length-objects}
 use Rattle.st_install.proofs.SamePlanning.{PlanLive}

@@ -13,7 +13,7 @@ use Rattle.st_emit.specs.Literals as literals
 use Rattle.st_install.specs.Plans.{Part, NewObject}
 use Rattle.st_install.specs.Symbols.{NamedSymbol}
 use Rattle.st_install.specs.Literals.{Placed, PlacedAll, as_it_is, made_as, negated, place_size, place_signed, place_number, place_character, place_string, place_symbol, place_pointer, place_array, place_owner, then_placed, none_placed, place_literal, place_members, place_literals}
-use Rattle.st_install.specs.SamePlans.{renamed_part, renamed_parts, renamed_objects, IsLivePart, AllLiveParts, AllLiveObjects}
+use Rattle.st_install.specs.inside.SamePlans.{renamed_part, renamed_parts, renamed_objects, IsLivePart, AllLiveParts, AllLiveObjects}
 use Rattle.st_install.proofs.SameReads.{Shown, lives, name, Alike, ValueAlike, IsLiveAny, any_renamed, then-alike, then_value-alike, answer-alike, die-alike}
 use Rattle.st_install.proofs.SameSteps.{reads_alike}
 use Rattle.st_install.proofs.SameParts.{AllFormed, PartNamed, PartsNamed, NewNamed, ObjectsNamed, length-objects, parts_named}

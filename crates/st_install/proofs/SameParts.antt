@@ -7,7 +7,7 @@ use Rattle.st_model.specs.Values.{Value, renamed, renamed_all, AllLive}
 use Rattle.st_model.specs.Objects.{is_words, is_method}
 use Rattle.st_simulation.proofs.Same.{ValueNamed, ValuesNamed}
 use Rattle.st_install.specs.Plans.{Part, There, Made, NewObject, Store, pointers_object, bytes_object, method_object}
-use Rattle.st_install.specs.SamePlans.{renamed_part, renamed_parts, renamed_new, renamed_objects, renamed_store, renamed_stores, IsLivePart, AllLiveParts, IsLiveNew, AllLiveObjects, IsLiveStore, AllLiveStores}
+use Rattle.st_install.specs.inside.SamePlans.{renamed_part, renamed_parts, renamed_new, renamed_objects, renamed_store, renamed_stores, IsLivePart, AllLiveParts, IsLiveNew, AllLiveObjects, IsLiveStore, AllLiveStores}
 
 -- it isn't of kind Words, and a Method has a header
 pub record IsFormedNew (o : NewObject) : Type 0 where

@@ -6,7 +6,7 @@ use Rattle.st_model.specs.Births.{Births, births}
 use Rattle.st_model.specs.Table.{Table, table}
 use Rattle.st_install.specs.Plans.{Part, There, Made, NewObject}
 use Rattle.st_install.specs.Dictionaries.{Ending, Holds, Vacant, Nowhere, ends_at, seek_at, seek_among, seek_from, count_places, seek, place_of_selector, one_more_if, count_vacant, is_nearly_full, grows_at, grows_for, dictionary_objects, grown_objects}
-use Rattle.st_install.specs.SamePlans.{renamed_part, renamed_objects, IsLivePart, AllLiveObjects}
+use Rattle.st_install.specs.inside.SamePlans.{renamed_part, renamed_objects, IsLivePart, AllLiveObjects}
 use Rattle.st_install.proofs.SameReads.{Shown, lives, name, Alike, ValueAlike, AlikeAnswer, answer-alike, joins_alike}
 use Rattle.st_install.proofs.SameSteps.{reads_alike}
 use Rattle.st_install.proofs.SameParts.{AllFormed, ObjectsNamed, parts_named}

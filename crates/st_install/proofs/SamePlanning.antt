@@ -14,8 +14,8 @@ use Rattle.st_install.specs.Symbols.{Symbols, symbols_in, symbol_part}
 use Rattle.st_install.specs.Literals.{PlacedAll, place_owner, place_literals}
 use Rattle.st_install.specs.Shapes.{all_fit, check_size}
 use Rattle.st_install.specs.Planning.{method_number, objects_with_method, grown_number, grown_if, sized, plan_objects, plan}
-use Rattle.st_install.specs.SamePlans.{renamed_part, renamed_objects, renamed_plan, IsLivePart, IsLivePlan}
-use Rattle.st_install.specs.Same.{HasHeader}
+use Rattle.st_install.specs.inside.SamePlans.{renamed_part, renamed_objects, renamed_plan, IsLivePart, IsLivePlan}
+use Rattle.st_install.specs.inside.Same.{HasHeader}
 use Rattle.st_install.proofs.GoesPlans.{plan_with}
 use Rattle.st_install.proofs.SameReads.{Shown, lives, name, Alike, ValueAlike, AlikeAnswer, then-alike, then_value-alike, then_answer-alike, then_unit-alike, answer-alike}
 use Rattle.st_install.proofs.SameSteps.{reads_alike, fetch_field-alike, check-alike}

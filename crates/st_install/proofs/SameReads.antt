@@ -8,7 +8,7 @@ use Rattle.st_model.specs.Objects.{Object, renamed_object, IsLiveObject}
 use Rattle.st_model.specs.Machine.{State, Transition, Died, Went, Step, answer, die, after, ◌>>=◌, ◌>>◌, or_left, tried}
 use Rattle.st_model.specs.Births.{Births, borne}
 use Rattle.st_model.specs.Table.{Table}
-use Rattle.st_model.specs.Calls.{itself}
+use Rattle.st_model.specs.inside.Calls.{itself}
 use Rattle.st_model.specs.Steps.{same_value}
 use Rattle.st_model.specs.Show.{pointer_of, IsKept, Shows, renamed_option}
 use Rattle.st_model.proofs.BirthLemmas.{pointer_of-borne}

@@ -12,14 +12,14 @@ use Rattle.st_model.specs.Formed.{fresh_with}
 use Rattle.st_model.specs.Machine.{Head, State, Transition, Died, Went, Step, is_there, has_room, die, after, ◌>>=◌}
 use Rattle.st_model.specs.Steps.{of_page, new_of, made, make_named, make}
 use Rattle.st_model.specs.Table.{Table, table, bounded_table, placed, total_used}
-use Rattle.st_model.specs.Calls.{itself}
+use Rattle.st_model.specs.inside.Calls.{itself}
 use Rattle.st_model.proofs.Names.{AnyName, any_value, any_values}
 use Rattle.st_simulation.proofs.Same.{TransitionSame, Anything, strict, strict_states}
 use Rattle.st_simulation.proofs.Bounded.{same_name, value-itself, values-itself, total-placed, bounded_simulation, bounded_start}
 use Rattle.st_simulation.proofs.Between.{both_same}
 use Rattle.st_install.specs.Plans.{Part, There, Made, NewObject, Store, Plan, words_of_new, words_of_all}
 use Rattle.st_install.specs.Installing.{size_by, literals_by, make_new, make_all, fill_and_store, install}
-use Rattle.st_install.specs.SamePlans.{renamed_part, renamed_parts, renamed_objects, renamed_stores, renamed_plan, IsLivePart, AllLiveParts, AllLiveObjects, AllLiveStores, IsLivePlan}
+use Rattle.st_install.specs.inside.SamePlans.{renamed_part, renamed_parts, renamed_objects, renamed_stores, renamed_plan, IsLivePart, AllLiveParts, AllLiveObjects, AllLiveStores, IsLivePlan}
 use Rattle.st_install.proofs.SameParts.{IsFormedNew, AllFormed}
 use Rattle.st_install.proofs.SameFilling.{fill_and_store-same}
 use Rattle.std.proofs.lemmas.Bool.{and_from}

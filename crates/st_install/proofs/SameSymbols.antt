@@ -8,7 +8,7 @@ use Rattle.st_model.specs.Births.{Births, births}
 use Rattle.st_model.specs.Table.{Table, table}
 use Rattle.st_install.specs.Plans.{Part, There, Made}
 use Rattle.st_install.specs.Symbols.{symbol_text, is_symbol, symbol_named, NamedSymbol, symbol_part, Symbols, is_vacant, grown_size, vacant_field, symbol_in_field, symbol_in_array, with_new_symbol, make_symbol, found_or_made, seek_unless, with_symbol, with_symbols, symbols_there, symbols_for}
-use Rattle.st_install.specs.SamePlans.{renamed_part, renamed_parts, renamed_objects, renamed_stores, IsLivePart, AllLiveParts, AllLiveObjects, AllLiveStores}
+use Rattle.st_install.specs.inside.SamePlans.{renamed_part, renamed_parts, renamed_objects, renamed_stores, IsLivePart, AllLiveParts, AllLiveObjects, AllLiveStores}
 use Rattle.st_install.proofs.SameReads.{Shown, lives, name, Alike, ValueAlike, ValuesAlike, OptionalAlike, AlikeOption, AlikeAnswer, IsLiveAny, any_renamed, then-alike, then_option-alike, answer-alike, same_value-alike}
 use Rattle.st_install.proofs.SameSteps.{reads_alike}
 use Rattle.st_install.proofs.SameTables.{bytes_of-alike, first_field-alike}

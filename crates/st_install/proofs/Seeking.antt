@@ -11,14 +11,14 @@ use Rattle.st_model.specs.Machine.{State, Went, Step, answer}
 use Rattle.st_model.specs.Steps.{fetch_field, same_value}
 use Rattle.st_model.specs.Lookup.{half_word, pointer_if}
 use Rattle.st_model.specs.Table.{Table, table, entry}
-use Rattle.st_model.specs.Calls.{Reads, itself}
+use Rattle.st_model.specs.inside.Calls.{Reads, itself}
 use Rattle.st_model.specs.View.{is_live}
 use Rattle.st_model.proofs.Runs.{run-then, run-of_page, after-went, after-died}
 use Rattle.st_model.proofs.Words.{same_words, value_of-nil}
 use Rattle.st_install.specs.declared.places.Place.{Place}
 use Rattle.st_install.specs.declared.places.Place.TheVariants as place
 use Rattle.st_install.specs.Dictionaries.{Ending, Nowhere, ends_at, seek_at, seek_among, seek_from}
-use Rattle.st_install.specs.Endings.{ending_of, seek_of, SeeksAt, SeeksFrom}
+use Rattle.st_install.specs.inside.Endings.{ending_of, seek_of, SeeksAt, SeeksFrom}
 
 -- ONE PLACE
 

@@ -13,8 +13,8 @@ use Rattle.st_scan.specs.declared.fault.Fault as syntax_fault
 use Rattle.st_scan.specs.Views.{MethodView}
 use Rattle.st_scan.specs.Bytes.{is_operator_byte, begins_operator, is_second_operator_byte}
 use Rattle.st_scan.specs.Pieces.{is_name, is_operator, keywords_text}
-use Rattle.st_grammar.specs.Texts.{Means}
-use Rattle.st_grammar.specs.Formed.{IsSelector}
+use Rattle.st_grammar.specs.inside.Meant.{Means}
+use Rattle.st_grammar.specs.inside.Formed.{IsSelector}
 use Rattle.st_grammar.proofs.FormedTrees.{means_formed}
 use Rattle.st_emit.specs.Names.{NamesView}
 use Rattle.st_code.specs.declared.fault.Fault as code_fault
@@ -23,7 +23,8 @@ use Rattle.st_install.specs.Installing.{install}
 use Rattle.st_chunk.specs.Definitions.{Definition}
 use Rattle.st_protocol.specs.declared.refusal.Refusal.{Refusal}
 use Rattle.st_protocol.specs.Installing.{Accepted}
-use Rattle.st_grammar.specs.Syntax.{IsSyntax, syntax}
+use Rattle.st_grammar.specs.inside.SyntaxMeant.{IsSyntax}
+use Rattle.st_grammar.specs.Syntax.{syntax}
 use Rattle.st_install.specs.Defining.{of_syntax, of_code, of_install, Prepared, on_ok_by, on_ok, prepare, carry_out, define, outcome_of, installed}
 use Rattle.st_grammar.proofs.Syntaxes.{is}
 

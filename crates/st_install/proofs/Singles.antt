@@ -12,15 +12,15 @@ use Rattle.st_model.specs.Values.{Value, Ref, value, value_of}
 use Rattle.st_model.specs.Machine.{State, Died, Went, answer, die, after, ◌>>=◌}
 use Rattle.st_model.specs.Steps.{object_at, named_or_not, or_die, class_of}
 use Rattle.st_model.specs.Table.{Table, table, entry}
-use Rattle.st_model.specs.Calls.{Reads}
+use Rattle.st_model.specs.inside.Calls.{Reads}
 use Rattle.st_model.specs.View.{is_live}
 use Rattle.st_model.proofs.Runs.{run-then, after-died}
 use Rattle.st_install.specs.declared.plan.Part.{Part as CodePart}
 use Rattle.st_install.specs.Plans.{There}
 use Rattle.st_install.specs.Symbols.{NamedSymbol, symbol_part}
 use Rattle.st_install.specs.Literals.{as_it_is, place_pointer, place_owner}
-use Rattle.st_install.specs.Readies.{part_of}
-use Rattle.st_install.specs.Told.{named_of}
+use Rattle.st_install.specs.inside.Readies.{part_of}
+use Rattle.st_install.specs.inside.Told.{named_of}
 use Rattle.st_install.proofs.Numbers.{even_value}
 use Rattle.st_emit.proofs.NamePlaces.{same_text}
 

@@ -4,7 +4,7 @@ use Rattle.std.specs.Prelude.{nat_le}
 use Rattle.std.proofs.lemmas.Bool.{and_parts, leb-true}
 use Rattle.st_install.specs.Plans.{NewObject, words_of_new}
 use Rattle.st_install.specs.Shapes.{most_of_one, all_fit}
-use Rattle.st_install.specs.Rooms.{AreSmall}
+use Rattle.st_install.specs.inside.Rooms.{AreSmall}
 
 pub small_if_fit : (os : List NewObject) → all_fit os ≡ true → AreSmall os
 small_if_fit [] e = tt

@@ -10,19 +10,19 @@ use Rattle.st_model.specs.Objects.{nil}
 use Rattle.st_model.specs.Machine.{Step, answer, die, ◌>>=◌, ◌>>◌}
 use Rattle.st_model.specs.Steps.{fetch_field, store_field}
 use Rattle.st_model.specs.Table.{Table, table}
-use Rattle.st_model.specs.Calls.{Reads}
+use Rattle.st_model.specs.inside.Calls.{Reads}
 use Rattle.st_model.specs.View.{View}
 use Rattle.st_model.proofs.Runs.{run-then, after-went}
 use Rattle.st_model.proofs.Words.{is_small-value_of}
 use Rattle.st_install.specs.declared.places.Place.{Place}
 use Rattle.st_install.specs.declared.plan.SymbolStore.{SymbolStore}
 use Rattle.st_install.specs.Plans.{Plan}
-use Rattle.st_install.specs.Carried.{Goes, Becomes}
+use Rattle.st_install.specs.inside.Carried.{Goes, Becomes}
 use Rattle.st_install.specs.Dictionaries.{Ending, Holds, Vacant, Nowhere, seek, place_of_selector, put_method, refill, raised_tally}
-use Rattle.st_install.specs.Endings.{ending_of}
+use Rattle.st_install.specs.inside.Endings.{ending_of}
 use Rattle.st_install.specs.Installing.{part_value, store_all, target, Placing, find_place, adopt, add_at, store_planned}
-use Rattle.st_install.specs.Placings.{placing_of}
-use Rattle.st_install.specs.Readies.{part_of, stores_of}
+use Rattle.st_install.specs.inside.Placings.{placing_of}
+use Rattle.st_install.specs.inside.Readies.{part_of, stores_of}
 use Rattle.st_install.proofs.Going.{goes-first, goes-after, goes-read, goes-then, becomes-after, becomes-then, becomes-answer, state_of}
 use Rattle.st_install.proofs.Filled.{drop_next, drop_past}
 use Rattle.st_install.proofs.Refills.{read_ok}

@@ -11,7 +11,7 @@ use Rattle.st_model.specs.Machine.{answer, tried}
 use Rattle.st_model.specs.Steps.{same_value}
 use Rattle.st_model.specs.Primitives.{check_class}
 use Rattle.st_model.specs.Table.{Table, table}
-use Rattle.st_model.specs.Calls.{Reads, itself}
+use Rattle.st_model.specs.inside.Calls.{Reads, itself}
 use Rattle.st_model.proofs.Runs.{run-then, run-next, after-went, after-died}
 use Rattle.st_scope.specs.Tables.{is_text}
 use Rattle.st_install.specs.Symbols.{symbol_text, is_symbol}

@@ -17,12 +17,12 @@ use Rattle.st_model.specs.Objects.{place_of}
 use Rattle.st_model.specs.Machine.{State, Transition, Died, Went, after, answer, ◌>>=◌}
 use Rattle.st_model.specs.Steps.{of_page, fetch_field, fetch_fields, count_fields}
 use Rattle.st_model.specs.Table.{Table, table}
-use Rattle.st_model.specs.Calls.{Reads, itself}
+use Rattle.st_model.specs.inside.Calls.{Reads, itself}
 use Rattle.st_model.proofs.Runs.{run-then, after-went, after-died}
 use Rattle.st_emit.specs.declared.literal.Literal.{Literal}
 use Rattle.st_emit.specs.declared.literal.Literal.TheVariants.{Symbol, Array}
 use Rattle.st_emit.proofs.Members.{array_view}
-use Rattle.st_emit.specs.Views.{literal_view, literals_view, members_view}
+use Rattle.st_emit.specs.inside.Views.{literal_view, literals_view, members_view}
 use Rattle.st_emit.proofs.Noting.{at_put}
 use Rattle.st_install.specs.declared.plan.Part.{Part as CodePart}
 use Rattle.st_install.specs.declared.plan.Part.TheVariants as part
@@ -34,9 +34,9 @@ use Rattle.st_install.specs.declared.symbol_plan.SymbolPlan.{SymbolPlan}
 use Rattle.st_install.specs.Plans.{Part, There, Made, NewObject, bytes_object, pointers_object}
 use Rattle.st_install.specs.Symbols.{Symbols, NamedSymbol, is_vacant, grown_size, symbol_part, symbols_of, symbols_among, symbols_in, symbol_named, make_symbol, found_or_made, seek_unless, with_symbol, with_symbols, symbols_there, symbols_for}
 use Rattle.st_scope.specs.Texts.{found}
-use Rattle.st_install.specs.Readies.{part_of, parts_of, object_of, objects_of, store_of, stores_of}
-use Rattle.st_install.specs.Told.{named_of}
-use Rattle.st_install.specs.Naming.{nil, all_fields, AreFields, IsNamed, Becomes, with_named, in_field, grown_with, in_array, with_made, Names, TellsFields, TellsNaming, TellsNames, naming}
+use Rattle.st_install.specs.inside.Readies.{part_of, parts_of, object_of, objects_of, store_of, stores_of}
+use Rattle.st_install.specs.inside.Told.{named_of}
+use Rattle.st_install.specs.inside.Naming.{nil, all_fields, AreFields, IsNamed, Becomes, with_named, in_field, grown_with, in_array, with_made, Names, TellsFields, TellsNaming, TellsNames, naming}
 use Rattle.st_install.proofs.Singles.{noted, symbol_noted}
 use Rattle.st_install.proofs.Growth.{parts_of_nil, array_class}
 use Rattle.st_emit.proofs.NamePlaces.{same_text, decides}

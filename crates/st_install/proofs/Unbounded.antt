@@ -9,7 +9,7 @@ use Rattle.st_model.specs.Machine.{Step, answer, ◌>>=◌, ◌>>◌}
 use Rattle.st_model.specs.Steps.{same_value, store_fields, store_bytes}
 use Rattle.st_model.specs.Table.{Table, table, bounded_table}
 use Rattle.st_model.proofs.Tabular.{of_page-as, fetch_field-as, count_fields-as, store_field-as, store_method_field-as, store_byte-as}
-use Rattle.st_memory.specs.Tabular.{bounded_tabular}
+use Rattle.st_memory.specs.inside.Tabular.{bounded_tabular}
 use Rattle.st_install.specs.Plans.{NewObject, Store, Plan}
 use Rattle.st_install.specs.Dictionaries.{Ending, Holds, Vacant, Nowhere, ends_at, seek_at, seek_among, seek_from, count_places, seek, place_of_selector, put_method, put_at, refill_unless, refill_from, refill_among, refill, raised_tally}
 use Rattle.st_install.specs.Installing.{part_value, part_values, store_method_fields, fill_method, fill_by, fill_all, store_all, target, Placing, find_place, adopt, add_at, store_planned, fill_and_store}

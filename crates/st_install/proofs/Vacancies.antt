@@ -7,7 +7,7 @@ use Rattle.st_model.specs.declared.oop.Oop.{Oop}
 use Rattle.st_model.specs.Values.{Small, Ref, value_of, value}
 use Rattle.st_model.specs.Steps.{same_value}
 use Rattle.st_install.specs.Dictionaries.{one_more_if}
-use Rattle.st_install.specs.Naming.{nil}
+use Rattle.st_install.specs.inside.Naming.{nil}
 use Rattle.st_scope.proofs.Lineages.{is_nil, is_other}
 
 decide : (w : ℕ) (c d : Bool) → (w == 2) ≡ c → (w / 2 == 1) ≡ d → (w % 2 == 1) ≡ false → c ≡ d

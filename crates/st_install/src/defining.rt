@@ -1,11 +1,11 @@
 //! A definition is installed, from its text on.
 
 ghost use Rattle.st_chunk.specs.Definitions.{Definition as DefinitionView, IsDefinition};
-ghost use Rattle.st_chunk.specs.ScriptDefinitions.{definition_of};
+ghost use Rattle.st_chunk.specs.inside.ScriptDefinitions.{definition_of};
 ghost use Rattle.st_model.specs.{Machine.{State, World}, Births.Births, Show.Shows};
-ghost use Rattle.st_frames.specs.{declared.frame.Frame.Frame, Shown.{IsReady, shown}};
-ghost use Rattle.st_install.specs.{Defining.installed, Prepareds.IsPrepared};
-ghost use Rattle.st_protocol.specs.Installations.{InstallsAs, Unchanged};
+ghost use Rattle.st_frames.specs.{declared.frame.Frame.Frame, inside.Shown.{IsReady, shown}};
+ghost use Rattle.st_install.specs.{Defining.installed, inside.Prepareds.IsPrepared};
+ghost use Rattle.st_protocol.specs.inside.Installations.{InstallsAs, Unchanged};
 ghost use Rattle.st_protocol.specs.declared.installation.Installation.TheVariants.{Accepted};
 
 use crate::installing::install;

@@ -3,11 +3,11 @@
 ghost use Rattle.std.specs.{Prelude.{◌≡◌, ◌≤◌, ◌+◌, ◌*◌, length}, List.AllByRecursion};
 ghost use Rattle.st_model.specs.{Values.value, Objects.nil, Table.table, View.object_of};
 ghost use Rattle.st_model.specs.Steps.{store_fields, store_bytes};
-ghost use Rattle.st_install.specs.Carried.{Goes, Becomes, KeepsFields, IsShaped, AreShaped, IsPlannable};
-ghost use Rattle.st_install.specs.Goes.{HasHeader};
+ghost use Rattle.st_install.specs.inside.Carried.{Goes, Becomes, KeepsFields, IsShaped, AreShaped, IsPlannable};
+ghost use Rattle.st_install.specs.inside.Goes.{HasHeader};
 ghost use Rattle.st_install.specs.Installing.{part_value, part_values, store_method_fields, fill_method, fill_by, fill_all};
-ghost use Rattle.st_install.specs.Readies.{part_of, parts_of, object_of as planned_of, objects_of};
-ghost use Rattle.st_scope.specs.Meanings.{values};
+ghost use Rattle.st_install.specs.inside.Readies.{part_of, parts_of, object_of as planned_of, objects_of};
+ghost use Rattle.st_scope.specs.inside.Meanings.{values};
 
 use crate::plan::{NewObject, Part};
 use crate::sure::{store_byte, store_field, store_method_field};

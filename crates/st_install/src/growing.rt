@@ -1,11 +1,11 @@
 //! How a method dictionary grows for a selector (chapter 27).
 
 ghost use Rattle.std.specs.Prelude.{◌≡◌, ◌<◌, ◌∷◌, length, replicate, IfOk};
-ghost use Rattle.st_model.specs.{Values.value, Table.table, Calls.{Reads, itself}};
+ghost use Rattle.st_model.specs.{Values.value, Table.table, inside.Calls.{Reads, itself}};
 ghost use Rattle.st_install.specs.Plans.{There};
 ghost use Rattle.st_install.specs.Dictionaries.{count_vacant, is_nearly_full, grows_for, grown_objects};
-ghost use Rattle.st_install.specs.{Readies.{part_of, parts_of}, Naming.nil, Growing.{objects_in, Grows}};
-ghost use Rattle.st_scope.specs.Findings.{Finds};
+ghost use Rattle.st_install.specs.{inside.Readies.{part_of, parts_of}, inside.Naming.nil, inside.Growing.{objects_in, Grows}};
+ghost use Rattle.st_scope.specs.inside.Findings.{Finds};
 
 use crate::places::{Place, count_places, seek};
 use crate::plan::{NewObject, Part};

@@ -2,10 +2,10 @@
 
 ghost use Rattle.std.specs.{Prelude.{◌≡◌, length}, List.AllByRecursion};
 ghost use Rattle.st_model.specs.{Objects.nil, Table.{table, bounded_table}};
-ghost use Rattle.st_install.specs.Carried.{Goes, Becomes, Installs, IsPlannable, AreShaped, HasSmallBodies};
-ghost use Rattle.st_install.specs.{Goes.IsReadyFor, Installing.{fill_and_store, install}};
-ghost use Rattle.st_install.specs.Readies.{HasRoom, objects_of, plan_of};
-ghost use Rattle.st_scope.specs.Meanings.{values};
+ghost use Rattle.st_install.specs.inside.Carried.{Goes, Becomes, Installs, IsPlannable, AreShaped, HasSmallBodies};
+ghost use Rattle.st_install.specs.{inside.Goes.IsReadyFor, Installing.{fill_and_store, install}};
+ghost use Rattle.st_install.specs.inside.Readies.{HasRoom, objects_of, plan_of};
+ghost use Rattle.st_scope.specs.inside.Meanings.{values};
 
 use crate::filling::{fill_all, part_value};
 use crate::making::make_all;

@@ -1,8 +1,8 @@
 //! What joins the calls over a memory's table to those over births, in which nothing is reclaimed or moved.
 
-ghost use Rattle.st_install.specs.Same.{ClassShows, NamesShow, ReadyShows, InstallShows, InstallSettles};
-ghost use Rattle.st_install.specs.Goes.{ReadyInstalls};
-ghost use Rattle.st_install.specs.Gains.{Gains, GainsStay};
+ghost use Rattle.st_install.specs.inside.Same.{ClassShows, NamesShow, ReadyShows, InstallShows, InstallSettles};
+ghost use Rattle.st_install.specs.inside.Goes.{ReadyInstalls};
+ghost use Rattle.st_install.specs.inside.Gains.{Gains, GainsStay};
 
 /// Where a table shows births, `class_of_name`, `names` and `ready` answer over it what they answer over the births, each
 /// object by its pointer, and change nothing. What is then installed in the table of a running machine is what is installed in

@@ -2,8 +2,8 @@
 
 ghost use Rattle.std.specs.Prelude.{◌≡◌, ◌++◌, [], ◌∷◌, length, IfOk, OnOk};
 ghost use Rattle.st_install.specs.Plans.{Made};
-ghost use Rattle.st_install.specs.Readies.{part_of, objects_of};
-ghost use Rattle.st_install.specs.Told.{single_placed, literal_step, literals_step, array_step, Places, PlacesAll};
+ghost use Rattle.st_install.specs.inside.Readies.{part_of, objects_of};
+ghost use Rattle.st_install.specs.inside.Told.{single_placed, literal_step, literals_step, array_step, Places, PlacesAll};
 
 use crate::plan::{NewObject, Part};
 use crate::single::{

@@ -2,10 +2,10 @@
 
 ghost use Rattle.std.specs.{Prelude.{◌≡◌, [], ◌∷◌, length, true}, List.AllByRecursion};
 ghost use Rattle.st_model.specs.{Values.value, Table.bounded_table, View.fits};
-ghost use Rattle.st_install.specs.Carried.{Goes, Becomes, Makes, IsPlannable, AreShaped};
+ghost use Rattle.st_install.specs.inside.Carried.{Goes, Becomes, Makes, IsPlannable, AreShaped};
 ghost use Rattle.st_install.specs.Installing.{size_by, literals_by, make_new, make_all};
-ghost use Rattle.st_install.specs.{Plans.demand_of_all, Readies.{object_of as planned_of, objects_of}};
-ghost use Rattle.st_scope.specs.Meanings.{values};
+ghost use Rattle.st_install.specs.{Plans.demand_of_all, inside.Readies.{object_of as planned_of, objects_of}};
+ghost use Rattle.st_scope.specs.inside.Meanings.{values};
 
 use crate::plan::NewObject;
 use st_memory::Memory;

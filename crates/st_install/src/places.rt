@@ -1,9 +1,9 @@
 //! The places of a method dictionary, and where the search for one ends.
 
 ghost use Rattle.std.specs.Prelude.{◌≡◌, ◌≤◌, ◌<◌, ◌-◌, Ok, IfOk};
-ghost use Rattle.st_model.specs.{Values.value, Table.table, Lookup.half_word, Calls.{Reads, itself}};
+ghost use Rattle.st_model.specs.{Values.value, Table.table, Lookup.half_word, inside.Calls.{Reads, itself}};
 ghost use Rattle.st_install.specs.Dictionaries.{count_places, seek_from, seek};
-ghost use Rattle.st_install.specs.Endings.{SeeksAt, SeeksFrom, ending_of, IsSmallPlace};
+ghost use Rattle.st_install.specs.inside.Endings.{SeeksAt, SeeksFrom, ending_of, IsSmallPlace};
 
 use st_memory::Memory;
 use st_model::{Dead, Oop};

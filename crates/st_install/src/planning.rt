@@ -2,10 +2,10 @@
 
 ghost use Rattle.std.specs.Prelude.{◌≡◌, ◌<◌, IfOk};
 ghost use Rattle.st_model.specs.{Values.value, Table.table};
-ghost use Rattle.st_code.specs.MethodDrafts.{parts_view};
-ghost use Rattle.st_install.specs.{Readies.{part_of, object_of, plan_of, HasRoom}, Carried.HasSmallBodies};
-ghost use Rattle.st_install.specs.PlanDrafts.{plan_from, plan_step, TellsGrowth, TellsPlan};
-ghost use Rattle.st_scope.specs.Findings.{Finds};
+ghost use Rattle.st_code.specs.inside.MethodDrafts.{parts_view};
+ghost use Rattle.st_install.specs.{inside.Readies.{part_of, object_of, plan_of, HasRoom}, inside.Carried.HasSmallBodies};
+ghost use Rattle.st_install.specs.inside.PlanDrafts.{plan_from, plan_step, TellsGrowth, TellsPlan};
+ghost use Rattle.st_scope.specs.inside.Findings.{Finds};
 
 use crate::growing::grown_for;
 use crate::literals::{place_literals, put_object};

@@ -2,8 +2,8 @@
 
 ghost use Rattle.std.specs.Prelude.{◌≡◌, ◌≤◌, ◌-◌, ◌^◌, length};
 ghost use Rattle.st_chunk.specs.Definitions.{IsDefinition};
-ghost use Rattle.st_chunk.specs.ScriptDefinitions.{definition_of};
-ghost use Rattle.st_install.specs.Prepareds.{PreparesAs};
+ghost use Rattle.st_chunk.specs.inside.ScriptDefinitions.{definition_of};
+ghost use Rattle.st_install.specs.inside.Prepareds.{PreparesAs};
 
 use crate::plan::Ready;
 use crate::readiness::ready_for;

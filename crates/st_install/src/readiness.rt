@@ -2,10 +2,10 @@
 
 ghost use Rattle.std.specs.Prelude.{◌≡◌, IfOk};
 ghost use Rattle.st_model.specs.{Values.value, Table.table};
-ghost use Rattle.st_code.specs.MethodDrafts.{parts_view};
-ghost use Rattle.st_install.specs.{Calls.ready, Readies.{plan_of, HasRoom}, PlanDrafts.{planned_step, ready_step}};
-ghost use Rattle.st_install.specs.{Carried.HasSmallBodies, Rooms.TellsReady};
-ghost use Rattle.st_scope.specs.Findings.{Finds};
+ghost use Rattle.st_code.specs.inside.MethodDrafts.{parts_view};
+ghost use Rattle.st_install.specs.{Calls.ready, inside.Readies.{plan_of, HasRoom}, inside.PlanDrafts.{planned_step, ready_step}};
+ghost use Rattle.st_install.specs.{inside.Carried.HasSmallBodies, inside.Rooms.TellsReady};
+ghost use Rattle.st_scope.specs.inside.Findings.{Finds};
 
 use crate::plan::Ready;
 use crate::planning::plan;

@@ -2,9 +2,9 @@
 
 ghost use Rattle.std.specs.Prelude.{◌≤◌, false, Some};
 ghost use Rattle.st_model.specs.{Values.value, Table.table};
-ghost use Rattle.st_install.specs.Carried.{Goes, Becomes};
+ghost use Rattle.st_install.specs.inside.Carried.{Goes, Becomes};
 ghost use Rattle.st_install.specs.Dictionaries.{put_method, put_at, refill_unless, refill_from, refill};
-ghost use Rattle.st_install.specs.Endings.{ending_of, IsSmallPlace};
+ghost use Rattle.st_install.specs.inside.Endings.{ending_of, IsSmallPlace};
 
 use crate::places::{Place, count_places, seek};
 use crate::sure::{field, store_field};

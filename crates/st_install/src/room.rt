@@ -4,8 +4,8 @@ ghost use Rattle.std.specs.Prelude.{◌≡◌, ◌<◌, ◌≤◌, ◌^◌, leng
 ghost use Rattle.st_model.specs.Table.{table};
 ghost use Rattle.st_scope.specs.declared.fault.InstallFault.TheVariants.{OutOfMemory};
 ghost use Rattle.st_install.specs.{Plans.{words_of_new, words_of_all, demand_of_all}, Calls.with_room};
-ghost use Rattle.st_install.specs.{Readies.{object_of, objects_of, plan_of, HasRoom}, Carried.HasSmallBodies};
-ghost use Rattle.st_install.specs.Rooms.{TellsReady};
+ghost use Rattle.st_install.specs.{inside.Readies.{object_of, objects_of, plan_of, HasRoom}, inside.Carried.HasSmallBodies};
+ghost use Rattle.st_install.specs.inside.Rooms.{TellsReady};
 
 use crate::plan::{NewObject, Ready};
 use st_memory::Memory;

@@ -1,11 +1,11 @@
 //! Literals that are a value, or one object that is made for them.
 
 ghost use Rattle.std.specs.Prelude.{◌≡◌, ◌<◌, option_map, IfOk};
-ghost use Rattle.st_model.specs.{Values.{Small, value}, Table.{Table, table}, Calls.Reads};
+ghost use Rattle.st_model.specs.{Values.{Small, value}, Table.{Table, table}, inside.Calls.Reads};
 ghost use Rattle.st_install.specs.{Plans.{pointers_object, bytes_object}, Symbols.symbol_part};
 ghost use Rattle.st_install.specs.Literals.{negated, large_bytes, place_number, place_character, place_string, place_symbol, place_pointer};
-ghost use Rattle.st_install.specs.Readies.{part_of, parts_of, object_of};
-ghost use Rattle.st_install.specs.Told.{IsSingle, TellsSingle, part_placed, owner_step, named_of};
+ghost use Rattle.st_install.specs.inside.Readies.{part_of, parts_of, object_of};
+ghost use Rattle.st_install.specs.inside.Told.{IsSingle, TellsSingle, part_placed, owner_step, named_of};
 
 use crate::plan::{NewObject, Part};
 use st_memory::Memory;

@@ -1,10 +1,10 @@
 //! The sizes of objects that are to be made, and the method among them.
 
 ghost use Rattle.std.specs.Prelude.{◌≡◌, ◌∷◌, IfOk, Ok, nat_le};
-ghost use Rattle.st_model.specs.{Values.value_of, Table.Table, Calls.{Reads, itself}};
+ghost use Rattle.st_model.specs.{Values.value_of, Table.Table, inside.Calls.{Reads, itself}};
 ghost use Rattle.st_install.specs.Plans.{There, method_object, words_of_new};
-ghost use Rattle.st_install.specs.{Shapes.{most_of_one, all_fit, check_size}, Rooms.AreSmall};
-ghost use Rattle.st_install.specs.Readies.{parts_of, object_of, objects_of};
+ghost use Rattle.st_install.specs.{Shapes.{most_of_one, all_fit, check_size}, inside.Rooms.AreSmall};
+ghost use Rattle.st_install.specs.inside.Readies.{parts_of, object_of, objects_of};
 
 use crate::plan::{NewObject, Part};
 use st_model::{Dead, Kind, Oop};

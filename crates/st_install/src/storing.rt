@@ -1,12 +1,12 @@
 //! The stores of an installation: the symbol table, the class's dictionary, selector, method and tally.
 
 ghost use Rattle.std.specs.Prelude.{◌≡◌, Ok, Some};
-ghost use Rattle.st_model.specs.{Values.value, Objects.nil, Table.table, Calls.Reads};
-ghost use Rattle.st_install.specs.{Carried.{Goes, Becomes}, Dictionaries.raised_tally};
-ghost use Rattle.st_install.specs.Endings.{ending_of, IsSmallPlace};
+ghost use Rattle.st_model.specs.{Values.value, Objects.nil, Table.table, inside.Calls.Reads};
+ghost use Rattle.st_install.specs.{inside.Carried.{Goes, Becomes}, Dictionaries.raised_tally};
+ghost use Rattle.st_install.specs.inside.Endings.{ending_of, IsSmallPlace};
 ghost use Rattle.st_install.specs.Installing.{store_all, target, find_place, adopt, add_at, store_planned};
-ghost use Rattle.st_install.specs.{Placings.placing_of, Readies.{stores_of, plan_of}};
-ghost use Rattle.st_scope.specs.Meanings.{values};
+ghost use Rattle.st_install.specs.{inside.Placings.placing_of, inside.Readies.{stores_of, plan_of}};
+ghost use Rattle.st_scope.specs.inside.Meanings.{values};
 
 use crate::filling::part_value;
 use crate::places::{Place, seek};

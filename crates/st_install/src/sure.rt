@@ -3,8 +3,8 @@
 ghost use Rattle.std.specs.Prelude.{◌≡◌, Ok};
 ghost use Rattle.st_model.specs.{Values.value, Formed.IsHeader, Table.table};
 ghost use Rattle.st_model.specs.Steps.{fetch_field, store_field, store_method_field, store_byte};
-ghost use Rattle.st_model.specs.{Calls.Reads, View.{IsKnown, object_of}};
-ghost use Rattle.st_install.specs.Carried.{Goes, Becomes, KeepsFields};
+ghost use Rattle.st_model.specs.{inside.Calls.Reads, View.{IsKnown, object_of}};
+ghost use Rattle.st_install.specs.inside.Carried.{Goes, Becomes, KeepsFields};
 
 use st_memory::Memory;
 use st_model::Oop;

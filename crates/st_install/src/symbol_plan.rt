@@ -2,10 +2,10 @@
 
 ghost use Rattle.std.specs.{Prelude.{◌≡◌, ◌<◌, ◌∷◌, None, length, OnOk}, List.position_or_len};
 ghost use Rattle.st_model.specs.{Values.value, Table.table};
-ghost use Rattle.st_emit.specs.Views.{literal_view, literals_view};
+ghost use Rattle.st_emit.specs.inside.Views.{literal_view, literals_view};
 ghost use Rattle.st_install.specs.Symbols.{is_vacant, symbol_part, symbols_of, symbols_in, with_symbol, symbols_for};
-ghost use Rattle.st_install.specs.{Readies.{part_of, parts_of}, Told.named_of};
-ghost use Rattle.st_install.specs.Naming.{nil, Becomes, with_named, in_field, in_array, with_made, naming, TellsFields, TellsNaming, TellsNames};
+ghost use Rattle.st_install.specs.{inside.Readies.{part_of, parts_of}, inside.Told.named_of};
+ghost use Rattle.st_install.specs.inside.Naming.{nil, Becomes, with_named, in_field, in_array, with_made, naming, TellsFields, TellsNaming, TellsNames};
 
 use crate::literals::put_object;
 use crate::plan::{NewObject, Part, SymbolStore};

@@ -1,7 +1,7 @@
 //! Symbols that are there.
 
 ghost use Rattle.std.specs.Prelude.{◌≡◌, Ok};
-ghost use Rattle.st_model.specs.{Values.value, Table.table, Calls.{Reads, itself}};
+ghost use Rattle.st_model.specs.{Values.value, Table.table, inside.Calls.{Reads, itself}};
 ghost use Rattle.st_model.specs.{declared.page.PageObject.TheVariants.SymbolClass, Primitives.check_class};
 ghost use Rattle.st_install.specs.Symbols.{is_symbol, symbol_named};
 ghost use Rattle.st_scope.specs.Texts.{found};

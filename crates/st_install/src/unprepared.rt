@@ -1,7 +1,7 @@
 //! Why nothing is installed.
 
 ghost use Rattle.std.specs.Prelude.{◌≡◌};
-ghost use Rattle.st_install.specs.Unprepareds.{by_syntax, by_code, by_install};
+ghost use Rattle.st_install.specs.inside.Unprepareds.{by_syntax, by_code, by_install};
 ghost use Rattle.st_install.specs.declared.unprepared.Unprepared.TheVariants.{OutOfMemory};
 
 use st_code::CodeFault;

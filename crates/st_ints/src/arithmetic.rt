@@ -1,7 +1,7 @@
 ghost use Rattle.std.specs.Prelude.{◌≡◌, Some, IfSome, ◌≤◌, ◌≤ℤ◌, pos, negsuc};
 ghost use Rattle.st_model.specs.Integers.{binary};
 ghost use Rattle.st_model.specs.declared.integers.IntAnswer.TheVariants.{Truth};
-ghost use Rattle.st_ints.specs.Answers.{IsOfSmall};
+ghost use Rattle.st_ints.specs.inside.Answers.{IsOfSmall};
 
 use crate::division::{exact_quotient, modulo, quotient, quotient_down};
 use crate::small_shift::small_shift;

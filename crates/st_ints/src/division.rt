@@ -1,6 +1,6 @@
 ghost use Rattle.std.specs.Prelude.{◌≡◌, IfSome, ◌≤◌, false, unsigned_abs, ◌-ℤ◌, ◌*ℤ◌};
 ghost use Rattle.st_model.specs.Integers.{is_zero, floor_quotient, exact_quotient, modulo, quotient_down, quotient};
-ghost use Rattle.st_ints.specs.Answers.{IsOfSmall};
+ghost use Rattle.st_ints.specs.inside.Answers.{IsOfSmall};
 
 use crate::sums::within_range;
 use st_model::IntAnswer;

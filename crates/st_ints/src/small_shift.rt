@@ -1,6 +1,6 @@
 ghost use Rattle.std.specs.Prelude.{◌≡◌, IfSome, ◌≤◌, ◌<◌, ◌≤ℤ◌, pos, negsuc, unsigned_abs, ◌^◌};
 ghost use Rattle.st_model.specs.Integers.{within_range, shifted};
-ghost use Rattle.st_ints.specs.Answers.{IsOfSmall};
+ghost use Rattle.st_ints.specs.inside.Answers.{IsOfSmall};
 
 use crate::sums::{product, within_range};
 use st_model::IntAnswer;

@@ -1,6 +1,6 @@
 ghost use Rattle.std.specs.Prelude.{◌≡◌, IfSome, ◌≤◌, ◌+ℤ◌, ◌-ℤ◌, ◌*ℤ◌, unsigned_abs};
 ghost use Rattle.st_model.specs.Integers.{within_range};
-ghost use Rattle.st_ints.specs.Answers.{IsOfSmall};
+ghost use Rattle.st_ints.specs.inside.Answers.{IsOfSmall};
 
 use st_model::IntAnswer;
 

@@ -8,19 +8,19 @@ use Rattle.st_model.specs.Values.{Value, value, word, value_of}
 use Rattle.st_model.specs.Objects.{nil}
 use Rattle.st_model.specs.Machine.{State, Transition, Died, Went, empty_world, ◌>>=◌}
 use Rattle.st_model.specs.Table.{Table, table, bounded_table}
-use Rattle.st_model.specs.Calls.{Reads, Does, itself, transition_of}
+use Rattle.st_model.specs.inside.Calls.{Reads, Does, itself, transition_of}
 use Rattle.st_model.specs.View.{View}
 use Rattle.st_model.specs.Start.{idle_registers, idle_state}
 use Rattle.st_model.specs.Contexts.{fetch_scheduled_registers}
 use Rattle.st_model.proofs.Runs.{run-then, run-next, after-went, after-died, run-answer}
 use Rattle.st_frames.specs.declared.frame.Frame.{Frame}
 use Rattle.st_frames.specs.declared.registers.Registers.{Registers as Words}
-use Rattle.st_frames.specs.Rows.{row_state, registers_in}
-use Rattle.st_frames.specs.Shown.{IsReady, registers_of, shown, FetchesFrame}
+use Rattle.st_frames.specs.inside.Rows.{row_state, registers_in}
+use Rattle.st_frames.specs.inside.Shown.{IsReady, registers_of, shown, FetchesFrame}
 use Rattle.st_kernel_text.specs.Parts.{Start}
 use Rattle.st_kernel.specs.Starting.{global_value, method_of, in_new_process, fetch_if, begin_by}
-use Rattle.st_kernel.specs.Built.{IsBegun}
-use Rattle.st_kernel.specs.Following.{idle_frame, Ends}
+use Rattle.st_kernel.specs.inside.Answered.{IsBegun}
+use Rattle.st_kernel.specs.inside.Following.{idle_frame, Ends}
 
 pub died : (o : Transition (State Table) Bool) (k : Dead) (r : Result Bool Dead) (v : View) → o ≡ Died k → r ≡ Err k → Ends o r v
 died o k r v e f = rw (e, f) tt

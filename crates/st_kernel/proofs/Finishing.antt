@@ -11,7 +11,7 @@ use Rattle.st_kernel_text.specs.Parts.{Side, Start, Part, start}
 use Rattle.st_protocol.specs.Installing.{Install}
 use Rattle.st_kernel.specs.Starting.{begin_by}
 use Rattle.st_kernel.specs.Built.{Built, Fault, fault_at, cause_number, finished, begun_as, begun_in, built_from}
-use Rattle.st_kernel.specs.Following.{IsUnderway, Ends}
+use Rattle.st_kernel.specs.inside.Following.{IsUnderway, Ends}
 
 dead_as : (n : ℕ) (o : Transition (State Table) Bool) (k : Dead) (w : View) → Ends o (Err k) w → begun_as n o ≡ fault_at n 6
 dead_as n (Died cause) k w e = refl

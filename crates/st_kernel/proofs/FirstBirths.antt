@@ -28,7 +28,7 @@ use Rattle.st_first_objects.specs.Plans.{Plan, plan}
 use Rattle.st_first_objects.specs.Contents.{Field, Empty, Number, To, Body, Fields, Bytes, NoWords, content_of, content}
 use Rattle.st_first_objects.specs.Pointers.{place, place_at, place_in, value_in, object, object_by, object_in}
 use Rattle.st_first_objects.specs.First.{head_in, first_view, fit_beside, has_room}
-use Rattle.st_first_objects.specs.Placing.{Underway, IsBegun}
+use Rattle.st_first_objects.specs.inside.Placing.{Underway, IsBegun}
 use Rattle.st_first_objects.proofs.Complete.{first_methods, first_many, complete, made}
 use Rattle.st_first_objects.proofs.Lists.{drop_got}
 use Rattle.st_first_objects.proofs.Places.{same_turn, place_within}

@@ -28,8 +28,8 @@ use Rattle.st_install.proofs.GoesSeeking.{bounded_reads}
 use Rattle.st_kernel_text.specs.Parts.{Start}
 use Rattle.st_kernel.specs.Starting.{method_of, first_words, fill_first_context, schedule, schedule_method, in_new_context, in_new_process, fetch_if, begin_by}
 use Rattle.st_kernel.specs.Built.{Built, Fault, fault_at, begun_as, begun_in}
-use Rattle.st_kernel.specs.Following.{Ends}
-use Rattle.st_kernel.specs.Found.{Finds, IsFound, HasScheduler, scheduler_association, Begins, IsMissing}
+use Rattle.st_kernel.specs.inside.Following.{Ends}
+use Rattle.st_kernel.specs.inside.Found.{Finds, IsFound, HasScheduler, scheduler_association, Begins, IsMissing}
 use Rattle.st_install.proofs.GoesMaking.{placed_stands}
 use Rattle.st_install.proofs.GoesStoring.{there_at}
 

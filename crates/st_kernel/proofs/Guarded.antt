@@ -11,7 +11,7 @@ use Rattle.st_model.specs.Saving.{settled_after}
 use Rattle.st_model.specs.Show.{IsKept}
 use Rattle.st_model.proofs.BirthLemmas.{borne_before, object_within}
 use Rattle.st_model.proofs.SettledLemmas.{settled-borne, object_born-settled}
-use Rattle.st_simulation.specs.Laws.{Runs}
+use Rattle.st_simulation.specs.inside.Laws.{Runs}
 use Rattle.st_simulation.proofs.Same.{Anything, IsLiveOption}
 use Rattle.st_scan.specs.Views.{MethodView}
 use Rattle.st_emit.specs.Names.{NamesView}
@@ -23,8 +23,8 @@ use Rattle.st_install.specs.Plans.{Plan}
 use Rattle.st_grammar.specs.Syntax.{syntax}
 use Rattle.st_install.specs.Installing.{install}
 use Rattle.st_install.specs.Calls.{ready}
-use Rattle.st_install.specs.SamePlans.{IsLiveClass}
-use Rattle.st_install.specs.Same.{RunsOn, IsReady}
+use Rattle.st_install.specs.inside.SamePlans.{IsLiveClass}
+use Rattle.st_install.specs.inside.Same.{RunsOn, IsReady}
 use Rattle.st_install.specs.Defining.{of_syntax, of_code, of_install, Prepared, on_ok, prepare, carry_out, define, outcome_of, installed}
 use Rattle.st_install.proofs.Joining.{refuses_at, goes_at}
 use Rattle.st_install.proofs.SameCalls.{class_shows, names_show, ready_shows}

@@ -27,7 +27,7 @@ use Rattle.st_install.specs.Dictionaries.{Ending, Holds, Vacant, Nowhere, ends_a
 use Rattle.st_install.specs.Planning.{method_number, objects_with_method, grown_number, grown_if, sized, plan_objects, plan}
 use Rattle.st_install.specs.Shapes.{check_size}
 use Rattle.st_install.specs.Calls.{is_crowded, room_or, with_room, planned_for, planned, ready}
-use Rattle.st_install.specs.SamePlans.{IsLiveClass}
+use Rattle.st_install.specs.inside.SamePlans.{IsLiveClass}
 use Rattle.st_kernel.proofs.Keeping.{IsIn, IsOther, Leads, Keeps, then_keeps, next_keeps, answer_keeps, die_keeps, keeps_as, tried_keeps, check_keeps, or_die_keeps, half_keeps, object_keeps, page_keeps, class_keeps, field_keeps, count_keeps, fields_keep, check_class_keeps}
 
 -- LISTS

@@ -21,8 +21,8 @@ use Rattle.st_kernel_text.specs.Definitions.{definition_by}
 use Rattle.st_protocol.specs.Installing.{Installed, Refused, Accepted}
 use Rattle.st_install.specs.Defining.{installed}
 use Rattle.st_kernel.specs.Built.{Built, Fault, fault_at, cause_number, unfinished, finished, begun_as, begun_in, with_installed, built_from, without_room}
-use Rattle.st_kernel.specs.Found.{IsFound, IsPointers, HasScheduler}
-use Rattle.st_kernel.specs.Lost.{arrival_behind, arrival_from, image_of, IsLost, IsBare}
+use Rattle.st_kernel.specs.inside.Found.{IsFound, IsPointers, HasScheduler}
+use Rattle.st_kernel.specs.inside.Lost.{arrival_behind, arrival_from, image_of, IsLost, IsBare}
 use Rattle.st_kernel.proofs.KeepingInstalls.{Fixed}
 use Rattle.st_kernel.proofs.Guarded.{Holds, accepted}
 use Rattle.st_kernel.proofs.Found.{missing_over}

@@ -6,7 +6,7 @@ use Rattle.st_model.specs.Machine.{State, Step, answer, ◌>>=◌}
 use Rattle.st_model.specs.Table.{Table, table, bounded_table}
 use Rattle.st_model.specs.Methods.{flag_of, extension_arguments, arguments_by_extension, arguments_by, method_arguments}
 use Rattle.st_model.proofs.Tabular.{method_header-as, literal_from_last-as}
-use Rattle.st_memory.specs.Tabular.{bounded_tabular}
+use Rattle.st_memory.specs.inside.Tabular.{bounded_tabular}
 
 extension-same : (v : Value) → arguments_by_extension bounded_table v ≡ arguments_by_extension table v
 unfolding arguments_by_extension

@@ -2,7 +2,7 @@
 use Rattle.std.proofs.Common.{◌≡◌, ◌≤◌, ◌<◌, ◌+◌, ◌-◌, ◌∙◌, List, [], ◌∷◌, length, take, drop, get_or, refl, sym, ap, arith}
 use Rattle.std.proofs.lemmas.List.{drop_more, take_rest}
 use Rattle.st_kernel_text.specs.declared.part.Part as declared
-use Rattle.st_kernel_text.specs.Views.{part_of, parts_of}
+use Rattle.st_kernel_text.specs.inside.Views.{part_of, parts_of}
 
 module _ (rest : List declared.Part) (x : declared.Part) (there : 1 ≤ length rest) (is : x ≡ get_or rest 0 x) where
   rest_is : rest ≡ x ∷ take (length rest - 1) (drop 1 rest)

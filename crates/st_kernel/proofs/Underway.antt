@@ -8,17 +8,17 @@ use Rattle.st_model.specs.Births.{Births}
 use Rattle.st_model.specs.View.{View}
 use Rattle.st_model.specs.Show.{Shows}
 use Rattle.st_model.specs.Start.{idle_state}
-use Rattle.st_frames.specs.Shown.{shown}
+use Rattle.st_frames.specs.inside.Shown.{shown}
 use Rattle.st_chunk.specs.Definitions.{Definition}
 use Rattle.st_kernel_text.specs.declared.cause.Cause.{Cause}
 use Rattle.st_kernel_text.specs.Parts.{Class, Pool, Side, Part, class, pool, global, opening, header, method, closing, start}
 use Rattle.st_protocol.specs.Installing.{Install, Installed, Refused, Accepted}
-use Rattle.st_protocol.specs.Installations.{InstallsAs}
+use Rattle.st_protocol.specs.inside.Installations.{InstallsAs}
 use Rattle.st_protocol.specs.declared.installation.Installation.{Installation}
 use Rattle.st_protocol.specs.declared.installation.Installation.TheVariants as installation
 use Rattle.st_kernel_text.specs.Definitions.{definition_by}
 use Rattle.st_kernel.specs.Built.{Built, Fault, fault_at, with_installed, unfinished, built_from}
-use Rattle.st_kernel.specs.Following.{idle_frame, IsUnderway}
+use Rattle.st_kernel.specs.inside.Following.{idle_frame, IsUnderway}
 
 -- it installs nothing, and names no side
 abbrev pub IsPlain : Part → Type 0

@@ -13,7 +13,7 @@ use Rattle.st_kernel_text.specs.Texts.{Account, account}
 use Rattle.st_first_objects.specs.First.{first_view, view_of, has_room}
 use Rattle.st_protocol.specs.Installing.{Install}
 use Rattle.st_kernel.specs.Built.{Built, Fault, no_side, built_from, without_room, built_by, built}
-use Rattle.st_kernel.specs.Following.{IsUnderway, IsQuiet}
+use Rattle.st_kernel.specs.inside.Following.{IsUnderway, IsQuiet}
 
 -- where nothing is held, all is ready
 held_nothing : (v : View) → v.held ≡ nothing_held → IsQuiet v

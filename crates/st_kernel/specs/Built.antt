@@ -1,15 +1,10 @@
 -- The image of a kernel text, or the first chunk at which it is wrong.
-use Rattle.std.specs.Prelude.{◌≡◌, ⊤, ℕ, ◌+◌, List, [], ◌∷◌, Bool, true, false, Option, Some, None, Result, Ok, Err, if◌then◌else◌}
-use Rattle.st_model.specs.Machine.{Head, State, Transition, Died, Went, empty_world}
+use Rattle.std.specs.Prelude.{ℕ, ◌+◌, List, [], ◌∷◌, Bool, true, false, Option, Some, None, Result, Ok, Err, if◌then◌else◌}
+use Rattle.st_model.specs.Machine.{Head, State, Transition, Died, Went}
 use Rattle.st_model.specs.Births.{Births}
-use Rattle.st_model.specs.Objects.{nil}
-use Rattle.st_model.specs.Table.{Table, table}
-use Rattle.st_model.specs.Contexts.{fetch_scheduled_registers}
+use Rattle.st_model.specs.Table.{Table}
 use Rattle.st_model.specs.Show.{show, raised}
-use Rattle.st_model.specs.View.{View}
 use Rattle.st_model.specs.Start.{idle_state}
-use Rattle.st_frames.specs.declared.frame.Frame.{Frame}
-use Rattle.st_frames.specs.Shown.{IsReady, shown}
 use Rattle.st_kernel_text.specs.declared.cause.Cause.{Cause}
 use Rattle.st_kernel_text.specs.declared.cause.Cause.TheVariants.{Form, Name, Variables, Missing}
 use Rattle.st_kernel_text.specs.Parts.{Side, Start, Part, opening, header, method, start}
@@ -17,8 +12,6 @@ use Rattle.st_kernel_text.specs.Definitions.{definition_by}
 use Rattle.st_kernel_text.specs.Texts.{Account, account}
 use Rattle.st_first_objects.specs.First.{first_view, has_room}
 use Rattle.st_protocol.specs.Installing.{Install, Installed, Refused, Accepted}
-use Rattle.st_kernel.specs.declared.fault.KernelFault.{KernelFault}
-use Rattle.st_kernel.specs.declared.fault.KernelFault.TheVariants.{At, OutOfMemory}
 use Rattle.st_kernel.specs.Starting.{begin_by}
 
 -- an image: its objects, and what its head says
@@ -105,19 +98,3 @@ built_by install a =
 
 abbrev pub built : Install → (text : List ℕ) → Result Built Fault
 built install text = built_by install (account text)
-
--- WHAT IS ANSWERED
-
--- what a memory contains is the image
-abbrev pub IsBuilt : Result Built Fault → View → Type 0
-IsBuilt r v = (b : Built) × (r ≡ Ok b) × (v.objects ≡ b.objects) × (v.head ≡ b.head)
-
--- A machine can begin: nothing is held but registers, and these are the ones that are fetched from the first process.
-pub record IsBegun (v : View) : Type 0 where
-  pub frame : Frame
-  pub held : IsReady v frame (empty_world nil)
-  pub fetched : (fetch_scheduled_registers table).run (idle_state v) ≡ Went tt (shown v frame (empty_world nil))
-
-abbrev pub IsFaultOf : Result Built Fault → KernelFault → Type 0
-IsFaultOf r (At chunk cause) = r ≡ Err (record { chunk = chunk; cause = cause })
-IsFaultOf r OutOfMemory = ⊤

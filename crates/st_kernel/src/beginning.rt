@@ -1,9 +1,9 @@
 // The beginning of a machine.
 ghost use Rattle.std.specs.Prelude.{◌≡◌, ◌+◌, true, Ok, Option, Result, IfOk, IfErr};
 ghost use Rattle.st_model.specs.{Objects.nil, Machine.empty_world, Start.idle_state};
-ghost use Rattle.st_kernel_text.specs.Views.{start_of};
-ghost use Rattle.st_kernel.specs.{Starting.begin_by, Built.IsBegun, Found.IsMissing};
-ghost use Rattle.st_kernel.specs.Following.{IsQuiet, Ends};
+ghost use Rattle.st_kernel_text.specs.inside.Views.{start_of};
+ghost use Rattle.st_kernel.specs.{Starting.begin_by, inside.Answered.IsBegun, inside.Found.IsMissing};
+ghost use Rattle.st_kernel.specs.inside.Following.{IsQuiet, Ends};
 
 use crate::finding::{global_value, method_of};
 use crate::scheduling::{Run, in_new_process};

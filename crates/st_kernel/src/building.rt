@@ -1,10 +1,11 @@
 // The image of a kernel text.
 ghost use Rattle.std.specs.Prelude.{◌≡◌, ◌≤◌, ◌+◌, ◌-◌, ◌^◌, ◌∷◌, List, Option, length, IfOk, IfErr, MatchResult};
-ghost use Rattle.st_image.specs.Back.{CanStart};
+ghost use Rattle.st_image.specs.inside.Back.{CanStart};
 ghost use Rattle.st_kernel_text.specs.{declared.cause.Cause.{Cause as ACause}, Parts.{Part as APart}};
-ghost use Rattle.st_kernel_text.specs.Views.{part_of, parts_of};
+ghost use Rattle.st_kernel_text.specs.inside.Views.{part_of, parts_of};
 ghost use Rattle.st_install.specs.Defining.{installed};
-ghost use Rattle.st_kernel.specs.Built.{built, without_room, IsBuilt, IsBegun, IsFaultOf};
+ghost use Rattle.st_kernel.specs.Built.{built, without_room};
+ghost use Rattle.st_kernel.specs.inside.Answered.{IsBuilt, IsBegun, IsFaultOf};
 
 use crate::fault::{KernelFault, unfinished};
 use crate::following::follow;

@@ -1,7 +1,8 @@
 // Why no image is built.
 ghost use Rattle.std.specs.Prelude.{◌≡◌};
 ghost use Rattle.st_kernel.specs.declared.fault.KernelFault.TheVariants.{OutOfMemory};
-ghost use Rattle.st_kernel.specs.Built.{cause_number, unfinished, IsFaultOf};
+ghost use Rattle.st_kernel.specs.Built.{cause_number, unfinished};
+ghost use Rattle.st_kernel.specs.inside.Answered.{IsFaultOf};
 
 use st_kernel_text::Cause;
 use std::alloc::AllocError;

@@ -1,6 +1,6 @@
 // What a start finds in an image.
 ghost use Rattle.std.specs.Prelude.{◌≡◌, IfOk, true};
-ghost use Rattle.st_model.specs.{Values.value, Steps.or_die, Table.{Table, table}, Calls.Reads};
+ghost use Rattle.st_model.specs.{Values.value, Steps.or_die, Table.{Table, table}, inside.Calls.Reads};
 ghost use Rattle.st_model.specs.View.{IsKnown, is_live, table_of};
 ghost use Rattle.st_scope.specs.Texts.{found};
 ghost use Rattle.st_kernel.specs.Starting.{global_value, symbol_of, unary_method, method_of};

@@ -1,11 +1,12 @@
 // Following a kernel text over the memory of its first objects.
 ghost use Rattle.std.specs.Prelude.{◌≡◌, ◌≤◌, ◌<◌, ◌-◌, ◌^◌, ◌∷◌, List, Result, IfOk, IfErr, length};
-ghost use Rattle.st_kernel_text.specs.{Parts.{Part as APart, start}, Views.{start_of, parts_of}};
+ghost use Rattle.st_kernel_text.specs.{Parts.{Part as APart, start}, inside.Views.{start_of, parts_of}};
 ghost use Rattle.st_kernel_text.specs.{Parts.{Side as ASide}, Definitions.AreDefinitions};
 ghost use Rattle.st_install.specs.Defining.{installed};
 ghost use Rattle.st_protocol.specs.Installing.{Install};
-ghost use Rattle.st_kernel.specs.Built.{Built, Fault, no_side, IsBegun, IsFaultOf};
-ghost use Rattle.st_kernel.specs.Following.{side_in, IsUnderway, Finishes, IsQuiet};
+ghost use Rattle.st_kernel.specs.Built.{Built, Fault, no_side};
+ghost use Rattle.st_kernel.specs.inside.Answered.{IsBegun, IsFaultOf};
+ghost use Rattle.st_kernel.specs.inside.Following.{side_in, IsUnderway, Finishes, IsQuiet};
 
 use crate::beginning::begin;
 use crate::fault::{KernelFault, cause_number, unfinished};

@@ -1,6 +1,6 @@
 // Laws of the start.
-ghost use Rattle.st_kernel.specs.Found.{FoundBegins, MissingStart};
-ghost use Rattle.st_kernel.specs.Lost.{LostStart, BareStart};
+ghost use Rattle.st_kernel.specs.inside.Found.{FoundBegins, MissingStart};
+ghost use Rattle.st_kernel.specs.inside.Lost.{LostStart, BareStart};
 
 /// A start that is found begins a process, or there is no room for it: in a whole memory with a scheduler no step of it dies. So cause 6
 /// says that the start isn't found.

@@ -1,11 +1,11 @@
 // One part more.
 ghost use Rattle.std.specs.Prelude.{◌≡◌, ◌∷◌, [], List, Option, Result};
-ghost use Rattle.st_chunk.specs.{Definitions.IsDefinition, ScriptDefinitions.definition_of};
+ghost use Rattle.st_chunk.specs.{Definitions.IsDefinition, inside.ScriptDefinitions.definition_of};
 ghost use Rattle.st_kernel_text.specs.{declared.cause.Cause.{Cause as ACause}, Parts.{Part as APart, method}};
-ghost use Rattle.st_kernel_text.specs.{Views.{part_of, side_of}, Definitions.{AreDefinitions, definition_by}};
+ghost use Rattle.st_kernel_text.specs.{inside.Views.{part_of, side_of}, Definitions.{AreDefinitions, definition_by}};
 ghost use Rattle.st_install.specs.Defining.{installed};
 ghost use Rattle.st_kernel.specs.Built.{Built, Fault};
-ghost use Rattle.st_kernel.specs.Following.{side_in, IsUnderway, Installs, GoesOn, StaysGood, IsQuiet};
+ghost use Rattle.st_kernel.specs.inside.Following.{side_in, IsUnderway, Installs, GoesOn, StaysGood, IsQuiet};
 
 use crate::fault::KernelFault;
 use st_chunk::Definition;

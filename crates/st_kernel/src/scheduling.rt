@@ -2,8 +2,8 @@
 ghost use Rattle.std.specs.Prelude.{◌≡◌, ◌≢◌, ◌<◌, ◌≤◌, ◌+◌, IfOk};
 ghost use Rattle.st_model.specs.{Values.{Ref, word}, Objects.place_of};
 ghost use Rattle.st_model.specs.declared.page.PageObject.TheVariants.{MethodClass};
-ghost use Rattle.st_model.specs.{Storage.check_not_method_class, Calls.itself};
-ghost use Rattle.st_frames.specs.Rows.{RowReads, RowDoes, Takes};
+ghost use Rattle.st_model.specs.{Storage.check_not_method_class, inside.Calls.itself};
+ghost use Rattle.st_frames.specs.inside.Rows.{RowReads, RowDoes, Takes};
 ghost use Rattle.st_kernel.specs.Starting.{first_words, fill_first_context, schedule, schedule_method, in_new_context, in_new_process};
 
 use st_frames::{Registers, page, small};

@@ -16,7 +16,7 @@ use Rattle.st_kernel_text.specs.declared.cause.Cause.TheVariants.{Form}
 use Rattle.st_kernel_text.specs.declared.cause.Stop.{Stop}
 use Rattle.st_kernel_text.specs.declared.cause.Stop.TheVariants.{At, OutOfMemory}
 use Rattle.st_kernel_text.specs.Texts.{Account, is_end, account}
-use Rattle.st_kernel_text.specs.Reading.{State, Tells, account_behind, account_left, stopped, end_of, cut_from}
+use Rattle.st_kernel_text.specs.inside.Reading.{State, Tells, account_behind, account_left, stopped, end_of, cut_from}
 
 -- the next byte may be of the chunk
 abbrev pub IsOpen : Phase → Type 0

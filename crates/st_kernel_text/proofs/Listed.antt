@@ -8,7 +8,7 @@ use Rattle.indexmap.specs.IndexMap.{insert_entry}
 use Rattle.indexmap.specs.IndexSet.{insert_key}
 use Rattle.st_kernel_text.specs.declared.cause.Cause.TheVariants.{Name}
 use Rattle.st_kernel_text.specs.declared.named.Named.{Named}
-use Rattle.st_kernel_text.specs.Lists.{names_of, variables_of, texts_of}
+use Rattle.st_kernel_text.specs.inside.Lists.{names_of, variables_of, texts_of}
 use Rattle.st_kernel_text.specs.Known.{is_variable, with_variable}
 
 pub lookup_names : (name : List ℕ) (es : List (Vec ℕ Global × Named)) → lookup (λ k. bytes_eq name k.items) es ≡ lookup (λ other. bytes_eq name other) (names_of es)

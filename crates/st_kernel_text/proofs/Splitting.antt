@@ -8,7 +8,7 @@ use Rattle.st_chunk.proofs.Cases.{by_test}
 use Rattle.st_chunk.specs.Texts.{is_blank}
 use Rattle.st_chunk.specs.Groups.{after_blanks, is_name}
 use Rattle.st_kernel_text.specs.Words.{words, words_from, no_blank, names_in}
-use Rattle.st_kernel_text.specs.Lists.{texts_of}
+use Rattle.st_kernel_text.specs.inside.Lists.{texts_of}
 
 one : (n : ℕ) → 1 + n ≡ suc n
 one n = omega arith

@@ -1,11 +1,7 @@
 pub mod Words
-pub mod Tables
 pub mod Parts
 pub mod Forms
 pub mod Known
 pub mod Texts
-pub mod Lists
-pub mod Views
-pub mod Reading
-pub mod States
 pub mod Definitions
+pub mod inside

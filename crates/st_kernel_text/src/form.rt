@@ -4,7 +4,7 @@ ghost use Rattle.st_chunk.specs.Texts.{most};
 ghost use Rattle.st_kernel_text.specs.declared.place.Place.TheVariants.{Declarations, Header as InHeader, Methods, Groups};
 ghost use Rattle.st_kernel_text.specs.Words.{words, words as words_in};
 ghost use Rattle.st_kernel_text.specs.Forms.{shape_named, keyword_named, class_by, class_in, pool_in, global_in, start_in, start_by, declaration_by};
-ghost use Rattle.st_kernel_text.specs.{Forms.{part_at, formed_at}, Views.part_of};
+ghost use Rattle.st_kernel_text.specs.{Forms.{part_at, formed_at}, inside.Views.part_of};
 
 use crate::keyword::Keyword;
 use crate::part::{Class, Part, Pool, Side, Start};

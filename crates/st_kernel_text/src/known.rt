@@ -2,8 +2,8 @@
 ghost use Rattle.std.specs.{Prelude.{◌≡◌, ◌+◌, false, length, Ok}, List.list_all};
 ghost use Rattle.st_kernel_text.specs.Known.{nothing, named, is_known, layout_of, inherited, most_fields, with_name, with_layout, with_inherited};
 ghost use Rattle.st_kernel_text.specs.Known.{with_class, with_pool, with_global, fits, has_class, has_all, complete, if_known, known_behind};
-ghost use Rattle.st_kernel_text.specs.{Views.{class_of, pool_of, part_of}, Lists.{names_now, needs_of, texts_of}};
-ghost use Rattle.st_kernel_text.specs.Reading.{Leaves};
+ghost use Rattle.st_kernel_text.specs.{inside.Views.{class_of, pool_of, part_of}, inside.Lists.{names_now, needs_of, texts_of}};
+ghost use Rattle.st_kernel_text.specs.inside.Reading.{Leaves};
 
 use crate::cause::{Cause, Stop};
 use crate::named::{Layout, Named};
@@ -54,7 +54,7 @@ pub(crate) struct Known {
 
 impl Model for Known {
     ghost use Rattle.st_kernel_text.specs.Known.{Known};
-    ghost use Rattle.st_kernel_text.specs.Lists.{names_of};
+    ghost use Rattle.st_kernel_text.specs.inside.Lists.{names_of};
 
     ghost Value = { Known };
 

@@ -1,8 +1,8 @@
 // A whole kernel text.
 ghost use Rattle.std.specs.Prelude.{◌≡◌, ◌++◌, ◌∷◌, List, ℕ, IfOk};
 ghost use Rattle.st_kernel_text.specs.{Forms.behind_part, Texts.account};
-ghost use Rattle.st_kernel_text.specs.Reading.{Tells, begun, account_behind, end_of, complete};
-ghost use Rattle.st_kernel_text.specs.{Views.{account_of, part_of}, States.state_of};
+ghost use Rattle.st_kernel_text.specs.inside.Reading.{Tells, begun, account_behind, end_of, complete};
+ghost use Rattle.st_kernel_text.specs.{inside.Views.{account_of, part_of}, inside.States.state_of};
 
 use crate::cause::{Cause, Stop};
 use crate::form::part_at;

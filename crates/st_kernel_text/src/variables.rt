@@ -1,8 +1,8 @@
 // The names of variables.
 ghost use Rattle.std.specs.Prelude.{◌≡◌, []};
 ghost use Rattle.st_kernel_text.specs.Known.{with_variables, with_variable};
-ghost use Rattle.st_kernel_text.specs.Lists.{texts_of};
-ghost use Rattle.st_kernel_text.specs.Reading.{Leaves};
+ghost use Rattle.st_kernel_text.specs.inside.Lists.{texts_of};
+ghost use Rattle.st_kernel_text.specs.inside.Reading.{Leaves};
 
 use crate::cause::{Cause, Stop};
 use crate::part::Text;
@@ -18,7 +18,7 @@ pub(crate) struct Variables {
 
 impl Model for Variables {
     ghost use Rattle.std.specs.Prelude.{ℕ, List};
-    ghost use Rattle.st_kernel_text.specs.Lists.{variables_of};
+    ghost use Rattle.st_kernel_text.specs.inside.Lists.{variables_of};
 
     ghost Value = { List (ℕ × List ℕ) };
 

@@ -3,7 +3,7 @@ ghost use Rattle.std.specs.Prelude.{◌≡◌, ◌<◌, ◌≤◌, ◌∷◌, []
 ghost use Rattle.std.specs.{Char.{is_ascii_alphabetic, is_ascii_alphanumeric}, List.{list_all, prefix_len}};
 ghost use Rattle.std.specs.Option.{option_map};
 ghost use Rattle.st_chunk.specs.Groups.{begins, is_name};
-ghost use Rattle.st_kernel_text.specs.{Words.{words, no_blank, names_in}, Lists.texts_of};
+ghost use Rattle.st_kernel_text.specs.{Words.{words, no_blank, names_in}, inside.Lists.texts_of};
 
 use crate::part::Text;
 use st_chunk::{after_blanks, is_blank};

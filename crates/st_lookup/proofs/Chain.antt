@@ -10,9 +10,9 @@ use Rattle.st_model.specs.Machine.{ObjectMemory, State, Went, Step, answer, die,
 use Rattle.st_model.specs.Steps.{fetch_field, of_page, same_value}
 use Rattle.st_model.specs.Lookup.{method_in_class, or_above, look_in_class, unless_nil, end_at_nil, find_within, find}
 use Rattle.st_model.specs.Table.{Table, IsTabular}
-use Rattle.st_model.specs.Calls.{Reads}
+use Rattle.st_model.specs.inside.Calls.{Reads}
 use Rattle.st_model.proofs.Runs.{run-then, after-went, after-died}
-use Rattle.st_lookup.specs.Places.{found_word}
+use Rattle.st_lookup.specs.inside.Places.{found_word}
 
 -- what the classes from one on give is what the first gives, with so many that may still come
 pub record LeftClasses (m : ObjectMemory Table) (x first : Value) (left : ℕ) (class : Value) (t : Table) : Type 0 where

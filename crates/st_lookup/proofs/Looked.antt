@@ -5,7 +5,7 @@ use Rattle.std.proofs.lemmas.Option.{slice_get_within, get_or_from_slice_get, sl
 use Rattle.std.proofs.lemmas.List.{get_or-set_same, get_or-set_other}
 use Rattle.st_model.specs.Table.{Table}
 use Rattle.st_lookup.specs.declared.entry.Entry.{Entry}
-use Rattle.st_lookup.specs.Remembered.{IsRemembered, AllRemembered, Grows}
+use Rattle.st_lookup.specs.inside.Remembered.{IsRemembered, AllRemembered, Grows}
 
 pub grows_then : (a b c : List ℕ) → Grows a b → Grows b c → Grows a c
 grows_then a b c g h k e = h k (g k e)

@@ -8,9 +8,9 @@ use Rattle.st_model.specs.Values.{value, word}
 use Rattle.st_model.specs.Machine.{Went, is_there}
 use Rattle.st_model.specs.Lookup.{find}
 use Rattle.st_model.specs.Table.{Table, table, bounded_table}
-use Rattle.st_model.specs.Calls.{Reads}
+use Rattle.st_model.specs.inside.Calls.{Reads}
 use Rattle.st_model.specs.View.{is_live}
-use Rattle.st_lookup.specs.Places.{found_word, found}
+use Rattle.st_lookup.specs.inside.Places.{found_word, found}
 use Rattle.st_memory.proofs.Unbounded.{search_bounded}
 use Rattle.st_lookup.proofs.Live.{found_live}
 use Rattle.st_memory.proofs.Wide.{there_live}

@@ -13,7 +13,7 @@ use Rattle.st_model.specs.Steps.{found, object_named, object, of_page, or_die, c
 use Rattle.st_model.specs.Methods.{method_header}
 use Rattle.st_model.specs.Lookup.{half_word, checked_method, method_at, place_says, look_at_place, look_at_places, search_from, search_dictionary, or_above, method_in_class, look_in_class, unless_nil, end_at_nil, find_within, find}
 use Rattle.st_model.specs.Table.{Table, table}
-use Rattle.st_lookup.specs.Remembered.{watched}
+use Rattle.st_lookup.specs.inside.Remembered.{watched}
 
 -- opens the definitions of the search
 opened : Unit {0}

@@ -9,11 +9,11 @@ use Rattle.st_model.specs.Machine.{ObjectMemory, State, Went, Step, answer}
 use Rattle.st_model.specs.Steps.{fetch_field, of_page, same_value}
 use Rattle.st_model.specs.Lookup.{method_at, place_says, look_at_place, look_at_places, search_from}
 use Rattle.st_model.specs.Table.{Table, IsTabular}
-use Rattle.st_model.specs.Calls.{Reads}
+use Rattle.st_model.specs.inside.Calls.{Reads}
 use Rattle.st_model.proofs.Runs.{run-then, after-went, after-died}
 use Rattle.st_lookup.specs.declared.places.Search.{Search}
 use Rattle.st_lookup.specs.declared.places.Search.TheVariants.{Ends, GoesOn}
-use Rattle.st_lookup.specs.Places.{found_word, search_of, LooksAt, LooksFrom}
+use Rattle.st_lookup.specs.inside.Places.{found_word, search_of, LooksAt, LooksFrom}
 
 module _ {m : ObjectMemory Table} (h : IsTabular m) (d x : Value) (k : ℕ) (t : Table) where
   nil_run : (s : State Table) → (of_page m NilObject).run s ≡ Went (Ref (place_of NilObject)) s

@@ -12,12 +12,12 @@ use Rattle.st_model.specs.Steps.{found, object_named, object, check, or_die, fet
 use Rattle.st_model.specs.Methods.{method_header}
 use Rattle.st_model.specs.Lookup.{pointer_if, half_word}
 use Rattle.st_model.specs.Table.{Table, entry, table, bounded_table}
-use Rattle.st_model.specs.Calls.{Reads, itself, transition_of}
+use Rattle.st_model.specs.inside.Calls.{Reads, itself, transition_of}
 use Rattle.st_model.proofs.Tabular.{fetch_field-as, count_fields-as, method_header-as}
 use Rattle.st_model.proofs.Runs.{run-then, after-died}
 use Rattle.st_model.proofs.TableLemmas.{entry_past}
-use Rattle.st_memory.specs.Tabular.{bounded_tabular}
-use Rattle.st_lookup.specs.Remembered.{on, IsOn, IsOff, watched, object_at}
+use Rattle.st_memory.specs.inside.Tabular.{bounded_tabular}
+use Rattle.st_lookup.specs.inside.Remembered.{on, IsOn, IsOff, watched, object_at}
 use Rattle.st_lookup.proofs.Carried.{over}
 use Rattle.st_lookup.proofs.Staying.{watched-entry, entry-watched}
 

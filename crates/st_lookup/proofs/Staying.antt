@@ -12,11 +12,11 @@ use Rattle.st_model.specs.Table.{Table, table, entry, changed, exchanged_objects
 use Rattle.st_model.specs.View.{View, IsWhole, IsKnown, SettlesTo, is_live, view_roots, with_stored, with_unit, with_exchanged}
 use Rattle.st_model.proofs.TableLemmas.{changed-other, placed-other}
 use Rattle.st_model.proofs.SettledLemmas.{settled-entry, entry-settled, is_some-of, some_is}
-use Rattle.st_memory.specs.Copied.{with_units_in}
-use Rattle.st_memory.specs.Searched.{Finds}
+use Rattle.st_memory.specs.inside.Copied.{with_units_in}
+use Rattle.st_memory.specs.inside.Searched.{Finds}
 use Rattle.st_lookup.specs.declared.entry.Entry.{Entry}
 use Rattle.st_lookup.specs.declared.entry.TheConstants.Entry.{NONE}
-use Rattle.st_lookup.specs.Remembered.{on, IsOn, IsOff, watched, IsRemembered, AllRemembered, Grows, SameWatched, StaysIfOff}
+use Rattle.st_lookup.specs.inside.Remembered.{on, IsOn, IsOff, watched, IsRemembered, AllRemembered, Grows, SameWatched, StaysIfOff}
 use Rattle.st_lookup.proofs.Carried.{IsOf, SameHalf, found_carried_on}
 use Rattle.st_model.proofs.SettledIs.{or_left, or_right, or_cases}
 

@@ -2,7 +2,7 @@
 use Rattle.std.proofs.Common.{◌≡◌, ℕ, List, Bool, true, false, refl}
 use Rattle.std.specs.Prelude.{◌/◌, ◌%◌, ◌==◌, if◌then◌else◌}
 use Rattle.st_model.specs.Values.{Small, Ref, value_of}
-use Rattle.st_lookup.specs.Remembered.{on, IsOn, IsOff}
+use Rattle.st_lookup.specs.inside.Remembered.{on, IsOn, IsOff}
 
 off_if : (bits : List ℕ) (b : Bool) (n : ℕ) → on bits n ≡ false → IsOff bits (if b then Small n else Ref n)
 off_if bits true n e = tt

@@ -1,8 +1,8 @@
 ghost use Rattle.std.specs.Prelude.{◌≡◌, ◌<◌, length, true, IfSome};
 ghost use Rattle.st_model.specs.{Values.{Value, value}, Table.Table, Formed.IsHeader};
 ghost use Rattle.st_model.specs.View.{IsKnown, is_live, object_of, with_stored};
-ghost use Rattle.st_memory.specs.{Places.KeepsPlaces, Searched.Finds};
-ghost use Rattle.st_lookup.specs.Remembered.{watched, IsOff, Grows, HasNone, AllRemembered, StaysIfOff};
+ghost use Rattle.st_memory.specs.{inside.Places.KeepsPlaces, inside.Searched.Finds};
+ghost use Rattle.st_lookup.specs.inside.Remembered.{watched, IsOff, Grows, HasNone, AllRemembered, StaysIfOff};
 
 use crate::class::look_up;
 use crate::entry::Entry;

@@ -1,8 +1,8 @@
 ghost use Rattle.std.specs.Prelude.{◌≡◌, ◌<◌, ◌≤◌, ◌+◌, ◌-◌};
 ghost use Rattle.st_model.specs.Values.{word};
 ghost use Rattle.st_model.specs.Lookup.{method_in_class, find};
-ghost use Rattle.st_model.specs.Calls.{Reads};
-ghost use Rattle.st_lookup.specs.Places.{found_word};
+ghost use Rattle.st_model.specs.inside.Calls.{Reads};
+ghost use Rattle.st_lookup.specs.inside.Places.{found_word};
 
 use crate::places::search_dictionary;
 use crate::reading::Reading;

@@ -1,6 +1,6 @@
 ghost use Rattle.std.specs.Prelude.{◌≡◌, true, IfOk, IfSome};
-ghost use Rattle.st_model.specs.{Values.{value, word}, Table.table, Lookup.find, Calls.Reads, View.is_live};
-ghost use Rattle.st_lookup.specs.Places.{found, found_word};
+ghost use Rattle.st_model.specs.{Values.{value, word}, Table.table, Lookup.find, inside.Calls.Reads, View.is_live};
+ghost use Rattle.st_lookup.specs.inside.Places.{found, found_word};
 
 use crate::class::look_up;
 use st_memory::{Memory, Objects, live_value};

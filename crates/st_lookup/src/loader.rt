@@ -1,5 +1,5 @@
 ghost use Rattle.std.specs.Prelude.{IfOk};
-ghost use Rattle.st_lookup.specs.Remembered.{HasNone};
+ghost use Rattle.st_lookup.specs.inside.Remembered.{HasNone};
 
 use crate::cached::Cached;
 use crate::entry::Entry;

@@ -1,8 +1,8 @@
 ghost use Rattle.std.specs.Prelude.{◌≡◌, ◌<◌, ◌≤◌, ◌+◌, ◌-◌};
 ghost use Rattle.st_model.specs.Values.{word};
 ghost use Rattle.st_model.specs.Lookup.{checked_method, method_at, search_from, search_dictionary};
-ghost use Rattle.st_model.specs.Calls.{Reads};
-ghost use Rattle.st_lookup.specs.Places.{LooksAt, LooksFrom, found_word};
+ghost use Rattle.st_model.specs.inside.Calls.{Reads};
+ghost use Rattle.st_lookup.specs.inside.Places.{LooksAt, LooksFrom, found_word};
 
 use crate::reading::Reading;
 use st_model::{Dead, PageObject, Word};

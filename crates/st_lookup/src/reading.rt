@@ -1,8 +1,8 @@
 ghost use Rattle.std.specs.Prelude.{◌≡◌, ◌≤◌, true, false, Ok, IfOk};
 ghost use Rattle.st_model.specs.{Values.{word, is_small}, Machine.ObjectMemory};
 ghost use Rattle.st_model.specs.{Table.{Table, IsTabular, bounded_table}, Steps.{fetch_field, count_fields}};
-ghost use Rattle.st_model.specs.{Methods.method_header, Lookup.half_word, Calls.{Reads, itself}};
-ghost use Rattle.st_lookup.specs.Remembered.{watched, IsSeen, IsOff};
+ghost use Rattle.st_model.specs.{Methods.method_header, Lookup.half_word, inside.Calls.{Reads, itself}};
+ghost use Rattle.st_lookup.specs.inside.Remembered.{watched, IsSeen, IsOff};
 
 use crate::watch::Watch;
 use st_memory::{Memory, Objects};
@@ -82,7 +82,7 @@ impl<'a, M: Memory> Watched<'a, M> {
 }
 
 impl<'a, M: Memory> Reading for Watched<'a, M> {
-    ghost use Rattle.st_memory.specs.Tabular.{bounded_tabular};
+    ghost use Rattle.st_memory.specs.inside.Tabular.{bounded_tabular};
 
     ghost names = { bounded_table };
 

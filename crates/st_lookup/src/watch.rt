@@ -1,6 +1,6 @@
 ghost use Rattle.std.specs.Prelude.{◌≡◌, ◌≢◌, ◌*◌, ◌<◌, ℕ, length, true, false};
 ghost use Rattle.st_model.specs.Values.{Value, value};
-ghost use Rattle.st_lookup.specs.Remembered.{on, IsOn, IsOff, Grows};
+ghost use Rattle.st_lookup.specs.inside.Remembered.{on, IsOn, IsOff, Grows};
 
 use st_model::Oop;
 use std::alloc::{AllocError, Global};

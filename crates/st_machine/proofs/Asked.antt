@@ -10,7 +10,7 @@ use Rattle.st_model.specs.Machine.{World, State, Transition, Died, Went}
 use Rattle.st_model.specs.Births.{Births, births}
 use Rattle.st_model.specs.Table.{Table, table, bounded_table}
 use Rattle.st_model.specs.Show.{Shows}
-use Rattle.st_model.specs.Foreseen.{IsSound, ShownIfTaken, ShownAgain}
+use Rattle.st_model.specs.inside.Foreseen.{IsSound, ShownIfTaken, ShownAgain}
 use Rattle.st_model.specs.Events.{comes, event, in_world}
 use Rattle.st_model.specs.Settled.{reclaim}
 use Rattle.st_model.specs.Saving.{store_process, settled_after, save}
@@ -18,11 +18,11 @@ use Rattle.st_model.specs.View.{View, IsWhole}
 use Rattle.st_simulation.proofs.Outside.{event_shown}
 use Rattle.st_simulation.proofs.Between.{shows_settled}
 use Rattle.st_simulation.proofs.CyclesSame.{store_process-same}
-use Rattle.st_input.specs.Coming.{came}
+use Rattle.st_input.specs.inside.Coming.{came}
 use Rattle.st_frames.specs.declared.frame.Frame.{Frame}
-use Rattle.st_frames.specs.Shown.{shown, registers_of, IsReady}
+use Rattle.st_frames.specs.inside.Shown.{shown, registers_of, IsReady}
 use Rattle.st_frames.proofs.Closed.{is_closed}
-use Rattle.st_machine.specs.Asked.{TakenAs, SavedAs}
+use Rattle.st_machine.specs.inside.Asked.{TakenAs, SavedAs}
 
 -- events
 

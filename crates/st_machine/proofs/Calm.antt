@@ -9,15 +9,15 @@ use Rattle.st_model.specs.Machine.{World, State, Transition, Went}
 use Rattle.st_model.specs.Table.{Table, table, bounded_table}
 use Rattle.st_model.specs.Events.{is_held, signalled_once}
 use Rattle.st_model.specs.Cycles.{free_space, signal_newest, check_process_switch, warned, warned_if_low}
-use Rattle.st_model.specs.Foreseen.{foreseen_cycle}
+use Rattle.st_model.specs.inside.Foreseen.{foreseen_cycle}
 use Rattle.st_machine.proofs.Done.{none_left, signals_made, waits_not, no_signals}
 use Rattle.st_model.specs.View.{View, SettlesTo}
 use Rattle.st_frames.specs.declared.frame.Frame.{Frame}
-use Rattle.st_frames.specs.Shown.{shown, IsReady}
+use Rattle.st_frames.specs.inside.Shown.{shown, IsReady}
 use Rattle.st_frames.proofs.Settled.{settled_same}
-use Rattle.st_at_once.specs.AtOnce.{GoesOn}
+use Rattle.st_at_once.specs.inside.AtOnce.{GoesOn}
 use Rattle.st_machine.specs.declared.stretch.StretchEnd.TheVariants.{Warns}
-use Rattle.st_machine.specs.Cycling.{IsCalm, GoesCalmly, warns, foreseen_step}
+use Rattle.st_machine.specs.inside.Cycling.{IsCalm, GoesCalmly, warns, foreseen_step}
 use Rattle.st_machine.proofs.Foreseeing.{from_switch, goes_by}
 use Rattle.std.proofs.lemmas.Bool.{and_parts}
 

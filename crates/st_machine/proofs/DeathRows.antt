@@ -11,7 +11,7 @@ use Rattle.st_model.specs.Objects.{Object, nil}
 use Rattle.st_model.specs.Machine.{State, empty_world, Died}
 use Rattle.st_model.specs.Table.{Table, table}
 use Rattle.st_model.specs.Cycles.{run, run_of, finished}
-use Rattle.st_model.specs.Foreseen.{foreseen_cycle}
+use Rattle.st_model.specs.inside.Foreseen.{foreseen_cycle}
 use Rattle.st_model.proofs.Opened.{opened}
 
 -- an object of kind Pointers, by half the pointer of its class

@@ -13,20 +13,20 @@ use Rattle.st_model.specs.Table.{Table, table, bounded_table}
 use Rattle.st_model.specs.Steps.{are_there}
 use Rattle.st_model.specs.Contexts.{fetch_scheduled_registers}
 use Rattle.st_model.specs.Saving.{store_active, store_process}
-use Rattle.st_model.specs.Foreseen.{IsSound}
+use Rattle.st_model.specs.inside.Foreseen.{IsSound}
 use Rattle.st_simulation.proofs.Between.{as_table, switched_sound}
 use Rattle.st_simulation.proofs.ContextsSame.{fetch_scheduled_registers-same}
 use Rattle.st_frames.proofs.Closed.{is_closed}
 use Rattle.st_model.specs.Events.{is_held}
-use Rattle.st_model.specs.Calls.{itself, transition_of}
+use Rattle.st_model.specs.inside.Calls.{itself, transition_of}
 use Rattle.st_model.specs.Deeds.{deed_done, world_done, with_deed}
 use Rattle.st_model.specs.Processes.{signal, enter_process, leave_process, switch_to_process}
 use Rattle.st_model.specs.Cycles.{signal_if_any, signal_next, signal_newest, switch_unless_nil, switch_if_waiting, check_process_switch}
 use Rattle.st_model.specs.View.{View, IsWhole}
 use Rattle.st_frames.specs.declared.frame.Frame.{Frame}
 use Rattle.st_frames.specs.declared.registers.Registers.{Registers as Words}
-use Rattle.st_frames.specs.Rows.{row_state, registers_in}
-use Rattle.st_frames.specs.Shown.{shown, registers_of, IsReady}
+use Rattle.st_frames.specs.inside.Rows.{row_state, registers_in}
+use Rattle.st_frames.specs.inside.Shown.{shown, registers_of, IsReady}
 use Rattle.st_frames.proofs.Stored.{loaded}
 use Rattle.st_frames.proofs.There.{word_there, all_four}
 

@@ -8,12 +8,12 @@ use Rattle.st_model.specs.Outcomes as outcome
 use Rattle.st_model.specs.Machine.{State, Transition, Died, Went}
 use Rattle.st_model.specs.Table.{Table}
 use Rattle.st_model.specs.Cycles.{and_on, counted, run_of, finished_of}
-use Rattle.st_model.specs.Calls.{transition_of}
+use Rattle.st_model.specs.inside.Calls.{transition_of}
 use Rattle.st_machine.specs.declared.cycling.CycleEnd.{CycleEnd}
 use Rattle.st_machine.specs.declared.cycling.CycleEnd.TheVariants as cycle_end
 use Rattle.st_machine.specs.declared.ending.RunEnd.{RunEnd}
 use Rattle.st_machine.specs.declared.ending.RunEnd.TheVariants as run_ends
-use Rattle.st_machine.specs.Runs.{ending_of, run_end, transition_at, cycles_of}
+use Rattle.st_machine.specs.inside.Runs.{ending_of, run_end, transition_at, cycles_of}
 
 abbrev pub goes_on : Ending → Bool
 goes_on (With outcome.Went) = true

@@ -12,14 +12,14 @@ use Rattle.st_model.specs.Bytecodes.{step}
 use Rattle.st_model.specs.Settled.{reclaim}
 use Rattle.st_model.specs.Objects.{nil}
 use Rattle.st_model.specs.Cycles.{made_between, free_space, less, capacity_of, check_process_switch, warned, warned_if_low}
-use Rattle.st_model.specs.Foreseen.{foreseen, foreseen_from, foreseen_cycle, done, done_if_room}
+use Rattle.st_model.specs.inside.Foreseen.{foreseen, foreseen_from, foreseen_cycle, done, done_if_room}
 use Rattle.st_model.specs.View.{View, fits}
-use Rattle.st_control.specs.Foreseen.{IsForeseen}
-use Rattle.st_at_once.specs.AtOnce.{IsDoneAtOnce}
-use Rattle.st_machine.specs.Cycling.{GoesAtOnce, GoesBy, Finishes, foreseen_step}
-use Rattle.st_step.specs.Planned.{Plans, plus}
+use Rattle.st_control.specs.inside.Foreseen.{IsForeseen}
+use Rattle.st_at_once.specs.inside.AtOnce.{IsDoneAtOnce}
+use Rattle.st_machine.specs.inside.Cycling.{GoesAtOnce, GoesBy, Finishes, foreseen_step}
+use Rattle.st_step.specs.inside.Planned.{Plans, plus}
 use Rattle.st_frames.specs.declared.frame.Frame.{Frame}
-use Rattle.st_frames.specs.Shown.{shown, registers_of}
+use Rattle.st_frames.specs.inside.Shown.{shown, registers_of}
 
 -- what fits is not over the capacities
 fits_if : (a b c d : ℕ) → (nat_le a b && nat_le c d) ≡ true → (if nat_lt b a then true else nat_lt d c) ≡ false

@@ -5,16 +5,16 @@ use Rattle.st_model.specs.Machine.{World, State, Transition, Died, Went}
 use Rattle.st_model.specs.Births.{Births}
 use Rattle.st_model.specs.Table.{Table, bounded_table}
 use Rattle.st_model.specs.Show.{Shows}
-use Rattle.st_model.specs.Foreseen.{IsSound, ShownAgain}
+use Rattle.st_model.specs.inside.Foreseen.{IsSound, ShownAgain}
 use Rattle.st_model.specs.Cycles.{check_process_switch}
 use Rattle.std.specs.Prelude.{Result}
 use Rattle.std.specs.Result.{result_err}
-use Rattle.st_model.specs.Calls.{Does, itself}
+use Rattle.st_model.specs.inside.Calls.{Does, itself}
 use Rattle.st_model.specs.View.{View, IsWhole}
 use Rattle.st_simulation.proofs.Between.{shows_again}
 use Rattle.st_simulation.proofs.CyclesSame.{check_process_switch-same}
 use Rattle.st_frames.specs.declared.frame.Frame.{Frame}
-use Rattle.st_frames.specs.Shown.{shown, IsReady}
+use Rattle.st_frames.specs.inside.Shown.{shown, IsReady}
 use Rattle.st_frames.proofs.Closed.{is_closed}
 use Rattle.st_machine.specs.Prepared.{prepared, PreparedAs}
 

@@ -9,16 +9,16 @@ use Rattle.st_model.specs.Births.{Births, births, pointer_of}
 use Rattle.st_model.specs.Table.{Table}
 use Rattle.st_model.specs.Cycles.{cycle, run, run_of, finished, finished_of}
 use Rattle.st_model.specs.Show.{Shows, IsKept}
-use Rattle.st_model.specs.Foreseen.{foreseen_cycle, IsSound, EndsShown}
-use Rattle.st_model.specs.Calls.{transition_of}
+use Rattle.st_model.specs.inside.Foreseen.{foreseen_cycle, IsSound, EndsShown}
+use Rattle.st_model.specs.inside.Calls.{transition_of}
 use Rattle.st_simulation.proofs.CyclesShown.{sound_shown}
 use Rattle.st_model.specs.declared.outcome.Outcome.TheVariants as code_outcome
 use Rattle.st_machine.specs.declared.cycling.CycleEnd.{CycleEnd}
 use Rattle.st_machine.specs.declared.cycling.CycleEnd.TheVariants as cycle_end
 use Rattle.st_machine.specs.declared.ending.RunEnd.{RunEnd}
 use Rattle.st_machine.specs.declared.ending.RunEnd.TheVariants as run_ends
-use Rattle.st_machine.specs.Strides.{SoFar, NextEnds}
-use Rattle.st_machine.specs.Runs.{EndsAs, CountsCycles, ending_of, run_end, transition_at, death_of}
+use Rattle.st_machine.specs.inside.Strides.{SoFar, NextEnds}
+use Rattle.st_machine.specs.inside.Runs.{EndsAs, CountsCycles, ending_of, run_end, transition_at, death_of}
 use Rattle.st_machine.proofs.Endings.{goes_on, cycles_in, renamed_goes, renamed_cycles, run_on, finished_on, run_stops, run_dies, finished_stops, finished_dies, Stops, run_end_stops, run_end_goes}
 
 pub none_so_far : (s : State Births) (c : State Table) → Shows c s → SoFar 0 s c

@@ -12,18 +12,18 @@ use Rattle.st_model.specs.Table.{Table, table}
 use Rattle.st_model.specs.Cycles.{warned}
 use Rattle.st_model.specs.Deeds.{with_deed}
 use Rattle.st_model.specs.View.{View, IsWhole}
-use Rattle.st_model.specs.Calls.{transition_of}
-use Rattle.st_model.specs.Foreseen.{foreseen_cycle, IsSound}
+use Rattle.st_model.specs.inside.Calls.{transition_of}
+use Rattle.st_model.specs.inside.Foreseen.{foreseen_cycle, IsSound}
 use Rattle.st_frames.specs.declared.frame.Frame.{Frame}
-use Rattle.st_frames.specs.Shown.{shown, IsReady}
+use Rattle.st_frames.specs.inside.Shown.{shown, IsReady}
 use Rattle.st_frames.proofs.Closed.{is_closed}
 use Rattle.st_machine.specs.declared.cycling.CycleEnd.{CycleEnd}
 use Rattle.st_machine.specs.declared.cycling.CycleEnd.TheVariants as cycle_end
 use Rattle.st_machine.specs.declared.stretch.StretchEnd.{StretchEnd}
 use Rattle.st_machine.specs.declared.stretch.StretchEnd.TheVariants.{ToForesee, Leaves, Warns}
-use Rattle.st_machine.specs.Cycling.{IsCalm, GoesBy, GoesCalmly, Finishes, foreseen_step}
-use Rattle.st_machine.specs.Runs.{ending_of}
-use Rattle.st_machine.specs.Strides.{SoFar, NextEnds, NextGoesBy, StretchEnds, Follows}
+use Rattle.st_machine.specs.inside.Cycling.{IsCalm, GoesBy, GoesCalmly, Finishes, foreseen_step}
+use Rattle.st_machine.specs.inside.Runs.{ending_of}
+use Rattle.st_machine.specs.inside.Strides.{SoFar, NextEnds, NextGoesBy, StretchEnds, Follows}
 use Rattle.st_machine.proofs.Calm.{calm_cycle}
 use Rattle.st_machine.proofs.Runs.{shown_next, one_more}
 

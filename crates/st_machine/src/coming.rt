@@ -1,7 +1,7 @@
 ghost use Rattle.std.specs.Prelude.{◌≡◌, OnErr};
-ghost use Rattle.st_frames.specs.Shown.{IsReady, shown};
-ghost use Rattle.st_input.specs.Coming.{HasPlace};
-ghost use Rattle.st_machine.specs.Asked.{ComesFrom};
+ghost use Rattle.st_frames.specs.inside.Shown.{IsReady, shown};
+ghost use Rattle.st_input.specs.inside.Coming.{HasPlace};
+ghost use Rattle.st_machine.specs.inside.Asked.{ComesFrom};
 
 use st_frames::{Frame, World};
 use st_input::Events;

@@ -1,9 +1,9 @@
 ghost use Rattle.std.specs.Prelude.{◌≡◌, OnOk};
 ghost use Rattle.st_model.specs.{Table.table, Machine.used, Objects.nil};
-ghost use Rattle.st_model.specs.{Cycles.{less, capacity_of, is_low, warned_if_low}, Foreseen.foreseen_cycle};
-ghost use Rattle.st_model.specs.Calls.{transition_of};
-ghost use Rattle.st_frames.specs.{Naming.{IsNaming, naming}, Shown.{IsFrame, IsReady, shown}};
-ghost use Rattle.st_machine.specs.{Cycling.{Finishes, GoesAtOnce, foreseen_step, warns}, Runs.ending_of};
+ghost use Rattle.st_model.specs.{Cycles.{less, capacity_of, is_low, warned_if_low}, inside.Foreseen.foreseen_cycle};
+ghost use Rattle.st_model.specs.inside.Calls.{transition_of};
+ghost use Rattle.st_frames.specs.{Naming.{IsNaming, naming}, inside.Shown.{IsFrame, IsReady, shown}};
+ghost use Rattle.st_machine.specs.{inside.Cycling.{Finishes, GoesAtOnce, foreseen_step, warns}, inside.Runs.ending_of};
 
 use crate::switching::check_process_switch;
 use st_at_once::step_at_once;

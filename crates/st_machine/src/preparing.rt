@@ -1,6 +1,6 @@
 // What comes before a bytecode, done apart from it.
 ghost use Rattle.std.specs.Prelude.{◌≡◌, None};
-ghost use Rattle.st_frames.specs.Shown.{IsReady, shown};
+ghost use Rattle.st_frames.specs.inside.Shown.{IsReady, shown};
 ghost use Rattle.st_machine.specs.Prepared.{PreparesFrom, PreparesOnce, CycleGoesOn, CycleDies, RunGoesOn, CountGoesOn};
 
 use crate::switching::check_process_switch;

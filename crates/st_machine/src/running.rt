@@ -1,6 +1,6 @@
 ghost use Rattle.std.specs.Prelude.{◌≡◌, ◌<◌, None};
-ghost use Rattle.st_frames.specs.Shown.{IsReady, shown};
-ghost use Rattle.st_machine.specs.Runs.{EndsFrom, CountsCycles, run_end, death_of};
+ghost use Rattle.st_frames.specs.inside.Shown.{IsReady, shown};
+ghost use Rattle.st_machine.specs.inside.Runs.{EndsFrom, CountsCycles, run_end, death_of};
 
 use crate::cycling::CycleEnd;
 use crate::ending::RunEnd;

@@ -1,6 +1,6 @@
 ghost use Rattle.std.specs.Prelude.{◌≡◌, OnOk};
-ghost use Rattle.st_frames.specs.Shown.{IsReady, shown};
-ghost use Rattle.st_machine.specs.Asked.{SavesFrom};
+ghost use Rattle.st_frames.specs.inside.Shown.{IsReady, shown};
+ghost use Rattle.st_machine.specs.inside.Asked.{SavesFrom};
 
 use crate::switch_saving::store_process;
 use st_frames::{Frame, World};

@@ -1,7 +1,7 @@
 ghost use Rattle.std.specs.Prelude.{◌≡◌, length, OnOk};
 ghost use Rattle.st_model.specs.{Values.value, Table.bounded_table, Processes.signal};
-ghost use Rattle.st_model.specs.{Cycles.{signal_next, signal_newest}, Calls.{Does, itself}};
-ghost use Rattle.st_frames.specs.Shown.{IsReady, shown};
+ghost use Rattle.st_model.specs.{Cycles.{signal_next, signal_newest}, inside.Calls.{Does, itself}};
+ghost use Rattle.st_frames.specs.inside.Shown.{IsReady, shown};
 
 use st_frames::{Frame, World, load};
 use st_input::{carry_out, take_newest_signal};

@@ -1,10 +1,10 @@
 ghost use Rattle.std.specs.Prelude.{◌≡◌, ◌≤◌, Ok, Some, None, IfOk, OnOk, if◌then◌else◌};
 ghost use Rattle.st_model.specs.{Table.table, Machine.used, Cycles.{less, capacity_of}, View.SettlesTo};
-ghost use Rattle.st_frames.specs.Rows.{registers_in};
-ghost use Rattle.st_frames.specs.Shown.{IsReady, registers_of, shown};
-ghost use Rattle.st_machine.specs.Cycling.{GoesCalmly, IsCalm, warns};
+ghost use Rattle.st_frames.specs.inside.Rows.{registers_in};
+ghost use Rattle.st_frames.specs.inside.Shown.{IsReady, registers_of, shown};
+ghost use Rattle.st_machine.specs.inside.Cycling.{GoesCalmly, IsCalm, warns};
 ghost use Rattle.st_machine.specs.declared.stretch.StretchEnd.TheVariants.{Warns};
-ghost use Rattle.st_machine.specs.Strides.{GoesOn};
+ghost use Rattle.st_machine.specs.inside.Strides.{GoesOn};
 
 use crate::cycling::needs_warning;
 use st_at_once::{Near, RowEnd, row_at_once};

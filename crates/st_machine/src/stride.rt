@@ -1,8 +1,8 @@
 ghost use Rattle.std.specs.Prelude.{◌≡◌, ◌<◌, ◌==◌, ◌&&◌, not, length, OnOk};
 ghost use Rattle.st_model.specs.Objects.{nil};
 ghost use Rattle.st_model.specs.Events.{is_held};
-ghost use Rattle.st_frames.specs.Shown.{IsReady, shown};
-ghost use Rattle.st_machine.specs.Strides.{Follows, Strides};
+ghost use Rattle.st_frames.specs.inside.Shown.{IsReady, shown};
+ghost use Rattle.st_machine.specs.inside.Strides.{Follows, Strides};
 
 use crate::cycling::{CycleEnd, cycle, do_next, finish, foresee, warn};
 use crate::stretch::{StretchEnd, go_on};

@@ -1,7 +1,7 @@
 ghost use Rattle.std.specs.Prelude.{◌≡◌, ◌≤◌, ◌+◌, OnOk};
 ghost use Rattle.st_model.specs.{Table.bounded_table, Saving.{store_active, store_process}};
-ghost use Rattle.st_model.specs.Calls.{Does, itself};
-ghost use Rattle.st_frames.specs.{Shown.{IsReady, shown}, Rows.{RowDoes, Takes}};
+ghost use Rattle.st_model.specs.inside.Calls.{Does, itself};
+ghost use Rattle.st_frames.specs.{inside.Shown.{IsReady, shown}, inside.Rows.{RowDoes, Takes}};
 
 use crate::switching::switch_if_waiting;
 use st_frames::{Frame, Registers, World, fetch_scheduled, load, store_context_registers};

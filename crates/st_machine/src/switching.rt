@@ -1,8 +1,8 @@
 ghost use Rattle.std.specs.Prelude.{◌≡◌, OnOk};
 ghost use Rattle.st_model.specs.{Values.value, Table.bounded_table};
 ghost use Rattle.st_model.specs.Processes.{leave_process, switch_to_process};
-ghost use Rattle.st_model.specs.{Cycles.{switch_if_waiting, check_process_switch}, Calls.{Does, itself}};
-ghost use Rattle.st_frames.specs.Shown.{IsReady, shown};
+ghost use Rattle.st_model.specs.{Cycles.{switch_if_waiting, check_process_switch}, inside.Calls.{Does, itself}};
+ghost use Rattle.st_frames.specs.inside.Shown.{IsReady, shown};
 
 use crate::signals::signal_newest;
 use st_frames::{Frame, World, hold, load};

@@ -5,7 +5,7 @@ use Rattle.st_model.specs.Machine.{World, empty_world}
 use Rattle.st_model.specs.View.{View, no_devices}
 use Rattle.st_frames.specs.Naming.{filled}
 use Rattle.st_frames.specs.declared.frame.Frame.{Frame}
-use Rattle.st_frames.specs.Shown.{IsFrame, IsReady}
+use Rattle.st_frames.specs.inside.Shown.{IsFrame, IsReady}
 
 filled_new : no_devices ≡ filled (empty_world nil).devices
 unfolding no_devices

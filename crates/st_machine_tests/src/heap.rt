@@ -2,9 +2,9 @@
 
 ghost use Rattle.std.specs.Prelude.{◌≡◌, ◌≤◌, IfOk, IfSome, Some};
 ghost use Rattle.st_table.specs.declared.entry.Entry.{Entry as TableEntry};
-ghost use Rattle.st_table.specs.Entries.{entry_of};
-ghost use Rattle.st_heap.specs.Blocks.{IsTied, IsBlock};
-ghost use Rattle.st_heap.specs.Heaps.{blocks_of};
+ghost use Rattle.st_table.specs.inside.Entries.{entry_of};
+ghost use Rattle.st_heap.specs.inside.Blocks.{IsTied, IsBlock};
+ghost use Rattle.st_heap.specs.inside.Heaps.{blocks_of};
 
 use st_heap::Heap;
 use st_model::{Kind, Oop};

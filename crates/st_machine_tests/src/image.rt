@@ -1,6 +1,6 @@
 ghost use Rattle.std.specs.Prelude.{◌≡◌, IfOk};
 ghost use Rattle.st_model.specs.View.{no_devices};
-ghost use Rattle.st_frames.specs.{Shown.{IsFrame, IsReady}, Naming.IsNaming};
+ghost use Rattle.st_frames.specs.{inside.Shown.{IsFrame, IsReady}, Naming.IsNaming};
 
 use st_frames::Loaded;
 use st_image::{HeadValues, ReadImage, read};

@@ -1,7 +1,7 @@
 //! Machines, as tables.
 
 ghost use Rattle.std.specs.Prelude.{◌≡◌, IfOk, None};
-ghost use Rattle.st_frames.specs.Shown.{IsReady};
+ghost use Rattle.st_frames.specs.inside.Shown.{IsReady};
 
 use crate::calls::{are_first, are_used, make, write, write_first};
 use crate::events::are_waiting;

@@ -1,5 +1,5 @@
 ghost use Rattle.std.specs.Prelude.{◌≤◌};
-ghost use Rattle.st_frames.specs.Shown.{IsFrame};
+ghost use Rattle.st_frames.specs.inside.Shown.{IsFrame};
 
 use crate::calls::are_first;
 use crate::image::{Image, plan_of, ready};

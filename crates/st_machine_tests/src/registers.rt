@@ -1,6 +1,6 @@
 //! Calls on registers and methods over a memory.
 
-ghost use Rattle.st_frames.specs.Shown.{IsFrame};
+ghost use Rattle.st_frames.specs.inside.Shown.{IsFrame};
 
 use crate::image::{Image, Parts, plan_of, ready};
 use st_frames::{Frame, fetch};

@@ -1,7 +1,7 @@
 //! Sends over a memory that remembers what searches found: what they searched isn't searched again.
 
 ghost use Rattle.std.specs.Prelude.{◌≡◌, IfOk, None};
-ghost use Rattle.st_frames.specs.Shown.{IsReady};
+ghost use Rattle.st_frames.specs.inside.Shown.{IsReady};
 
 use crate::calls::remembered;
 use crate::image::{Image, Parts, plan_of, ready};

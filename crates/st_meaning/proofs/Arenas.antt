@@ -3,10 +3,10 @@ use Rattle.std.proofs.Common.{◌≡◌, ℕ, zero, suc, ◌+◌, ◌<◌, ◌�
 use Rattle.std.proofs.lemmas.List.{at_drop_more, at_drop_all, take-append-drop, drop_more, length-take-le}
 use Rattle.std.specs.Prelude.{slice_get}
 use Rattle.st_meaning.specs.declared.arena.Node.{Node}
-use Rattle.st_meaning.specs.Values.{DeedView}
-use Rattle.st_meaning.specs.Runs.{Going, Outcome, went, over, long, stuck, unfinished, Run, gives, then_go, ◌>>=◌}
-use Rattle.st_meaning.specs.Arenas.{Meaning, each, node_run, runs_behind, runs_of}
-use Rattle.st_meaning.specs.Traced.{Cut}
+use Rattle.st_meaning.specs.inside.Values.{DeedView}
+use Rattle.st_meaning.specs.inside.Runs.{Going, Outcome, went, over, long, stuck, unfinished, Run, gives, then_go, ◌>>=◌}
+use Rattle.st_meaning.specs.inside.Arenas.{Meaning, each, node_run, runs_behind, runs_of}
+use Rattle.st_meaning.specs.inside.Traced.{Cut}
 
 -- RUNS
 

@@ -11,13 +11,13 @@ use Rattle.st_resolved.proofs.Decoding.{found_some}
 use Rattle.st_meaning.specs.declared.deed.Variable.{Variable}
 use Rattle.st_meaning.specs.declared.deed.Value.{Value}
 use Rattle.st_meaning.specs.declared.deed.Value.TheVariants as values
-use Rattle.st_meaning.specs.Values.{DeedView, AnswerView}
-use Rattle.st_meaning.specs.Values as views
-use Rattle.st_meaning.specs.Runs.{Going, Outcome, went, over, long, stuck, unfinished, Run, then_go, did, ends, take_answer, answer_to, make_block, assign_to, return_value, be_unsure, jump_back, decide}
-use Rattle.st_meaning.specs.Codes.{Walked, walk_code}
-use Rattle.st_meaning.specs.Codes as codes
-use Rattle.st_meaning.specs.Walks.{Next, values_at, on_boolean, done, act_found, walk}
-use Rattle.st_meaning.specs.Meanings.{enough_steps}
+use Rattle.st_meaning.specs.inside.Values.{DeedView, AnswerView}
+use Rattle.st_meaning.specs.inside.Values as views
+use Rattle.st_meaning.specs.inside.Runs.{Going, Outcome, went, over, long, stuck, unfinished, Run, then_go, did, ends, take_answer, answer_to, make_block, assign_to, return_value, be_unsure, jump_back, decide}
+use Rattle.st_meaning.specs.inside.Codes.{Walked, walk_code}
+use Rattle.st_meaning.specs.inside.Codes as codes
+use Rattle.st_meaning.specs.inside.Walks.{Next, values_at, on_boolean, done, act_found, walk}
+use Rattle.st_meaning.specs.inside.Meanings.{enough_steps}
 use Rattle.st_meaning.proofs.Longer.{IsDone}
 
 module _ (most : ℕ) where

@@ -8,18 +8,18 @@ use Rattle.st_meaning.specs.declared.deed.Variable.{Variable}
 use Rattle.st_meaning.specs.declared.deed.Value.{Value}
 use Rattle.st_meaning.specs.declared.deed.Value.TheVariants as values
 use Rattle.st_meaning.specs.declared.course.Course.{Course}
-use Rattle.st_meaning.specs.Values.{returned, unsure}
-use Rattle.st_meaning.specs.Runs.{Going, Outcome, went, over, long, Run, then_go, assign_to, answer_to, make_block, be_unsure, decide}
-use Rattle.st_meaning.specs.Codes.{walk_code}
-use Rattle.st_meaning.specs.Codes as codes
-use Rattle.st_meaning.specs.Walks.{Next, values_of, on_boolean, done, act_found}
-use Rattle.st_meaning.specs.Deeds.{Lists}
-use Rattle.st_meaning.specs.Meanings.{most}
+use Rattle.st_meaning.specs.inside.Values.{returned, unsure}
+use Rattle.st_meaning.specs.inside.Runs.{Going, Outcome, went, over, long, Run, then_go, assign_to, answer_to, make_block, be_unsure, decide}
+use Rattle.st_meaning.specs.inside.Codes.{walk_code}
+use Rattle.st_meaning.specs.inside.Codes as codes
+use Rattle.st_meaning.specs.inside.Walks.{Next, values_of, on_boolean, done, act_found}
+use Rattle.st_meaning.specs.inside.Deeds.{Lists}
+use Rattle.st_meaning.specs.inside.Meanings.{most}
 use Rattle.st_meaning.specs.declared.code.Walked.{Walked}
 use Rattle.st_meaning.specs.declared.code.Walked.TheVariants as walked
 use Rattle.st_meaning.specs.declared.fault.MeaningFault.{MeaningFault}
 use Rattle.st_meaning.specs.declared.fault.MeaningFault.TheVariants.{Long, OutOfMemory}
-use Rattle.st_meaning.specs.Courses.{going_view, held_of, with_deed, with_back, stack_view, walked_view, boolean, Goes, IsLong, IsTooLong, IsBehind, Continues, Tests, IsLongTest, becomes, advances}
+use Rattle.st_meaning.specs.inside.Courses.{going_view, held_of, with_deed, with_back, stack_view, walked_view, boolean, Goes, IsLong, IsTooLong, IsBehind, Continues, Tests, IsLongTest, becomes, advances}
 use Rattle.st_meaning.proofs.Coursing.{few_deeds, full_deeds, return_on, return_long, unsure_on, unsure_long, back_on as back_goes, back_long as back_is_long}
 
 -- BOOLEANS

@@ -9,11 +9,11 @@ use Rattle.st_meaning.specs.declared.deed.Deed.{Deed}
 use Rattle.st_meaning.specs.declared.deed.Answer.{Answer}
 use Rattle.st_meaning.specs.declared.held.Held.{Held}
 use Rattle.st_meaning.specs.declared.course.Course.{Course}
-use Rattle.st_meaning.specs.Values.{DeedView, AnswerView, sent, assigned, made, returned, unsure}
-use Rattle.st_meaning.specs.Deeds.{answers_view, deed_view, deeds_view}
-use Rattle.st_meaning.specs.Runs.{Going, Outcome, went, over, long, Run, changed, all_changed, did, ends, take_answer, assign_to, answer_to, make_block, return_value, be_unsure, jump_back}
-use Rattle.st_meaning.specs.Meanings.{before_all}
-use Rattle.st_meaning.specs.Courses.{going_view, held_of, with_deed, with_back, Goes}
+use Rattle.st_meaning.specs.inside.Values.{DeedView, AnswerView, sent, assigned, made, returned, unsure}
+use Rattle.st_meaning.specs.inside.Deeds.{answers_view, deed_view, deeds_view}
+use Rattle.st_meaning.specs.inside.Runs.{Going, Outcome, went, over, long, Run, changed, all_changed, did, ends, take_answer, assign_to, answer_to, make_block, return_value, be_unsure, jump_back}
+use Rattle.st_meaning.specs.inside.Meanings.{before_all}
+use Rattle.st_meaning.specs.inside.Courses.{going_view, held_of, with_deed, with_back, Goes}
 
 pub many_deeds : (deeds : List Deed) → length (deeds_view deeds) ≡ length deeds
 many_deeds [] = refl

@@ -14,7 +14,7 @@ use Rattle.st_model.specs.Births.{Births, object_born, replaced, births}
 use Rattle.st_model.specs.Table.{Table, entry, IsTabular}
 use Rattle.st_model.proofs.BirthLemmas.{replaced-other}
 use Rattle.st_model.proofs.TableLemmas.{changed-some, changed-other}
-use Rattle.st_meaning.specs.Machines.{KeepsOthers, IsCalm, CycleSteps}
+use Rattle.st_meaning.specs.inside.Machines.{KeepsOthers, IsCalm, CycleSteps}
 use Rattle.st_meaning.proofs.Inverting.{then_goes, next_goes}
 use Rattle.st_model.proofs.SameValues.{same_ref}
 

@@ -9,8 +9,8 @@ use Rattle.st_emit.specs.Steps.{size, size_of}
 use Rattle.st_emit.specs.Resolving.{first_special, block_copy}
 use Rattle.st_emit.specs.Nodes.{Node, constant, small, literal, variable, assign, block, send, one_sided, two_sided, loop, Body, nothing, last, next, returned, Messages, only, also, Nodes, none, node, count, returns}
 use Rattle.st_emit.specs.Emitting.{Use, for_value, for_effect, used, stored, code_of, body_code, messages_code, nodes_code, method_code, send_step, passes_on, other_side, leaves_on, pop_arguments, block_end, choice, repeat, return_code}
-use Rattle.st_resolved.specs.Placed.{Placed, BodyPlaced, MessagesPlaced, NodesPlaced}
-use Rattle.st_meaning.specs.Blocks.{OfBlock, first_at, second_at, inside_at, Each, EachOfBody, EachOfMessages, EachOfNodes}
+use Rattle.st_resolved.specs.inside.Placed.{Placed, BodyPlaced, MessagesPlaced, NodesPlaced}
+use Rattle.st_meaning.specs.inside.Blocks.{OfBlock, first_at, second_at, inside_at, Each, EachOfBody, EachOfMessages, EachOfNodes}
 use Rattle.st_meaning.proofs.Leads as leads
 use Rattle.st_meaning.proofs.Living.{BodyFew}
 

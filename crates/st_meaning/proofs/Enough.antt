@@ -15,12 +15,12 @@ use Rattle.st_meaning.specs.declared.deed.Variable.{Variable}
 use Rattle.st_meaning.specs.declared.deed.Variable.TheVariants.{Temporary}
 use Rattle.st_meaning.specs.declared.deed.Value.{Value}
 use Rattle.st_meaning.specs.declared.deed.Value.TheVariants as values
-use Rattle.st_meaning.specs.Values.{constant_value, AnswerView, DeedView, literal_value, small_value, variable_of}
-use Rattle.st_meaning.specs.Values as views
-use Rattle.st_meaning.specs.Runs.{Going, Outcome, went, over, long, stuck, unfinished, Run, gives, then_go, ◌>>=◌, did, ends, take_answer, assign_to, answer_to, make_block, return_value, be_unsure, jump_back, decide}
-use Rattle.st_meaning.specs.Traces.{nil, sided, chosen, goes_on, turns, value_of, body_value, messages_value, nodes_values, method_value}
-use Rattle.st_meaning.specs.Blocks.{take_arguments, block_value, block_trace}
-use Rattle.st_meaning.specs.Meanings.{start_of, before_all, IsEnded, trace_of}
+use Rattle.st_meaning.specs.inside.Values.{constant_value, AnswerView, DeedView, literal_value, small_value, variable_of}
+use Rattle.st_meaning.specs.inside.Values as views
+use Rattle.st_meaning.specs.inside.Runs.{Going, Outcome, went, over, long, stuck, unfinished, Run, gives, then_go, ◌>>=◌, did, ends, take_answer, assign_to, answer_to, make_block, return_value, be_unsure, jump_back, decide}
+use Rattle.st_meaning.specs.inside.Traces.{nil, sided, chosen, goes_on, turns, value_of, body_value, messages_value, nodes_values, method_value}
+use Rattle.st_meaning.specs.inside.Blocks.{take_arguments, block_value, block_trace}
+use Rattle.st_meaning.specs.inside.Meanings.{start_of, before_all, IsEnded, trace_of}
 
 module _ (most : ℕ) where
   -- a run that goes on has jumped back no fewer times than b, and not too often; and its bound didn't run out

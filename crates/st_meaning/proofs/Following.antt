@@ -15,13 +15,13 @@ use Rattle.st_meaning.specs.declared.course.Course.{Course}
 use Rattle.st_meaning.specs.declared.fault.MeaningFault.{MeaningFault}
 use Rattle.st_meaning.specs.declared.tracing.TurnEnd.{TurnEnd}
 use Rattle.st_meaning.specs.declared.tracing.TurnEnd.TheVariants.{Again, Left, Over}
-use Rattle.st_meaning.specs.Runs.{Going, Outcome, went, over, long, Run, gives, then_go, ◌>>=◌, answer_to, return_value, jump_back, in_order, in_order_before}
-use Rattle.st_meaning.specs.Values.{DeedView, returned}
-use Rattle.st_meaning.specs.Traces.{nil, goes_on, turns}
-use Rattle.st_meaning.specs.Meanings.{most}
-use Rattle.st_meaning.specs.Courses.{going_view, with_deed, with_back, stack_view, Goes, IsLong, Tests, IsLongTest}
-use Rattle.st_meaning.specs.Arenas.{Meaning, meant, runs_of, left}
-use Rattle.st_meaning.specs.Traced.{Cut, IsCut, IsPassed, IsFirstOn, IsLeftOn, message_in, arguments_in, nodes_in, EndsTurn, IsTurnCut, Repeats, IsRepeatCut, again_in, body_in, chosen_in, sided_in, node_in, start_in, acts_in}
+use Rattle.st_meaning.specs.inside.Runs.{Going, Outcome, went, over, long, Run, gives, then_go, ◌>>=◌, answer_to, return_value, jump_back, in_order, in_order_before}
+use Rattle.st_meaning.specs.inside.Values.{DeedView, returned}
+use Rattle.st_meaning.specs.inside.Traces.{nil, goes_on, turns}
+use Rattle.st_meaning.specs.inside.Meanings.{most}
+use Rattle.st_meaning.specs.inside.Courses.{going_view, with_deed, with_back, stack_view, Goes, IsLong, Tests, IsLongTest}
+use Rattle.st_meaning.specs.inside.Arenas.{Meaning, meant, runs_of, left}
+use Rattle.st_meaning.specs.inside.Traced.{Cut, IsCut, IsPassed, IsFirstOn, IsLeftOn, message_in, arguments_in, nodes_in, EndsTurn, IsTurnCut, Repeats, IsRepeatCut, again_in, body_in, chosen_in, sided_in, node_in, start_in, acts_in}
 use Rattle.st_meaning.proofs.Arenas.{cut_then, run_at, many_runs}
 use Rattle.st_meaning.proofs.Continuing.{so_long}
 use Rattle.st_meaning.proofs.Coursing.{few_deeds, full_deeds, return_on, return_long, back_on, back_long}

@@ -24,19 +24,19 @@ use Rattle.st_emit.specs.Selectors.{arity}
 use Rattle.st_emit.specs.Steps.{size, size_of, is_short}
 use Rattle.st_emit.specs.Nodes.{Node, constant, small, literal, variable, assign, block, send, one_sided, two_sided, loop, Body, nothing, last, next, returned, Messages, only, also, Nodes, none, node, count, returns}
 use Rattle.st_emit.specs.Emitting.{used, stored, send_step, choice, repeat, code_of, body_code, messages_code, nodes_code, return_code, return_constant, block_code, block_end, pop_arguments, passes_on, other_side, leaves_on, chosen}
-use Rattle.st_resolved.specs.Placed.{IsCount, Placed, BodyPlaced, MessagesPlaced, NodesPlaced, IsFound, IsVariable}
+use Rattle.st_resolved.specs.inside.Placed.{IsCount, Placed, BodyPlaced, MessagesPlaced, NodesPlaced, IsFound, IsVariable}
 use Rattle.st_resolved.specs.Instructions.{read_as, long_count}
 use Rattle.st_resolved.proofs.Sizes.{size-append}
 use Rattle.st_meaning.specs.declared.deed.Variable.{Variable}
 use Rattle.st_meaning.specs.declared.deed.Value.{Value}
 use Rattle.st_meaning.specs.declared.deed.Value.TheVariants as values
-use Rattle.st_meaning.specs.Values.{constant_value, assigned, unsure, returned as has_returned, literal_value, small_value, variable_of}
-use Rattle.st_meaning.specs.Runs.{Going, Outcome, went, over, long, stuck, unfinished, Run, gives, then_go, ◌>>=◌, did, ends, changed, assign_to, answer_to, make_block, return_value, be_unsure, jump_back, decide, in_order, in_order_before}
-use Rattle.st_meaning.specs.Runs as runs
-use Rattle.st_meaning.specs.Traces.{nil, sided, turns, goes_on, value_of, body_value, messages_value, nodes_values}
-use Rattle.st_meaning.specs.Traces as traces
-use Rattle.st_meaning.specs.Codes as codes
-use Rattle.st_meaning.specs.Walks.{Next, selector_of, act, done, walk, on_boolean}
+use Rattle.st_meaning.specs.inside.Values.{constant_value, assigned, unsure, returned as has_returned, literal_value, small_value, variable_of}
+use Rattle.st_meaning.specs.inside.Runs.{Going, Outcome, went, over, long, stuck, unfinished, Run, gives, then_go, ◌>>=◌, did, ends, changed, assign_to, answer_to, make_block, return_value, be_unsure, jump_back, decide, in_order, in_order_before}
+use Rattle.st_meaning.specs.inside.Runs as runs
+use Rattle.st_meaning.specs.inside.Traces.{nil, sided, turns, goes_on, value_of, body_value, messages_value, nodes_values}
+use Rattle.st_meaning.specs.inside.Traces as traces
+use Rattle.st_meaning.specs.inside.Codes as codes
+use Rattle.st_meaning.specs.inside.Walks.{Next, selector_of, act, done, walk, on_boolean}
 use Rattle.st_meaning.proofs.Living.{Always, always_then, always_both, onward, onward_then, goes, body_goes, nodes_go, Few, BodyFew, MessagesFew, NodesFew, lives, body_lives, nodes_live}
 use Rattle.st_meaning.proofs.Leads as leads
 

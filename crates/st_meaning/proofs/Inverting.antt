@@ -8,7 +8,7 @@ use Rattle.st_model.specs.declared.page.PageObject.{PageObject}
 use Rattle.st_model.specs.Objects.{Object, is_pointers, is_method, with_field}
 use Rattle.st_model.specs.Machine.{ObjectMemory, State, Transition, Died, Went, Step, is_there, answer, die, after, ◌>>=◌, ◌>>◌}
 use Rattle.st_model.specs.Steps.{get_active, get_home, get_method, get_receiver, get_ip, get_sp, set_ip, set_sp, found, object_named, object, stored_at, store_at, set_field, of_page, or_die, check, fetch_field, store_field, count_fields, put, push, top, pop, under, literal, jump}
-use Rattle.st_meaning.specs.Machines.{field_in, literal_in, object_in, field_at}
+use Rattle.st_meaning.specs.inside.Machines.{field_in, literal_in, object_in, field_at}
 
 -- two steps, one after the other
 pub record Split {H A B : Type 0} (n : Step H A) (f : A → Step H B) (s t : State H) (b : B) : Type 0 where

@@ -7,9 +7,9 @@ use Rattle.st_emit.specs.Steps.{size, size_of}
 use Rattle.st_resolved.specs.declared.reading.Found.{Found}
 use Rattle.st_resolved.specs.Instructions.{instruction, read_as}
 use Rattle.st_meaning.specs.declared.deed.Value.{Value}
-use Rattle.st_meaning.specs.Values.{DeedView}
-use Rattle.st_meaning.specs.Runs.{Going, Outcome, went, over, long, stuck, unfinished, Run, then_go, did, ends}
-use Rattle.st_meaning.specs.Walks.{Next, act_found, act, walk}
+use Rattle.st_meaning.specs.inside.Values.{DeedView}
+use Rattle.st_meaning.specs.inside.Runs.{Going, Outcome, went, over, long, stuck, unfinished, Run, then_go, did, ends}
+use Rattle.st_meaning.specs.inside.Walks.{Next, act_found, act, walk}
 
 module _ (most : ℕ) (literals : List LiteralView) (bytes : List ℕ) where
   abbrev pub go : ℕ → Next

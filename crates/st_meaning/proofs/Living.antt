@@ -7,13 +7,13 @@ use Rattle.st_emit.specs.declared.form.Loop.{Loop}
 use Rattle.st_emit.specs.declared.form.Loop.TheVariants.{WhileTrue, WhileFalse}
 use Rattle.st_emit.specs.Literals.{LiteralView}
 use Rattle.st_emit.specs.Nodes.{Node, constant, small, literal, variable, assign, block, send, one_sided, two_sided, loop, Body, nothing, last, next, returned, Messages, only, also, Nodes, none, node, count}
-use Rattle.st_resolved.specs.Placed.{IsCount, Placed, BodyPlaced, MessagesPlaced, NodesPlaced}
+use Rattle.st_resolved.specs.inside.Placed.{IsCount, Placed, BodyPlaced, MessagesPlaced, NodesPlaced}
 use Rattle.st_meaning.specs.declared.deed.Value.{Value}
 use Rattle.st_meaning.specs.declared.deed.Value.TheVariants as values
-use Rattle.st_meaning.specs.Values.{DeedView, variable_of}
-use Rattle.st_meaning.specs.Values as views
-use Rattle.st_meaning.specs.Runs.{Going, Outcome, went, over, long, stuck, unfinished, Run, gives, then_go, ◌>>=◌, did, ends, assign_to, make_block, return_value, be_unsure, jump_back, decide}
-use Rattle.st_meaning.specs.Traces.{nil, sided, chosen, goes_on, turns, value_of, body_value, messages_value, nodes_values}
+use Rattle.st_meaning.specs.inside.Values.{DeedView, variable_of}
+use Rattle.st_meaning.specs.inside.Values as views
+use Rattle.st_meaning.specs.inside.Runs.{Going, Outcome, went, over, long, stuck, unfinished, Run, gives, then_go, ◌>>=◌, did, ends, assign_to, make_block, return_value, be_unsure, jump_back, decide}
+use Rattle.st_meaning.specs.inside.Traces.{nil, sided, chosen, goes_on, turns, value_of, body_value, messages_value, nodes_values}
 use Rattle.std.proofs.lemmas.Bool.{and_from, or_left}
 use Rattle.st_scan.proofs.Classes.{or_second}
 

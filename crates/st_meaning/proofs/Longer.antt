@@ -8,11 +8,11 @@ use Rattle.st_resolved.specs.Instructions.{instruction}
 use Rattle.st_meaning.specs.declared.deed.Variable.{Variable}
 use Rattle.st_meaning.specs.declared.deed.Value.{Value}
 use Rattle.st_meaning.specs.declared.deed.Value.TheVariants as values
-use Rattle.st_meaning.specs.Runs.{Going, Outcome, went, over, long, stuck, unfinished, Run, then_go, ◌>>=◌, answer_to, make_block, assign_to, jump_back, decide}
-use Rattle.st_meaning.specs.Codes.{Walked, walk_code}
-use Rattle.st_meaning.specs.Codes as codes
-use Rattle.st_meaning.specs.Walks.{Next, values_at, on_boolean, done, act_found, walk}
-use Rattle.st_meaning.specs.Meanings.{IsEnded}
+use Rattle.st_meaning.specs.inside.Runs.{Going, Outcome, went, over, long, stuck, unfinished, Run, then_go, ◌>>=◌, answer_to, make_block, assign_to, jump_back, decide}
+use Rattle.st_meaning.specs.inside.Codes.{Walked, walk_code}
+use Rattle.st_meaning.specs.inside.Codes as codes
+use Rattle.st_meaning.specs.inside.Walks.{Next, values_at, on_boolean, done, act_found, walk}
+use Rattle.st_meaning.specs.inside.Meanings.{IsEnded}
 
 -- a walk that is over, too long, or stuck
 abbrev pub IsDone : Outcome Value → Type 0

@@ -12,14 +12,14 @@ use Rattle.st_emit.specs.Nodes.{Body}
 use Rattle.st_emit.proofs.Sizes.{size-bytes}
 use Rattle.st_code.specs.Methods.{body, steps, depth, variables, literals, fault}
 use Rattle.st_resolved.specs.Instructions.{instruction, AllFit}
-use Rattle.st_resolved.specs.Placed.{BodyPlaced}
-use Rattle.st_resolved.specs.Right.{RightStatements}
+use Rattle.st_resolved.specs.inside.Placed.{BodyPlaced}
+use Rattle.st_resolved.specs.inside.Right.{RightStatements}
 use Rattle.st_resolved.proofs.Decoding.{reads_back}
 use Rattle.st_resolved.proofs.Wholes.{few_words, placed, fit, not_more}
 use Rattle.st_meaning.specs.declared.deed.Value.TheVariants.{First}
-use Rattle.st_meaning.specs.Values.{AnswerView}
-use Rattle.st_meaning.specs.Blocks.{OfBlock, EachOfBody, arguments_on, block_trace, block_walk}
-use Rattle.st_meaning.specs.Meanings.{start_of, before_all, enough_turns, enough_steps, trace_of, walk_of}
+use Rattle.st_meaning.specs.inside.Values.{AnswerView}
+use Rattle.st_meaning.specs.inside.Blocks.{OfBlock, EachOfBody, arguments_on, block_trace, block_walk}
+use Rattle.st_meaning.specs.inside.Meanings.{start_of, before_all, enough_turns, enough_steps, trace_of, walk_of}
 use Rattle.st_meaning.proofs.Living.{BodyFew}
 use Rattle.st_meaning.proofs.Leads as leads
 use Rattle.st_meaning.proofs.Longer.{ended_done, one_end}

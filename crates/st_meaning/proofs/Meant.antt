@@ -1,6 +1,6 @@
 -- Parts of an arena that do what nodes of a tree do.
 use Rattle.std.proofs.Common.{◌≡◌, ℕ, Bool, true, false, List, [], ◌∷◌, ◌++◌, Option, refl, sym, ap, ◌∙◌}
-use Rattle.st_scan.specs.Chains.{LinkView, assigned as to_name, sent as sent_link}
+use Rattle.st_scan.specs.inside.Chains.{LinkView, assigned as to_name, sent as sent_link}
 use Rattle.st_emit.specs.declared.form.OneSided.{OneSided}
 use Rattle.st_emit.specs.declared.form.TwoSided.{TwoSided}
 use Rattle.st_emit.specs.declared.form.Loop.{Loop as Kind}
@@ -15,11 +15,11 @@ use Rattle.st_meaning.specs.declared.arena.Start.{Start}
 use Rattle.st_meaning.specs.declared.arena.Start.TheVariants.{Loop}
 use Rattle.st_meaning.specs.declared.arena.Act.{Act}
 use Rattle.st_meaning.specs.declared.arena.Act.TheVariants.{One, Two}
-use Rattle.st_meaning.specs.Runs.{Outcome, went, over, long, stuck, unfinished, Run, gives, then_go, ◌>>=◌, answer_to, return_value, in_order}
-use Rattle.st_meaning.specs.Traces.{nil, sided, chosen, turns, value_of, body_value, messages_value, nodes_values, method_value}
-use Rattle.st_meaning.specs.Meanings.{most}
-use Rattle.st_meaning.specs.Arenas.{Meaning, meant, node_at, start_run, act_run, acts_run, each, place_run, message_run, left, method_end, body_run}
-use Rattle.st_meaning.specs.Meant.{tail_value, IsNode, IsStart, IsChain, IsAct, IsArguments, IsMessage, IsMessages, value_behind, IsBehind, IsBody}
+use Rattle.st_meaning.specs.inside.Runs.{Outcome, went, over, long, stuck, unfinished, Run, gives, then_go, ◌>>=◌, answer_to, return_value, in_order}
+use Rattle.st_meaning.specs.inside.Traces.{nil, sided, chosen, turns, value_of, body_value, messages_value, nodes_values, method_value}
+use Rattle.st_meaning.specs.inside.Meanings.{most}
+use Rattle.st_meaning.specs.inside.Arenas.{Meaning, meant, node_at, start_run, act_run, acts_run, each, place_run, message_run, left, method_end, body_run}
+use Rattle.st_meaning.specs.inside.Meant.{tail_value, IsNode, IsStart, IsChain, IsAct, IsArguments, IsMessage, IsMessages, value_behind, IsBehind, IsBody}
 use Rattle.st_meaning.proofs.Arenas.{then_gives, then_assoc, each_more}
 
 -- RUNS

@@ -8,16 +8,16 @@ use Rattle.st_emit.specs.Literals.{LiteralView}
 use Rattle.st_emit.specs.Steps.{size, size_of}
 use Rattle.st_emit.specs.Nodes.{Body, nothing, last, next, returned, returns}
 use Rattle.st_emit.specs.Emitting.{for_value, for_effect, code_of, body_code, block_end, method_code, pop_arguments}
-use Rattle.st_resolved.specs.Placed.{BodyPlaced}
-use Rattle.st_meaning.specs.Values.{constant_value}
+use Rattle.st_resolved.specs.inside.Placed.{BodyPlaced}
+use Rattle.st_meaning.specs.inside.Values.{constant_value}
 use Rattle.st_meaning.specs.declared.deed.Variable.TheVariants.{Temporary}
 use Rattle.st_meaning.specs.declared.deed.Value.{Value}
 use Rattle.st_meaning.specs.declared.deed.Value.TheVariants.{First}
-use Rattle.st_meaning.specs.Runs.{Going, Outcome, went, over, long, stuck, unfinished, then_go, ◌>>=◌, return_value, assign_to}
-use Rattle.st_meaning.specs.Traces.{value_of, body_value, method_value}
-use Rattle.st_meaning.specs.Walks.{walk}
-use Rattle.st_meaning.specs.Blocks.{arguments_on, take_arguments, block_value}
-use Rattle.st_meaning.specs.Meanings.{IsEnded}
+use Rattle.st_meaning.specs.inside.Runs.{Going, Outcome, went, over, long, stuck, unfinished, then_go, ◌>>=◌, return_value, assign_to}
+use Rattle.st_meaning.specs.inside.Traces.{value_of, body_value, method_value}
+use Rattle.st_meaning.specs.inside.Walks.{walk}
+use Rattle.st_meaning.specs.inside.Blocks.{arguments_on, take_arguments, block_value}
+use Rattle.st_meaning.specs.inside.Meanings.{IsEnded}
 use Rattle.st_meaning.proofs.Living.{BodyFew, goes, body_goes, lives, body_lives}
 use Rattle.st_meaning.proofs.Leads as leads
 use Rattle.st_meaning.proofs.Follows.{node_leads, body_leads, then_leads, leads_where, constant_returns, node_returns, returns_leads, stores, front, back}

@@ -18,16 +18,16 @@ use Rattle.st_emit.specs.Names.{NamesView, Scope, Declared, Variable, temporary,
 use Rattle.st_emit.specs.Literals.{LiteralView, named, named_literal}
 use Rattle.st_emit.specs.Steps.{is_short}
 use Rattle.st_emit.specs.Resolving.{place_named, by_selector, by_literal, special_code}
-use Rattle.st_emit.specs.NameViews.{names_view, scope_view}
-use Rattle.st_emit.specs.Emits.{place_at}
+use Rattle.st_emit.specs.inside.NameViews.{names_view, scope_view}
+use Rattle.st_emit.specs.inside.Emits.{place_at}
 use Rattle.st_resolved.specs.declared.reading.Found.{Found}
 use Rattle.st_resolved.specs.Instructions.{place_of, place_in, pushed_constant, returned_constant, sending, doubly, long_on, long_jump_by, instruction, instruction_by}
-use Rattle.st_resolved.specs.Seen.{AllBelow, numbers}
+use Rattle.st_resolved.specs.inside.Seen.{AllBelow, numbers}
 use Rattle.st_resolved.proofs.Grows.{Grows, extends_same, grows_place, grows_by_literal, grows_code}
 use Rattle.st_resolved.proofs.Places.{named_found}
-use Rattle.st_meaning.specs.Values.{IsShort}
-use Rattle.st_meaning.specs.Courses.{NamesShort}
-use Rattle.st_meaning.specs.Sketches.{IsFew}
+use Rattle.st_meaning.specs.inside.Values.{IsShort}
+use Rattle.st_meaning.specs.inside.Courses.{NamesShort}
+use Rattle.st_meaning.specs.inside.Sketches.{IsFew}
 
 -- NAMES
 

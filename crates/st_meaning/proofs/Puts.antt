@@ -7,10 +7,10 @@ use Rattle.st_meaning.specs.declared.deed.Variable.TheVariants.{Field, Temporary
 use Rattle.st_meaning.specs.declared.deed.Value.{Value}
 use Rattle.st_meaning.specs.declared.deed.Value.TheVariants.{First}
 use Rattle.st_meaning.specs.declared.held.Held.{Held}
-use Rattle.st_meaning.specs.Values.{same_variable}
-use Rattle.st_meaning.specs.Runs.{number_of, changed}
-use Rattle.st_meaning.specs.Meanings.{start_of}
-use Rattle.st_meaning.specs.Courses.{known, held_of, IsPut}
+use Rattle.st_meaning.specs.inside.Values.{same_variable}
+use Rattle.st_meaning.specs.inside.Runs.{number_of, changed}
+use Rattle.st_meaning.specs.inside.Meanings.{start_of}
+use Rattle.st_meaning.specs.inside.Courses.{known, held_of, IsPut}
 
 other_same : (b : Bool) (v x : Value) → (if b && false then v else x) ≡ x
 other_same true v x = refl

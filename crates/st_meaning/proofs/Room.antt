@@ -9,7 +9,7 @@ use Rattle.st_emit.specs.Depths.{pushed, popped, level_used, ended, beside, join
 use Rattle.st_emit.specs.Nodes.{Node, constant, small, literal, variable, assign, block, send, one_sided, two_sided, loop, Body, nothing, last, next, returned, Messages, only, also, Nodes, none, node, count}
 use Rattle.st_emit.specs.Emitting.{code_of, pop_arguments}
 use Rattle.st_emit.specs.Steps.{size}
-use Rattle.st_meaning.specs.Blocks.{inside_at, Each, EachOfBody, EachOfMessages, EachOfNodes}
+use Rattle.st_meaning.specs.inside.Blocks.{inside_at, Each, EachOfBody, EachOfMessages, EachOfNodes}
 use Rattle.st_meaning.proofs.EachBlock.{FewBlock}
 use Rattle.st_meaning.proofs.Living.{goes, body_goes, messages_go, nodes_go, Few, BodyFew, MessagesFew, NodesFew}
 

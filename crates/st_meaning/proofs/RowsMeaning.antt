@@ -10,12 +10,12 @@ use Rattle.st_code.specs.Methods.{body, parts}
 use Rattle.st_meaning.specs.declared.deed.Variable.TheVariants.{Field, Temporary}
 use Rattle.st_meaning.specs.declared.deed.Value.{Value}
 use Rattle.st_meaning.specs.declared.deed.Value.TheVariants.{Number, First, Block}
-use Rattle.st_meaning.specs.Values.{constant_value, AnswerView, sent, assigned, made, returned, unsure}
-use Rattle.st_meaning.specs.Runs.{Outcome, over, long, did, assign_to, answer_to, make_block, return_value, be_unsure, jump_back}
-use Rattle.st_meaning.specs.Walks.{walk}
-use Rattle.st_meaning.specs.Blocks.{block_trace, block_walk}
+use Rattle.st_meaning.specs.inside.Values.{constant_value, AnswerView, sent, assigned, made, returned, unsure}
+use Rattle.st_meaning.specs.inside.Runs.{Outcome, over, long, did, assign_to, answer_to, make_block, return_value, be_unsure, jump_back}
+use Rattle.st_meaning.specs.inside.Walks.{walk}
+use Rattle.st_meaning.specs.inside.Blocks.{block_trace, block_walk}
 use Rattle.st_emit.specs.Nodes.{Body, returned as answered, body_of}
-use Rattle.st_meaning.specs.Meanings.{most, Trace, Walk, trace_of, walk_of}
+use Rattle.st_meaning.specs.inside.Meanings.{most, Trace, Walk, trace_of, walk_of}
 
 abbrev trace_by : MethodView → List AnswerView → Outcome Value
 trace_by m answers = Trace m point answers

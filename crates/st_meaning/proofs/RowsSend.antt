@@ -22,8 +22,8 @@ use Rattle.st_emit.specs.declared.step.Step.{Step as Code}
 use Rattle.st_emit.specs.declared.step.Step.TheVariants.{Send, SendSuper, SendSpecial, ReturnConstant, ReturnTop, ReturnBlock, JumpIf}
 use Rattle.st_emit.specs.Resolving.{special_selectors, first_special, block_copy}
 use Rattle.st_emit.specs.Selectors.{arity}
-use Rattle.st_meaning.specs.Codes.{sent, returned, tested, on_top, on_some, on_message, sends, copies, sends_special, walk_code}
-use Rattle.st_meaning.specs.Machines.{KeepsOthers, laid, field_at, literal_at, text_at, values_in, stack_in, IsSelector, NamesSelectors, Keeps, GoesOn, Answers, Shows, boolean_at, sends_by, succeeds, primitive_first, return_by}
+use Rattle.st_meaning.specs.inside.Codes.{sent, returned, tested, on_top, on_some, on_message, sends, copies, sends_special, walk_code}
+use Rattle.st_meaning.specs.inside.Machines.{KeepsOthers, laid, field_at, literal_at, text_at, values_in, stack_in, IsSelector, NamesSelectors, Keeps, GoesOn, Answers, Shows, boolean_at, sends_by, succeeds, primitive_first, return_by}
 use Rattle.st_meaning.proofs.Inverting.{split, split_next, then_goes, next_goes, then_as, read_then, answered, page_reads, page_is, field_reads, field_is, jump_is, pop_is, under_reads, then_reads, Reads, Topped}
 use Rattle.st_meaning.proofs.RowsWalk.{Frame, frame_of, RowShows, by_top, lowered, jumped, literal_then, literal_fetched, done_of, constant_word, constant_got}
 use Rattle.st_model.proofs.SameValues.{same_ref}

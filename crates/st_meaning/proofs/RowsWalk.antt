@@ -19,8 +19,8 @@ use Rattle.st_emit.specs.declared.step.Place.TheVariants.{Field, Temporary, Lite
 use Rattle.st_emit.specs.declared.step.Step.{Step as Code}
 use Rattle.st_emit.specs.declared.step.Step.TheVariants.{Push, PushConstant, Store, PopStore, Pop, Duplicate}
 use Rattle.st_resolved.specs.Instructions.{place_of, pushed_constant}
-use Rattle.st_meaning.specs.Codes.{Walked, went, stored, ahead, aback, on_top, on_some, walk_code}
-use Rattle.st_meaning.specs.Machines.{KeepsOthers, literal_in, object_in, field_at, literal_at, value_at, variable_at, values_in, words_from, stack_in, IsApart, IsWalked, IsOwn, Keeps, KeepsBut, GoesOn, Shows}
+use Rattle.st_meaning.specs.inside.Codes.{Walked, went, stored, ahead, aback, on_top, on_some, walk_code}
+use Rattle.st_meaning.specs.inside.Machines.{KeepsOthers, literal_in, object_in, field_at, literal_at, value_at, variable_at, values_in, words_from, stack_in, IsApart, IsWalked, IsOwn, Keeps, KeepsBut, GoesOn, Shows}
 use Rattle.st_meaning.proofs.Inverting.{split, split_next, Reads, read_then, answered, receiver_reads, home_reads, method_reads, active_reads, receiver_is, home_is, method_is, active_is, field_reads, field_is, literal_reads, literal_is, top_reads, top_is, pop_is, push_is, store_is, jump_is, then_reads, Stored, Topped}
 use Rattle.st_meaning.proofs.Standing.{field_same, field_else, field_other, field_apart, literal_kept, words_kept, pushed_words, popped_words}
 

@@ -4,7 +4,7 @@ use Rattle.std.specs.Prelude.{if◌then◌else◌}
 use Rattle.st_scan.specs.declared.chain.Link.{Link}
 use Rattle.st_scan.specs.Views.{ExpressionView, StatementsView, MessagesView, ExpressionsView, no_messages, message, no_expressions, expression, block}
 use Rattle.st_scan.specs.Views as views
-use Rattle.st_scan.specs.Chains.{LinkView, sent, with_link, linked, link_view, links_view}
+use Rattle.st_scan.specs.inside.Chains.{LinkView, sent, with_link, linked, link_view, links_view}
 use Rattle.st_emit.specs.declared.form.Form.{Form}
 use Rattle.st_emit.specs.declared.form.Form.TheVariants.{Message as Plain, One, Two, Repeated}
 use Rattle.st_emit.specs.declared.form.TwoSided.{TwoSided}
@@ -13,8 +13,8 @@ use Rattle.st_emit.specs.Literals.{LiteralView, Naming, given, ◌>>=◌}
 use Rattle.st_emit.specs.Nodes.{Node, Tail, loop, sided, chosen}
 use Rattle.st_emit.specs.Nodes as nodes
 use Rattle.st_emit.specs.Resolving.{Context, behind, names_in, names_in_statements, is_plain, all_plain, expression_node, statements_body, messages_of, nodes_of, form_named, formed, plain_tail}
-use Rattle.st_emit.specs.Around.{link_tail, message_of, cascade_nodes}
-use Rattle.st_emit.specs.Shapes.{ShapeView, plain, one_sided, two_sided, formed_shape, two_sided_shape, shape_of, statements_of, RepetitionView, repetition_of, first_repetition, IsCascade}
+use Rattle.st_emit.specs.inside.Around.{link_tail, message_of, cascade_nodes}
+use Rattle.st_emit.specs.inside.Shapes.{ShapeView, plain, one_sided, two_sided, formed_shape, two_sided_shape, shape_of, statements_of, RepetitionView, repetition_of, first_repetition, IsCascade}
 use Rattle.st_emit.proofs.Follow.{plain_block, loop_parts, loop_node, IsLoop}
 
 -- SHAPES

@@ -11,7 +11,7 @@ use Rattle.st_scan.specs.declared.tree.Message.{Message as Sent}
 use Rattle.st_scan.specs.declared.tree.Statement.{Statement}
 use Rattle.st_scan.specs.declared.chain.Link.{Link}
 use Rattle.st_scan.specs.Views.{NameView, ExpressionView, StatementsView, block, name_view, content_view, expression_view, expressions_view, messages_view, statements_view, message, statement, no_messages, is_super}
-use Rattle.st_scan.specs.Chains.{LinkView, sent as sent_link, with_link, link_view}
+use Rattle.st_scan.specs.inside.Chains.{LinkView, sent as sent_link, with_link, link_view}
 use Rattle.st_emit.specs.declared.draft.Draft.{Draft}
 use Rattle.st_emit.specs.declared.names.Around.{Around}
 use Rattle.st_emit.specs.declared.step.Constant.{Constant}
@@ -21,13 +21,13 @@ use Rattle.st_emit.specs.declared.form.TwoSided.{TwoSided}
 use Rattle.st_emit.specs.declared.form.TwoSided.TheVariants.{TrueFirst, FalseFirst}
 use Rattle.st_emit.specs.Names.{constant_named}
 use Rattle.st_emit.specs.Literals.{LiteralView, Naming, Named, given, ◌>>=◌, named_literal, literal_of}
-use Rattle.st_emit.specs.Views.{literals_view}
-use Rattle.st_emit.specs.Drafts.{Resolves}
+use Rattle.st_emit.specs.inside.Views.{literals_view}
+use Rattle.st_emit.specs.inside.Drafts.{Resolves}
 use Rattle.st_emit.specs.Nodes.{Node, variable, literal, Tail, assigned, chosen, sent, Messages, also, Nodes, none, Sending, returned, with_tail}
 use Rattle.st_emit.specs.Resolving.{Message as Resolved, Context, name_node, constant_or, literal_node, content_node, behind, before, by_selector, sending, message_nodes, no_message, tailed, names_in, names_in_all, names_in_statements, expression_node, messages_of, statements_body, plain_tail}
-use Rattle.st_emit.specs.Shapes.{ShapeView, two_sided, shape_of, repetition_of, IsCascade, IsOnly}
-use Rattle.st_emit.specs.Around.{context, at_number, message_of, link_tail}
-use Rattle.st_emit.specs.Emits.{after, place_at}
+use Rattle.st_emit.specs.inside.Shapes.{ShapeView, two_sided, shape_of, repetition_of, IsCascade, IsOnly}
+use Rattle.st_emit.specs.inside.Around.{context, at_number, message_of, link_tail}
+use Rattle.st_emit.specs.inside.Emits.{after, place_at}
 use Rattle.st_emit.proofs.Follow.{node_behind}
 use Rattle.st_emit.proofs.NodeKinds.{tail_kind}
 use Rattle.st_resolved.proofs.Grows.{Grows, grows_literal, expression_grows}
@@ -42,13 +42,13 @@ use Rattle.st_meaning.specs.declared.arena.Act.{Act}
 use Rattle.st_meaning.specs.declared.arena.Act.TheVariants.{Assign, Send, Two}
 use Rattle.st_meaning.specs.declared.arena.Node.{Node as Made}
 use Rattle.st_meaning.specs.declared.sketch.Sketch.{Sketch}
-use Rattle.st_meaning.specs.Values.{literal_value, variable_of, IsShort}
-use Rattle.st_meaning.specs.Runs.{Going, went, gives, assign_to}
-use Rattle.st_meaning.specs.Traces.{value_of, messages_value}
-use Rattle.st_meaning.specs.Meanings.{most}
-use Rattle.st_meaning.specs.Arenas.{Meaning, runs_of, node_run}
-use Rattle.st_meaning.specs.Meant.{IsNode, IsStart, IsChain, IsAct, IsArguments, IsMessage, IsMessages, IsBody}
-use Rattle.st_meaning.specs.Sketches.{literals_of, runs_in, Extends, Keeps, Stands, IsFew, Builds, message_named, messages_named, node_naming, arguments_naming, message_naming, cascade_naming, messages_naming, sent_naming, link_naming, body_naming, two_naming}
+use Rattle.st_meaning.specs.inside.Values.{literal_value, variable_of, IsShort}
+use Rattle.st_meaning.specs.inside.Runs.{Going, went, gives, assign_to}
+use Rattle.st_meaning.specs.inside.Traces.{value_of, messages_value}
+use Rattle.st_meaning.specs.inside.Meanings.{most}
+use Rattle.st_meaning.specs.inside.Arenas.{Meaning, runs_of, node_run}
+use Rattle.st_meaning.specs.inside.Meant.{IsNode, IsStart, IsChain, IsAct, IsArguments, IsMessage, IsMessages, IsBody}
+use Rattle.st_meaning.specs.inside.Sketches.{literals_of, runs_in, Extends, Keeps, Stands, IsFew, Builds, message_named, messages_named, node_naming, arguments_naming, message_naming, cascade_naming, messages_naming, sent_naming, link_naming, body_naming, two_naming}
 use Rattle.st_meaning.proofs.Arenas.{get_front, get_last, runs_push, many_runs}
 use Rattle.st_meaning.proofs.Meant.{chain_more, arguments_none, message_is, messages_made, messages_none, messages_one, sends_are, two_is}
 use Rattle.st_meaning.proofs.Shaped.{shape_tail, shape_same, cascade_same}

@@ -2,14 +2,14 @@
 use Rattle.std.proofs.Common.{◌≡◌, ℕ, List, Option, Some, None, refl, ap, ◌∙◌}
 use Rattle.std.specs.Prelude.{Ok}
 use Rattle.st_scan.specs.Views.{MethodView}
-use Rattle.st_grammar.specs.Texts.{Means}
+use Rattle.st_grammar.specs.inside.Meant.{Means}
 use Rattle.st_grammar.proofs.FormedTrees.{means_formed}
 use Rattle.st_emit.specs.Names.{NamesView}
 use Rattle.st_code.specs.declared.fault.Fault.{Fault}
 use Rattle.st_code.specs.Methods.{PartsView, literals, parts, fault, parts_or, code}
 use Rattle.st_resolved.proofs.Arity.{right_tree}
-use Rattle.st_meaning.specs.Meanings.{most, walk_of}
-use Rattle.st_meaning.specs.Laws.{MeansItsSource, BlocksMeanTheirs}
+use Rattle.st_meaning.specs.inside.Meanings.{most, walk_of}
+use Rattle.st_meaning.specs.inside.Laws.{MeansItsSource, BlocksMeanTheirs}
 use Rattle.st_meaning.proofs.Means.{walk_is, blocks_are}
 
 pub method_means : (text : List ℕ) (tree : MethodView) (names : NamesView) → Means text tree → fault tree names ≡ None → MeansItsSource tree names

@@ -7,8 +7,8 @@ use Rattle.st_meaning.specs.declared.deed.Value.{Value}
 use Rattle.st_meaning.specs.declared.code.Walked.{Walked}
 use Rattle.st_meaning.specs.declared.code.Top.{Top}
 use Rattle.st_meaning.specs.declared.code.Top.TheVariants as top
-use Rattle.st_meaning.specs.Codes as codes
-use Rattle.st_meaning.specs.Courses.{stack_view, top_walked, Does}
+use Rattle.st_meaning.specs.inside.Codes as codes
+use Rattle.st_meaning.specs.inside.Courses.{stack_view, top_walked, Does}
 
 pub pushed_view : (items : List Value) (v : Value) → stack_view (items ++ v ∷ []) ≡ v ∷ stack_view items
 pushed_view items v = reverse-append items (v ∷ [])

@@ -7,7 +7,7 @@ use Rattle.st_model.specs.Values.{Value, Small, Ref}
 use Rattle.st_model.specs.Objects.{Object, is_pointers, with_field}
 use Rattle.st_model.specs.Machine.{ObjectMemory}
 use Rattle.st_model.proofs.Transfers.{same_or_not}
-use Rattle.st_meaning.specs.Machines.{KeepsOthers, field_in, literal_in, object_in, field_at, words_from}
+use Rattle.st_meaning.specs.inside.Machines.{KeepsOthers, field_in, literal_in, object_in, field_at, words_from}
 use Rattle.st_meaning.proofs.Inverting.{Stored}
 use Rattle.st_model.proofs.KindTests.{no_method}
 

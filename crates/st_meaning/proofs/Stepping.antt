@@ -5,15 +5,15 @@ use Rattle.st_emit.specs.Selectors.{arity}
 use Rattle.st_code.specs.Methods.{PartsView}
 use Rattle.st_meaning.specs.declared.deed.Value.{Value}
 use Rattle.st_meaning.specs.declared.course.Course.{Course}
-use Rattle.st_meaning.specs.Values.{DeedView, AnswerView}
-use Rattle.st_meaning.specs.Runs.{Going, Outcome, long, unfinished}
-use Rattle.st_meaning.specs.Walks.{walk}
-use Rattle.st_meaning.specs.Meanings.{most, start_of, before_all, Walk}
+use Rattle.st_meaning.specs.inside.Values.{DeedView, AnswerView}
+use Rattle.st_meaning.specs.inside.Runs.{Going, Outcome, long, unfinished}
+use Rattle.st_meaning.specs.inside.Walks.{walk}
+use Rattle.st_meaning.specs.inside.Meanings.{most, start_of, before_all, Walk}
 use Rattle.st_meaning.specs.declared.deed.Answer.{Answer}
 use Rattle.st_meaning.specs.declared.fault.MeaningFault.{MeaningFault}
 use Rattle.st_meaning.specs.declared.fault.MeaningFault.TheVariants.{Long, OutOfMemory}
-use Rattle.st_meaning.specs.Deeds.{answers_view, Lists, IsFault}
-use Rattle.st_meaning.specs.Courses.{going_view, stack_view, Continues, IsLong, IsTooLong, advances}
+use Rattle.st_meaning.specs.inside.Deeds.{answers_view, Lists, IsFault}
+use Rattle.st_meaning.specs.inside.Courses.{going_view, stack_view, Continues, IsLong, IsTooLong, advances}
 use Rattle.st_meaning.proofs.Longer.{IsDone}
 use Rattle.st_meaning.proofs.Bounded.{walk_bounded}
 

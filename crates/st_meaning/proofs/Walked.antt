@@ -31,8 +31,8 @@ use Rattle.st_emit.specs.Steps.{is_short}
 use Rattle.st_emit.specs.Resolving.{first_special}
 use Rattle.st_resolved.specs.declared.reading.Found.{Found}
 use Rattle.st_resolved.specs.Instructions.{place_of, place_in, pushed_constant, in_one, in_two, in_three, sending, long_count, long_on, long_jump_by, instruction_by, instruction}
-use Rattle.st_meaning.specs.Codes.{walk_code}
-use Rattle.st_meaning.specs.Machines.{KeepsOthers, values_in, stack_in, StoresApart, HasFew, IsWalked, NamesSelectors, SendsNamed, TestsTwo, IsCode, behind, Shows, StepWalks}
+use Rattle.st_meaning.specs.inside.Codes.{walk_code}
+use Rattle.st_meaning.specs.inside.Machines.{KeepsOthers, values_in, stack_in, StoresApart, HasFew, IsWalked, NamesSelectors, SendsNamed, TestsTwo, IsCode, behind, Shows, StepWalks}
 use Rattle.st_meaning.proofs.Inverting.{split, split_next, then_goes, read_then, read_next, answered, method_reads, method_is, ip_reads, ip_is, set_ip_is, object_reads, object_is, check_reads, or_die_reads, some_is, Reads, then_reads, next_reads}
 use Rattle.st_meaning.proofs.RowsWalk.{RowShows, push_row, receiver_row, context_row, constant_row, pop_store_row, store_top, store_row, pop_row, duplicate_row, ahead_row, back_row}
 use Rattle.st_meaning.proofs.RowsSend.{test_row, send_row, super_row, special_row, arithmetic_row, equivalence_row, class_row, value_row, value_with_row, copy_row, return_receiver_row, return_constant_row, return_top_row, return_block_row}

@@ -8,25 +8,25 @@ use Rattle.st_emit.specs.declared.names.Around.{Around}
 use Rattle.st_emit.specs.Names.{NamesView, Scope, numbered}
 use Rattle.st_emit.specs.Literals.{LiteralView}
 use Rattle.st_emit.specs.Resolving.{Context, statements_body}
-use Rattle.st_emit.specs.Around.{context}
+use Rattle.st_emit.specs.inside.Around.{context}
 use Rattle.st_emit.proofs.Forms.{names_many}
 use Rattle.st_code.specs.Methods.{body, fault}
 use Rattle.st_code.specs.Methods as methods
-use Rattle.st_resolved.specs.Seen.{AllBelow, numbers}
+use Rattle.st_resolved.specs.inside.Seen.{AllBelow, numbers}
 use Rattle.st_resolved.proofs.Seen.{below_more}
 use Rattle.st_resolved.proofs.Wholes.{few_literals, few_variables, all_below}
 use Rattle.st_meaning.specs.declared.deed.Answer.{Answer}
 use Rattle.st_meaning.specs.declared.deed.Value.{Value}
 use Rattle.st_meaning.specs.declared.arena.Statements.{Statements}
 use Rattle.st_meaning.specs.declared.sketch.Sketch.{Sketch}
-use Rattle.st_meaning.specs.Values.{AnswerView, DeedView}
-use Rattle.st_meaning.specs.Runs.{Going, Outcome, went, over, long, stuck, unfinished, Run}
-use Rattle.st_meaning.specs.Traces.{method_value}
-use Rattle.st_meaning.specs.Deeds.{Lists, answers_view}
-use Rattle.st_meaning.specs.Meanings.{most, start_of, before_all, enough_turns, IsEnded, Trace}
-use Rattle.st_meaning.specs.Traced.{Cut, method_in}
-use Rattle.st_meaning.specs.Meant.{IsBody}
-use Rattle.st_meaning.specs.Sketches.{runs_in, literals_of, Builds, IsFew, body_naming, IsSketchOf}
+use Rattle.st_meaning.specs.inside.Values.{AnswerView, DeedView}
+use Rattle.st_meaning.specs.inside.Runs.{Going, Outcome, went, over, long, stuck, unfinished, Run}
+use Rattle.st_meaning.specs.inside.Traces.{method_value}
+use Rattle.st_meaning.specs.inside.Deeds.{Lists, answers_view}
+use Rattle.st_meaning.specs.inside.Meanings.{most, start_of, before_all, enough_turns, IsEnded, Trace}
+use Rattle.st_meaning.specs.inside.Traced.{Cut, method_in}
+use Rattle.st_meaning.specs.inside.Meant.{IsBody}
+use Rattle.st_meaning.specs.inside.Sketches.{runs_in, literals_of, Builds, IsFew, body_naming, IsSketchOf}
 use Rattle.st_meaning.proofs.Enough.{has_trace}
 
 abbrev pub the_context : NamesView → Scope → ℕ → Context

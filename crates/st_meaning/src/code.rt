@@ -1,12 +1,12 @@
 //! What one instruction does with a stack.
 
 ghost use Rattle.std.specs.Prelude.{◌≡◌, ◌∷◌, [], Some, None, IfOk, option_map, map, slice_get, ◌-◌};
-ghost use Rattle.st_emit.specs.{Selectors.{colons, arity, sends_now}, Views.{literal_view, literals_view}};
+ghost use Rattle.st_emit.specs.{Selectors.{colons, arity, sends_now}, inside.Views.{literal_view, literals_view}};
 ghost use Rattle.st_emit.specs.Resolving.{special_selectors, first_special};
-ghost use Rattle.st_meaning.specs.Values.{constant_value, number_value, literal_value, small_value};
-ghost use Rattle.st_meaning.specs.Walks.{selector_of, values_of};
-ghost use Rattle.st_meaning.specs.Courses.{stack_view, top_walked, IsTop, Does, NamesShort, held_of};
-ghost use Rattle.st_meaning.specs.Codes as codes;
+ghost use Rattle.st_meaning.specs.inside.Values.{constant_value, number_value, literal_value, small_value};
+ghost use Rattle.st_meaning.specs.inside.Walks.{selector_of, values_of};
+ghost use Rattle.st_meaning.specs.inside.Courses.{stack_view, top_walked, IsTop, Does, NamesShort, held_of};
+ghost use Rattle.st_meaning.specs.inside.Codes as codes;
 
 use crate::deed::{CONTEXT, FALSE, NIL, RECEIVER, TRUE, Value, ValueList, Variable};
 use crate::held::Held;

@@ -1,10 +1,10 @@
 //! How far a walk has come.
 
 ghost use Rattle.std.specs.Prelude.{◌≡◌, ◌==◌, ◌+◌, ◌++◌, [], ◌∷◌, true, false, length, IfOk, IfErr, OnOk};
-ghost use Rattle.st_meaning.specs.Deeds.{deed_view, deeds_view, answers_view};
-ghost use Rattle.st_meaning.specs.Runs.{did, ends, take_answer, over, went, long, assign_to, answer_to, make_block, jump_back};
-ghost use Rattle.st_meaning.specs.Meanings.{most, start_of, before_all};
-ghost use Rattle.st_meaning.specs.Courses.{going_view, with_deed, with_back, Goes, IsLong, IsSound};
+ghost use Rattle.st_meaning.specs.inside.Deeds.{deed_view, deeds_view, answers_view};
+ghost use Rattle.st_meaning.specs.inside.Runs.{did, ends, take_answer, over, went, long, assign_to, answer_to, make_block, jump_back};
+ghost use Rattle.st_meaning.specs.inside.Meanings.{most, start_of, before_all};
+ghost use Rattle.st_meaning.specs.inside.Courses.{going_view, with_deed, with_back, Goes, IsLong, IsSound};
 
 use crate::deed::{Answer, Deed, Deeds, Value, ValueList, Variable};
 use crate::fault::MeaningFault;

@@ -1,9 +1,9 @@
 //! What variables hold.
 
 ghost use Rattle.std.specs.Prelude.{◌≡◌, ◌<◌, IfOk, length, slice_get};
-ghost use Rattle.st_meaning.specs.Runs.{changed, all_changed};
-ghost use Rattle.st_meaning.specs.Meanings.{start_of};
-ghost use Rattle.st_meaning.specs.Courses.{known, held_of, IsTable, IsPut};
+ghost use Rattle.st_meaning.specs.inside.Runs.{changed, all_changed};
+ghost use Rattle.st_meaning.specs.inside.Meanings.{start_of};
+ghost use Rattle.st_meaning.specs.inside.Courses.{known, held_of, IsTable, IsPut};
 
 use crate::deed::{NIL, Value, Variable};
 use std::alloc::{AllocError, Global};

@@ -1,9 +1,9 @@
 //! Messages, taken off a stack.
 
 ghost use Rattle.std.specs.Prelude.{◌≡◌, IfOk, option_map};
-ghost use Rattle.st_meaning.specs.Codes as codes;
-ghost use Rattle.st_meaning.specs.Courses.{stack_view, Does};
-ghost use Rattle.st_meaning.specs.Taken.{IsMessage};
+ghost use Rattle.st_meaning.specs.inside.Codes as codes;
+ghost use Rattle.st_meaning.specs.inside.Courses.{stack_view, Does};
+ghost use Rattle.st_meaning.specs.inside.Taken.{IsMessage};
 
 use crate::code::Walked;
 use crate::deed::{Value, ValueList};

@@ -2,10 +2,10 @@
 
 ghost use Rattle.std.specs.Prelude.{◌≡◌, ◌++◌, None, IfOk, IfErr};
 ghost use Rattle.st_scan.specs.Views.{method_view};
-ghost use Rattle.st_emit.specs.NameViews.{names_view, frame_view, scope_view};
+ghost use Rattle.st_emit.specs.inside.NameViews.{names_view, frame_view, scope_view};
 ghost use Rattle.st_code.specs.Methods.{fault};
-ghost use Rattle.st_meaning.specs.{Deeds.{answers_view, deeds_view, Lists, IsFault}, Meanings.Trace};
-ghost use Rattle.st_meaning.specs.Sketches.{IsSketchOf};
+ghost use Rattle.st_meaning.specs.{inside.Deeds.{answers_view, deeds_view, Lists, IsFault}, inside.Meanings.Trace};
+ghost use Rattle.st_meaning.specs.inside.Sketches.{IsSketchOf};
 
 use crate::arena::Statements;
 use crate::course::{Course, MOST};

@@ -1,7 +1,7 @@
 //! Places in 8 bits.
 
 ghost use Rattle.std.specs.Prelude.{◌≡◌, ◌<◌};
-ghost use Rattle.st_meaning.specs.Values.{variable_of, IsShort};
+ghost use Rattle.st_meaning.specs.inside.Values.{variable_of, IsShort};
 
 use crate::deed::Variable;
 use st_emit::Place;

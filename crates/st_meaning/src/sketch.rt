@@ -3,15 +3,15 @@
 
 ghost use Rattle.std.specs.Prelude.{◌≡◌, ◌<◌, ◌≤◌, ◌++◌, ◌∷◌, [], IfOk, OnOk, length};
 ghost use Rattle.st_scan.specs.Views.{name_view, content_view, expression_view, messages_view};
-ghost use Rattle.st_scan.specs.Chains.{IsStart as IsFirst};
-ghost use Rattle.st_emit.specs.Around.{context};
-ghost use Rattle.st_emit.specs.Emits.{after, after_all, after_messages, after_loop, after_link, after_chain};
-ghost use Rattle.st_emit.specs.{Emits.{after_statements, after_begun, BeginsNoLoop}, Nodes.is_above};
-ghost use Rattle.st_emit.specs.{Resolving.{name_node, content_node, number_node}, Shapes.IsCascade};
-ghost use Rattle.st_meaning.specs.Meant.{IsNode, IsStart, IsAct, IsArguments, IsBody};
-ghost use Rattle.st_meaning.specs.Sketches.{IsFew, Builds, MakesMessage, MakesMessages, MakesSends, literals_of, node_naming};
-ghost use Rattle.st_meaning.specs.Sketches.{chain_naming, begun_naming, arguments_naming, sent_naming, two_naming};
-ghost use Rattle.st_meaning.specs.Sketches.{link_naming, body_naming, loop_naming};
+ghost use Rattle.st_scan.specs.inside.Chains.{IsStart as IsFirst};
+ghost use Rattle.st_emit.specs.inside.Around.{context};
+ghost use Rattle.st_emit.specs.inside.Emits.{after, after_all, after_messages, after_loop, after_link, after_chain};
+ghost use Rattle.st_emit.specs.{inside.Emits.{after_statements, after_begun, BeginsNoLoop}, Nodes.is_above};
+ghost use Rattle.st_emit.specs.{Resolving.{name_node, content_node, number_node}, inside.Shapes.IsCascade};
+ghost use Rattle.st_meaning.specs.inside.Meant.{IsNode, IsStart, IsAct, IsArguments, IsBody};
+ghost use Rattle.st_meaning.specs.inside.Sketches.{IsFew, Builds, MakesMessage, MakesMessages, MakesSends, literals_of, node_naming};
+ghost use Rattle.st_meaning.specs.inside.Sketches.{chain_naming, begun_naming, arguments_naming, sent_naming, two_naming};
+ghost use Rattle.st_meaning.specs.inside.Sketches.{link_naming, body_naming, loop_naming};
 
 use crate::arena::{Act, Arena, Message, MessageList, Node, NodePlaces, Start, Statements};
 use crate::code::{constant_value, number_value, small_value};

@@ -3,7 +3,7 @@
 ghost use Rattle.st_model.specs.Machine.{ObjectMemory};
 ghost use Rattle.st_model.specs.Births.{births};
 ghost use Rattle.st_model.specs.Table.{Table, IsTabular};
-ghost use Rattle.st_meaning.specs.Machines.{StepWalks, CycleSteps};
+ghost use Rattle.st_meaning.specs.inside.Machines.{StepWalks, CycleSteps};
 
 /// A step of the book's machine does what the walk's part of its code says, from each state that meets the conditions in
 /// `IsWalked` (chapter 28): the receiver's fields, the home's temporaries, the stack and the instruction pointer are what it

@@ -1,11 +1,11 @@
 //! What the nodes of a method do.
 
 ghost use Rattle.std.specs.Prelude.{◌≡◌, [], IfOk, IfErr, OnOk};
-ghost use Rattle.st_meaning.specs.{Meanings.most, Courses.{IsLong, IsSound}};
-ghost use Rattle.st_meaning.specs.Traced.{Gives, GivesAll, IsOver, IsPassed, IsFirstOn, IsLeftOn, IsCut};
-ghost use Rattle.st_meaning.specs.Traced.{EndsTurn, IsTurnCut, Repeats, IsRepeatCut};
-ghost use Rattle.st_meaning.specs.Traced.{node_in, start_in, acts_in, act_in, messages_in, message_in, arguments_in};
-ghost use Rattle.st_meaning.specs.Traced.{sided_in, chosen_in, body_in, nodes_in, loop_in, method_in};
+ghost use Rattle.st_meaning.specs.{inside.Meanings.most, inside.Courses.{IsLong, IsSound}};
+ghost use Rattle.st_meaning.specs.inside.Traced.{Gives, GivesAll, IsOver, IsPassed, IsFirstOn, IsLeftOn, IsCut};
+ghost use Rattle.st_meaning.specs.inside.Traced.{EndsTurn, IsTurnCut, Repeats, IsRepeatCut};
+ghost use Rattle.st_meaning.specs.inside.Traced.{node_in, start_in, acts_in, act_in, messages_in, message_in, arguments_in};
+ghost use Rattle.st_meaning.specs.inside.Traced.{sided_in, chosen_in, body_in, nodes_in, loop_in, method_in};
 
 use crate::arena::{Act, Message, Node, Start, Statements};
 use crate::course::Course;

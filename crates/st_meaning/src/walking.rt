@@ -1,11 +1,11 @@
 //! The walk of a method's code.
 
 ghost use Rattle.std.specs.Prelude.{◌≡◌, ◌+◌, ◌*◌, IfOk, IfErr};
-ghost use Rattle.st_code.specs.MethodDrafts.{parts_view};
+ghost use Rattle.st_code.specs.inside.MethodDrafts.{parts_view};
 ghost use Rattle.st_meaning.specs.declared.deed.Value.TheVariants.{Constant};
-ghost use Rattle.st_meaning.specs.{Deeds.{answers_view, deeds_view, Lists, IsFault}, Meanings.{most, Walk}};
-ghost use Rattle.st_meaning.specs.Courses.{boolean, Tests, IsLongTest, IsBehind, Continues, IsTooLong};
-ghost use Rattle.st_meaning.specs.Courses.{becomes, advances, Jumps, IsLongJump, IsLong, IsSound};
+ghost use Rattle.st_meaning.specs.{inside.Deeds.{answers_view, deeds_view, Lists, IsFault}, inside.Meanings.{most, Walk}};
+ghost use Rattle.st_meaning.specs.inside.Courses.{boolean, Tests, IsLongTest, IsBehind, Continues, IsTooLong};
+ghost use Rattle.st_meaning.specs.inside.Courses.{becomes, advances, Jumps, IsLongJump, IsLong, IsSound};
 
 use crate::code::{Walked, arity, walk_code};
 use crate::course::{Course, MOST};

@@ -12,7 +12,7 @@ use Rattle.st_model.specs.Machine.{ObjectMemory, State, Went, is_of_class, names
 use Rattle.st_model.specs.Table.{Table, bounded_table, entry}
 use Rattle.st_model.specs.Steps.{named_or_not, object_at, next_instance}
 use Rattle.st_model.specs.View.{View, IsWhole, is_live, object_of, is_instance, nothing}
-use Rattle.st_model.specs.Calls.{Reads}
+use Rattle.st_model.specs.inside.Calls.{Reads}
 use Rattle.st_model.proofs.Pointers.{value_of-pointer}
 use Rattle.st_model.proofs.TableLemmas.{entry_past}
 use Rattle.st_memory.proofs.Bodies.{even_pointer}

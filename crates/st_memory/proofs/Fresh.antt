@@ -16,10 +16,10 @@ use Rattle.st_model.specs.Machine.{Step, Went, is_there}
 use Rattle.st_model.specs.Steps.{count_fields, literal, fetch_method_field, byte_at, fetch_word, fetch_byte, code_byte}
 use Rattle.st_model.specs.Methods.{method_header, literal_from_last, from_last}
 use Rattle.st_model.specs.Table.{Table, table}
-use Rattle.st_model.specs.Calls.{Reads, itself}
+use Rattle.st_model.specs.inside.Calls.{Reads, itself}
 use Rattle.st_model.proofs.Words.{value_of-nil}
 use Rattle.st_model.proofs.Pointers.{value_of-odd, value_of-even}
-use Rattle.st_memory.specs.Making.{alone, CanMake}
+use Rattle.st_memory.specs.inside.Making.{alone, CanMake}
 use Rattle.st_memory.proofs.Looking.{Looks, result_got, got_reads, or_got, checked, look_at, count_looks, header_looks, literal_looks, method_field_looks, last_looks, byte_looks, word_looks, fetch_byte_looks, byte_in}
 
 got_nth : {A : Type 0} (n i : ℕ) (x : A) → i < n → slice_get (replicate n x) i ≡ Some x

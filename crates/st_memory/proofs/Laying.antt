@@ -8,7 +8,7 @@ use Rattle.st_model.specs.Table.{Table, entry, changed}
 use Rattle.st_model.specs.View.{View, IsWhole, is_live, object_of, with_unit, nothing}
 use Rattle.st_model.proofs.TableLemmas.{changed-other}
 use Rattle.st_model.proofs.Transfers.{same_or_not}
-use Rattle.st_memory.specs.Copied.{HasBytes, laid, units_from, with_units_in, with_run, with_bytes_of}
+use Rattle.st_memory.specs.inside.Copied.{HasBytes, laid, units_from, with_units_in, with_run, with_bytes_of}
 use Rattle.st_memory.proofs.Bodies.{no_fields}
 use Rattle.st_model.proofs.Entries.{changed-again}
 use Rattle.st_model.proofs.KindTests.{text_fields, text_pointers, text_words}

@@ -11,7 +11,7 @@ use Rattle.st_model.specs.Machine.{State, Transition, Died, Went, Step, after, a
 use Rattle.st_model.specs.Steps.{object, object_named, found, check, or_die, of_page, fetch_field, count_fields, class_of, literal, fetch_method_field, byte_at, code_byte, fetch_word, fetch_byte}
 use Rattle.st_model.specs.Methods.{method_header, literal_from_last, from_last}
 use Rattle.st_model.specs.Table.{Table, table, entry}
-use Rattle.st_model.specs.Calls.{Reads, transition_of}
+use Rattle.st_model.specs.inside.Calls.{Reads, transition_of}
 
 -- what a step gives that leaves the state as it is
 

@@ -9,9 +9,9 @@ use Rattle.st_model.specs.Objects.{Object, size_of}
 use Rattle.st_model.specs.Machine.{ObjectMemory, State, Head, Went, answer, ◌>>=◌, ◌>>◌, after, capacity_of, less, used}
 use Rattle.st_model.specs.Steps.{check, or_die, fetch_kind, fetch_size, get_free}
 use Rattle.st_model.specs.Table.{Table, table, bounded_table, IsTabular}
-use Rattle.st_model.specs.Calls.{Changes, itself}
+use Rattle.st_model.specs.inside.Calls.{Changes, itself}
 use Rattle.st_model.proofs.Tabular.{object-as}
-use Rattle.st_memory.specs.Tabular.{bounded_tabular}
+use Rattle.st_memory.specs.inside.Tabular.{bounded_tabular}
 use Rattle.st_memory.proofs.Looking.{Looks, look_at, step_looks, some_state}
 
 -- whatever the kind

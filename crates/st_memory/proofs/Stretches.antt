@@ -10,7 +10,7 @@ use Rattle.st_model.specs.Table.{Table}
 use Rattle.st_model.specs.View.{View, IsWhole, is_live, object_of, with_unit}
 use Rattle.st_model.proofs.FormedLemmas.{words_range}
 use Rattle.st_model.proofs.WholeLemmas.{formed_live}
-use Rattle.st_memory.specs.Copied.{laid, with_units_in, with_run}
+use Rattle.st_memory.specs.inside.Copied.{laid, with_units_in, with_run}
 use Rattle.st_memory.proofs.Bodies.{most_units, no_units}
 use Rattle.st_memory.proofs.Laying.{set_first, length-laid, taken_more, live_in, object_here, unit_again, units_none}
 

@@ -8,7 +8,7 @@ use Rattle.st_model.specs.Machine.{ObjectMemory, Head, State, Died, Went, die}
 use Rattle.st_model.specs.Steps.{exchange, exchange_named, exchanged_there}
 use Rattle.st_model.specs.Table.{Table, table, entry, IsTabular}
 use Rattle.st_model.specs.View.{is_live, with_exchanged, Lacks, SmallInteger, Gone, OtherKind, TooFew}
-use Rattle.st_model.specs.Calls.{Changes, itself}
+use Rattle.st_model.specs.inside.Calls.{Changes, itself}
 use Rattle.st_model.proofs.Runs.{run-exchange}
 use Rattle.st_model.proofs.Tabular.{exchange-as}
 use Rattle.std.proofs.lemmas.Bool.{and_right}

@@ -13,10 +13,10 @@ use Rattle.st_model.specs.Steps.{check, same_value}
 use Rattle.st_model.specs.Lookup.{pointer_if, half_word, checked_method, method_at, place_says, look_at_place, look_at_places, search_from, search_dictionary, or_above, method_in_class, look_in_class, end_at_nil, find_within, find}
 use Rattle.st_model.specs.Table.{Table, table, bounded_table, apart, entry, pointer_apart, free_place, without_first, IsTabular}
 use Rattle.st_model.proofs.Tabular.{of_page-as, fetch_field-as, count_fields-as, method_header-as}
-use Rattle.st_model.specs.Calls.{Reads, itself}
-use Rattle.st_memory.specs.Searched.{Finds}
+use Rattle.st_model.specs.inside.Calls.{Reads, itself}
+use Rattle.st_memory.specs.inside.Searched.{Finds}
 use Rattle.st_model.specs.declared.word.Word.{Word}
-use Rattle.st_memory.specs.Tabular.{bounded_tabular, apart_tabular}
+use Rattle.st_memory.specs.inside.Tabular.{bounded_tabular, apart_tabular}
 
 module _ {m : ObjectMemory Table} (h : IsTabular m) where
   checked_method-same : (v : Value) → checked_method m v ≡ checked_method table v

@@ -19,7 +19,7 @@ use Rattle.st_model.specs.View.{View, IsWhole, Lacks, SmallInteger, Gone, OtherK
 use Rattle.st_model.proofs.Tabular.{fetch_field-as, count_fields-as, class_of-as, literal-as, fetch_method_field-as, byte_at-as, method_header-as, literal_from_last-as, store_field-as, transfer-as, fetch_word-as, fetch_byte-as, of_page-as}
 use Rattle.st_model.proofs.TableLemmas.{entry_past}
 use Rattle.st_model.proofs.Words.{value_of-nil}
-use Rattle.st_memory.specs.Tabular.{bounded_tabular}
+use Rattle.st_memory.specs.inside.Tabular.{bounded_tabular}
 
 far_if : (t : Table) (b : Bool) (n : ℕ) → length t ≤ n → is_live t (if b then Small n else Ref n) ≡ false
 unfolding is_live

@@ -1,5 +1,1 @@
-pub mod Copied
-pub mod Making
-pub mod Places
-pub mod Searched
-pub mod Tabular
+pub mod inside

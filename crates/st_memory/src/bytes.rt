@@ -1,6 +1,6 @@
 ghost use Rattle.std.specs.Prelude.{◌≡◌, ◌+◌, ◌-◌, ◌≤◌};
 ghost use Rattle.st_model.specs.Values.{value};
-ghost use Rattle.st_memory.specs.Copied.{HasBytes, CanCopyBytes, CopiesBytes, with_bytes_of};
+ghost use Rattle.st_memory.specs.inside.Copied.{HasBytes, CanCopyBytes, CopiesBytes, with_bytes_of};
 
 use crate::memory::Memory;
 use st_model::Oop;

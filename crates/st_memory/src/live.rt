@@ -1,6 +1,6 @@
 ghost use Rattle.std.specs.Prelude.{◌≡◌, ◌+◌, ◌≤◌, ℕ, [], true, false, IfOk, IfErr, IfSome, IfNone};
 ghost use Rattle.st_model.specs.{Values.{value, word}, Objects.has_bytes, Table.{table, bounded_table}};
-ghost use Rattle.st_model.specs.{Machine.is_there, Steps.object, Calls.{Reads, Changes, itself}};
+ghost use Rattle.st_model.specs.{Machine.is_there, Steps.object, inside.Calls.{Reads, Changes, itself}};
 ghost use Rattle.st_model.specs.View.{IsKnown, Has, Lacks, is_live, object_of};
 
 use crate::body::{count_fields, first_unit};
@@ -87,7 +87,7 @@ pub fn live_value<M: Memory>(m: &M, x: Word) -> Option<Oop>
 }
 
 impl<M: Memory> Objects for M {
-    ghost use Rattle.st_memory.specs.Tabular.{bounded_tabular};
+    ghost use Rattle.st_memory.specs.inside.Tabular.{bounded_tabular};
 
     ghost names = { bounded_table };
 

@@ -1,8 +1,8 @@
 ghost use Rattle.std.specs.Prelude.{◌≡◌, ◌≤◌, IfOk};
 ghost use Rattle.st_model.specs.{Values.{Ref, word}, Objects.words_of, Table.table};
 ghost use Rattle.st_model.specs.Steps.{count_fields, literal, fetch_method_field, byte_at, fetch_word, fetch_byte};
-ghost use Rattle.st_model.specs.{Methods.{method_header, literal_from_last}, Calls.{Reads, itself}};
-ghost use Rattle.st_memory.specs.Making.{IsMade, made_object, alone};
+ghost use Rattle.st_model.specs.{Methods.{method_header, literal_from_last}, inside.Calls.{Reads, itself}};
+ghost use Rattle.st_memory.specs.inside.Making.{IsMade, made_object, alone};
 
 use st_model::{Dead, Kind, Word};
 

@@ -4,8 +4,8 @@ ghost use Rattle.st_model.specs.Objects.{is_method, is_words, size_of, words_of,
 ghost use Rattle.st_model.specs.Table.{total_used, first_free, placed};
 ghost use Rattle.st_model.specs.Formed.{IsHeader, IsMakeable, fresh};
 ghost use Rattle.st_model.specs.View.{View, IsKnown, is_live, object_of, IsWhole, IsPlace, held_at, with_held, with_stored, with_unit, with_exchanged, is_instance, table_of, SettlesTo, demand_of, fits};
-ghost use Rattle.st_memory.specs.{Copied.{units_from, with_run}, Places.{KeepsPlaces, KeepsPlacesIn}};
-ghost use Rattle.st_memory.specs.Searched.{Finds};
+ghost use Rattle.st_memory.specs.{inside.Copied.{units_from, with_run}, inside.Places.{KeepsPlaces, KeepsPlacesIn}};
+ghost use Rattle.st_memory.specs.inside.Searched.{Finds};
 
 use st_model::{Demand, Kind, Oop, RootPlace};
 

@@ -4,8 +4,8 @@ ghost use Rattle.st_model.specs.declared.page.PageObject.TheVariants.{MethodClas
 ghost use Rattle.st_model.specs.{Machine.{ObjectMemory, Head, is_there}, Table.{Table, IsTabular}};
 ghost use Rattle.st_model.specs.Steps.{fetch_field, count_fields, class_of, literal, fetch_method_field, byte_at, fetch_word, fetch_byte, store_field, transfer, exchange, make, new_object, object_at, next_instance, fetch_kind, fetch_size, get_free};
 ghost use Rattle.st_model.specs.{Methods.{method_header, literal_from_last}, Lookup.half_word};
-ghost use Rattle.st_model.specs.{Calls.{Reads, Changes, itself}, View.View};
-ghost use Rattle.st_memory.specs.{Making.{CanMake, making_changes}, Searched.FindsBy};
+ghost use Rattle.st_model.specs.{inside.Calls.{Reads, Changes, itself}, View.View};
+ghost use Rattle.st_memory.specs.{inside.Making.{CanMake, making_changes}, inside.Searched.FindsBy};
 
 use crate::context_fields::ContextFields;
 use st_model::{Dead, Demand, Kind, Word};

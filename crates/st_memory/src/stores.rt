@@ -1,7 +1,7 @@
 ghost use Rattle.std.specs.Prelude.{◌≡◌, IfErr};
 ghost use Rattle.st_model.specs.{Values.word, Table.bounded_table, Steps.{store_field, transfer}};
-ghost use Rattle.st_model.specs.Calls.{Changes, itself};
-ghost use Rattle.st_memory.specs.Places.{KeepsPlaces};
+ghost use Rattle.st_model.specs.inside.Calls.{Changes, itself};
+ghost use Rattle.st_memory.specs.inside.Places.{KeepsPlaces};
 
 use crate::live::{live_fields, live_object, live_value};
 use crate::memory::Memory;

@@ -1,6 +1,6 @@
 ghost use Rattle.std.specs.Prelude.{◌≡◌, ◌≤◌};
 ghost use Rattle.st_model.specs.Values.{value};
-ghost use Rattle.st_memory.specs.{Copied.{CanCopyFields, CopiesFields}, Places.KeepsPlaces};
+ghost use Rattle.st_memory.specs.{inside.Copied.{CanCopyFields, CopiesFields}, inside.Places.KeepsPlaces};
 
 use crate::memory::Memory;
 use st_model::Oop;

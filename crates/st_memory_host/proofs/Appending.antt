@@ -3,8 +3,8 @@ use Rattle.std.proofs.Common.{◌≡◌, ℕ, ◌+◌, ◌-◌, ◌<◌, ◌≤�
 use Rattle.std.proofs.lemmas.List.{reverse-append, take_all, take-append-le, drop-append-le}
 use Rattle.std.proofs.Math.Seq.{take-append_seam, drop-append_seam}
 use Rattle.std.specs.declared.alloc.Global.{Global}
-use Rattle.st_memory_host.specs.Deeds.{Deed, Put, said_after}
-use Rattle.st_memory_host.specs.Log.{entry_of, deed_of, rest_of, deeds_of, arena_size, said_with, IsWhole}
+use Rattle.st_memory_host.specs.inside.Deeds.{Deed, Put, said_after}
+use Rattle.st_memory_host.specs.inside.Log.{entry_of, deed_of, rest_of, deeds_of, arena_size, said_with, IsWhole}
 use Rattle.st_memory_host.specs.declared.log.Entry.{Entry}
 use Rattle.st_memory_host.specs.declared.log.Kind.{Kind}
 use Rattle.st_memory_host.specs.declared.log.Kind.TheVariants.{Put as PutKind, Wrote as WroteKind, Tore as ToreKind, Cut as CutKind, Synced as SyncedKind, Said as SaidKind}

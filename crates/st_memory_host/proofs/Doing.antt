@@ -3,10 +3,10 @@ use Rattle.std.proofs.Common.{◌≡◌, inl, inr, ⊎_elim, ℕ, ◌+◌, max, 
 use Rattle.std.proofs.lemmas.Slice.Eq.{bytes_eq-Decides}
 use Rattle.st_host.specs.Files.{Files, bytes_of, IsWritten, IsCut}
 use Rattle.st_host.specs.Stops.{comes, Apart, SameStops, SaidPart, WhileSaying, Follows, TornByWrite, TornByCut, Here, Elapses}
-use Rattle.st_memory_host.specs.Written.{written, resized, written_is, resized_is}
-use Rattle.st_memory_host.specs.Deeds.{Deed, Wrote, Tore, Cut, Synced, Said, files_after, ForName, MayLeave, MayLeaveDuring, said_after, LeftSince}
-use Rattle.st_memory_host.specs.HostState.{HostState, ChangesOrFails, SaysOrFails, disk_failed, with_deed, counted}
-use Rattle.st_memory_host.specs.MemHost.{reads_now}
+use Rattle.st_memory_host.specs.inside.Written.{written, resized, written_is, resized_is}
+use Rattle.st_memory_host.specs.inside.Deeds.{Deed, Wrote, Tore, Cut, Synced, Said, files_after, ForName, MayLeave, MayLeaveDuring, said_after, LeftSince}
+use Rattle.st_memory_host.specs.inside.HostState.{HostState, ChangesOrFails, SaysOrFails, disk_failed, with_deed, counted}
+use Rattle.st_memory_host.specs.inside.MemHost.{reads_now}
 use Rattle.st_host.proofs.Touching.{torn_same}
 use Rattle.st_memory_host.proofs.Leaving.{if_other}
 

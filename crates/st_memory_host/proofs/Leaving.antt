@@ -4,13 +4,13 @@ use Rattle.std.proofs.lemmas.Slice.Eq.{bytes_eq-Decides}
 use Rattle.std.proofs.lemmas.List.{length-replicate}
 use Rattle.st_host.specs.Files.{Files, bytes_of}
 use Rattle.st_host.specs.Stops.{Comes, comes, Torn, TornByWrite, TornByCut}
-use Rattle.st_host.specs.Names.{same_or_other}
+use Rattle.st_host.specs.inside.Names.{same_or_other}
 use Rattle.st_host.proofs.Touching.{torn_same}
-use Rattle.st_memory_host.specs.Written.{written, resized, written_is, resized_is, written_torn, resized_torn, begun_torn}
-use Rattle.st_memory_host.specs.Deeds.{Deed, Put, Wrote, Tore, Cut, Synced, Said, files_after, ForName, MayLeave, said_after}
-use Rattle.st_memory_host.specs.MemHost.{by_name, reads_now}
-use Rattle.st_memory_host.specs.HostState.{HostState}
-use Rattle.st_memory_host.specs.Leave.{old_after, ones, ones_after, left_after, IsStopped, copied, deeds_left, host_of}
+use Rattle.st_memory_host.specs.inside.Written.{written, resized, written_is, resized_is, written_torn, resized_torn, begun_torn}
+use Rattle.st_memory_host.specs.inside.Deeds.{Deed, Put, Wrote, Tore, Cut, Synced, Said, files_after, ForName, MayLeave, said_after}
+use Rattle.st_memory_host.specs.inside.MemHost.{by_name, reads_now}
+use Rattle.st_memory_host.specs.inside.HostState.{HostState}
+use Rattle.st_memory_host.specs.inside.Leave.{old_after, ones, ones_after, left_after, IsStopped, copied, deeds_left, host_of}
 use Rattle.st_memory_host.specs.declared.replay.Leave.{Leave}
 use Rattle.st_memory_host.specs.declared.replay.Leave.TheVariants.{Old, New, Ones}
 

@@ -3,10 +3,10 @@ use Rattle.std.proofs.Common.{◌≡◌, ℕ, List, [], ◌∷◌, ◌++◌, len
 use Rattle.std.proofs.lemmas.List.{ext_get_or, reverse-append, append_assoc}
 use Rattle.std.proofs.Math.Seq.{take-append_seam}
 use Rattle.st_host.specs.Files.{bytes_of, length_of}
-use Rattle.st_memory_host.specs.Deeds.{Deed, Put}
-use Rattle.st_memory_host.specs.HostState.{HostState}
-use Rattle.st_memory_host.specs.Leave.{with_done, with_copy}
-use Rattle.st_memory_host.specs.Log.{IsWindow}
+use Rattle.st_memory_host.specs.inside.Deeds.{Deed, Put}
+use Rattle.st_memory_host.specs.inside.HostState.{HostState}
+use Rattle.st_memory_host.specs.inside.Leave.{with_done, with_copy}
+use Rattle.st_memory_host.specs.inside.Log.{IsWindow}
 
 -- A window on a whole file holds it.
 pub copied_done : (name into : List ℕ) (file : Option (List ℕ)) (len : ℕ) (host new : HostState) → Some len ≡ length_of file → length into ≡ len

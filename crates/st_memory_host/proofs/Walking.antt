@@ -1,8 +1,8 @@
 -- A walk through the log, the oldest entry first, gives what the deeds give, the newest first.
 use Rattle.std.proofs.Common.{◌≡◌, ℕ, Bool, true, false, if◌then◌else◌, bytes_eq, List, [], ◌∷◌, ◌++◌, reverse, Option, None, refl, sym, ap, ◌∙◌}
 use Rattle.std.proofs.lemmas.List.{reverse-append}
-use Rattle.st_memory_host.specs.Deeds.{Deed, after_deed, files_after}
-use Rattle.st_memory_host.specs.Log.{deed_of, name_of, content_of, rest_of, deeds_of, changed, file_of}
+use Rattle.st_memory_host.specs.inside.Deeds.{Deed, after_deed, files_after}
+use Rattle.st_memory_host.specs.inside.Log.{deed_of, name_of, content_of, rest_of, deeds_of, changed, file_of}
 use Rattle.st_memory_host.specs.declared.log.Entry.{Entry}
 use Rattle.st_memory_host.specs.declared.log.Kind.{Kind}
 use Rattle.st_memory_host.specs.declared.log.Kind.TheVariants.{Put as PutKind, Wrote as WroteKind, Tore as ToreKind, Cut as CutKind, Synced as SyncedKind, Said as SaidKind}

@@ -3,10 +3,10 @@ use Rattle.std.proofs.Common.{◌≡◌, inl, inr, ⊎_elim, ℕ, ◌+◌, ◌-�
 use Rattle.std.proofs.lemmas.List.{get_or_append_left, get_or-append_right, get_or-take, get_or-drop, get_or_past, ext_get_or}
 use Rattle.std.proofs.lemmas.Bool.{cases_lt}
 use Rattle.st_host.specs.Files.{bytes_of, length_of, IsRead}
-use Rattle.st_memory_host.specs.Written.{written, resized, written_is, resized_is}
+use Rattle.st_memory_host.specs.inside.Written.{written, resized, written_is, resized_is}
 use Rattle.st_memory_host.specs.declared.log.Kind.{Kind}
 use Rattle.st_memory_host.specs.declared.log.Kind.TheVariants.{Wrote as WroteKind, Tore as ToreKind, Cut as CutKind}
-use Rattle.st_memory_host.specs.Log.{changed, IsWindow, Overlays, Clears}
+use Rattle.st_memory_host.specs.inside.Log.{changed, IsWindow, Overlays, Clears}
 
 written_window : (at place : ℕ) (bytes : List ℕ) (file : Option (List ℕ)) (old new : List ℕ) → length new ≡ length old
     → Overlays at bytes place old new → IsWindow (bytes_of file) at old → IsWindow (written place bytes (bytes_of file)) at new

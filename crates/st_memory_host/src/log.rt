@@ -1,7 +1,7 @@
 // The log of a host in memory: its deeds as entries, and the bytes of all of them one after the other.
 ghost use Rattle.std.specs.Prelude.{◌≡◌, ◌++◌, ◌∷◌, [], ◌+◌, ◌<◌, ◌≤◌, length, List, ℕ, Option, None, OnOk, OnErr, IfSome, vec_len, vec_capacity};
 ghost use Rattle.st_host.specs.Files.{bytes_of, length_of};
-ghost use Rattle.st_memory_host.specs.Log.{entry_of, deed_of, deeds_of, arena_size, file_of, changed, said_with, IsWindow, Overlays, Clears};
+ghost use Rattle.st_memory_host.specs.inside.Log.{entry_of, deed_of, deeds_of, arena_size, file_of, changed, said_with, IsWindow, Overlays, Clears};
 ghost use Rattle.st_memory_host.specs.declared.log.Kind.TheVariants.{Put};
 
 use std::alloc::AllocError;

@@ -2,7 +2,7 @@
 ghost use Rattle.std.specs.Prelude.{◌≡◌, ◌⊎◌, ◌↔◌, ◌++◌, ◌∷◌, [], ◌+◌, ◌-◌, ◌<◌, ◌≤◌, ℕ, min, List, length, take, reverse, IsTrue, true, IfOk, OnOk, OnErr, IsErr, IsSome, Option, Some, None, vec_len, vec_capacity};
 ghost use Rattle.st_host.specs.Counts.{one_more, Rises, HasCause};
 ghost use Rattle.st_memory_host.specs.declared.memory.Next.TheVariants.{Does, Fails, Stops};
-ghost use Rattle.st_memory_host.specs.HostState.{comes_first};
+ghost use Rattle.st_memory_host.specs.inside.HostState.{comes_first};
 ghost use Rattle.st_host.specs.Files.{length_of, bytes_of, IsRead};
 
 use crate::log::{Entry, Kind, append, append_file, append_said, window};
@@ -53,8 +53,8 @@ pub struct MemHost {
 
 impl Model for MemHost {
     ghost use Rattle.std.specs.Prelude.{reverse};
-    ghost use Rattle.st_memory_host.specs.HostState.{HostState};
-    ghost use Rattle.st_memory_host.specs.Log.{deeds_of, IsWhole};
+    ghost use Rattle.st_memory_host.specs.inside.HostState.{HostState};
+    ghost use Rattle.st_memory_host.specs.inside.Log.{deeds_of, IsWhole};
 
     ghost Value = { HostState };
 
@@ -74,10 +74,10 @@ impl Model for MemHost {
 }
 
 impl MemHost {
-    ghost use Rattle.st_memory_host.specs.HostState.{fresh, counted, stopped, with_file, with_deed, IsNextFailing, IsNextTorn, IsStopping, PassesRoom, ReadsOrFails};
-    ghost use Rattle.st_memory_host.specs.Deeds.{Synced, Said, said_after, files_after};
-    ghost use Rattle.st_memory_host.specs.Leave.{IsStopped, with_done, with_copy};
-    ghost use Rattle.st_memory_host.specs.Log.{deed_of, IsWindow};
+    ghost use Rattle.st_memory_host.specs.inside.HostState.{fresh, counted, stopped, with_file, with_deed, IsNextFailing, IsNextTorn, IsStopping, PassesRoom, ReadsOrFails};
+    ghost use Rattle.st_memory_host.specs.inside.Deeds.{Synced, Said, said_after, files_after};
+    ghost use Rattle.st_memory_host.specs.inside.Leave.{IsStopped, with_done, with_copy};
+    ghost use Rattle.st_memory_host.specs.inside.Log.{deed_of, IsWindow};
 
     /// A host without files, of which no call was made. It has room for nothing.
     pub fn new(alloc: Global) -> Result<MemHost, AllocError>
@@ -341,9 +341,9 @@ impl MemHost {
 }
 
 impl Host for MemHost {
-    ghost use Rattle.st_memory_host.specs.HostState.{ReadsOrFails, ChangesOrFails, SaysOrFails};
-    ghost use Rattle.st_memory_host.specs.Deeds.{Wrote, Tore, Cut, Synced, files_after, MayLeave, said_after, LeftSince};
-    ghost use Rattle.st_memory_host.specs.MemHost.{reads_now, now_counts, now_only};
+    ghost use Rattle.st_memory_host.specs.inside.HostState.{ReadsOrFails, ChangesOrFails, SaysOrFails};
+    ghost use Rattle.st_memory_host.specs.inside.Deeds.{Wrote, Tore, Cut, Synced, files_after, MayLeave, said_after, LeftSince};
+    ghost use Rattle.st_memory_host.specs.inside.MemHost.{reads_now, now_counts, now_only};
 
     ghost is_told = { true };
 

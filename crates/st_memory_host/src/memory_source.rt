@@ -22,7 +22,7 @@ pub struct MemSource {
 
 impl Model for MemSource {
     ghost use Rattle.std.specs.Prelude.{◌<◌, ◌≤◌, length, drop};
-    ghost use Rattle.st_memory_host.specs.SourceState.{SourceState};
+    ghost use Rattle.st_memory_host.specs.inside.SourceState.{SourceState};
 
     ghost Value = { SourceState };
 
@@ -68,7 +68,7 @@ impl MemSource {
 
 impl Source for MemSource {
     ghost use Rattle.std.specs.Prelude.{true};
-    ghost use Rattle.st_memory_host.specs.SourceState.{TakesOrFails};
+    ghost use Rattle.st_memory_host.specs.inside.SourceState.{TakesOrFails};
 
     ghost is_told = { true };
 

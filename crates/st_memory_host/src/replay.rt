@@ -1,10 +1,10 @@
 // What a stop leaves of a host in memory: its deeds are done again, to one host as they were done, and to another so
 // that it has what is left.
 ghost use Rattle.std.specs.Prelude.{◌≡◌, ◌∷◌, [], length, reverse, List, IfOk, OnOk};
-ghost use Rattle.st_memory_host.specs.Deeds.{Deed};
-ghost use Rattle.st_memory_host.specs.Leave.{deeds_left, host_of};
-ghost use Rattle.st_memory_host.specs.Log.{deed_of, deeds_of, arena_size};
-ghost use Rattle.st_memory_host.specs.Replay.{IsReplay};
+ghost use Rattle.st_memory_host.specs.inside.Deeds.{Deed};
+ghost use Rattle.st_memory_host.specs.inside.Leave.{deeds_left, host_of};
+ghost use Rattle.st_memory_host.specs.inside.Log.{deed_of, deeds_of, arena_size};
+ghost use Rattle.st_memory_host.specs.inside.Replay.{IsReplay};
 
 use crate::MemHost;
 use crate::log::{Entry, Kind, split_first};

@@ -4,7 +4,7 @@ use Rattle.std.proofs.Common.{◌≡◌, true, false, List, [], ◌∷◌, refl}
 use Rattle.std.specs.Prelude.{map}
 use Rattle.st_model.specs.Values.{Value, value_of}
 use Rattle.st_model.specs.Methods.{flag_of, temporary_count, is_large, literal_count}
-use Rattle.st_method.specs.Headers.{first_byte}
+use Rattle.st_method.specs.inside.Headers.{first_byte}
 
 -- 000 00001 0 000000 1, 000 00000 0 000001 1, 010 00011 1 000101 1 and 111 11111 0 111111 1
 abbrev headers : List Value

@@ -4,7 +4,7 @@ ghost use Rattle.st_model.specs.Objects.{is_method};
 ghost use Rattle.st_model.specs.View.{is_live, object_of};
 ghost use Rattle.st_model.specs.Table.{table};
 ghost use Rattle.st_model.specs.Methods.{literal_from_last, method_primitive};
-ghost use Rattle.st_model.specs.Calls.{Reads, itself};
+ghost use Rattle.st_model.specs.inside.Calls.{Reads, itself};
 
 use crate::fields::literals;
 use st_memory::Memory;

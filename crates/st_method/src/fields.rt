@@ -3,7 +3,7 @@ ghost use Rattle.st_model.specs.Values.{value};
 ghost use Rattle.st_model.specs.Objects.{Object, is_method, first_unit};
 ghost use Rattle.st_model.specs.Formed.{IsHeader};
 ghost use Rattle.st_model.specs.Methods.{flag_of, temporary_count, is_large, literal_count};
-ghost use Rattle.st_method.specs.Headers.{first_byte};
+ghost use Rattle.st_method.specs.inside.Headers.{first_byte};
 
 use crate::header::Header;
 use st_model::Oop;

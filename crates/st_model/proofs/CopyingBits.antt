@@ -8,7 +8,7 @@ use Rattle.st_model.specs.Values.{Value, Ref}
 use Rattle.st_model.specs.Objects.{Object, is_words, with_units}
 use Rattle.st_model.specs.Machine.{State, Transition, Went, after, ◌>>=◌}
 use Rattle.st_model.specs.Table.{Table, table, entry, changed}
-use Rattle.st_model.specs.Calls.{Reads, transition_of, itself}
+use Rattle.st_model.specs.inside.Calls.{Reads, transition_of, itself}
 use Rattle.st_model.specs.Steps.{object, check, fetch_field, units_set, set_units_at, set_units}
 use Rattle.st_model.specs.Deeds.{over, over_table, table_after}
 use Rattle.st_model.specs.BitBlt.{Form, Copy, painted, fetch_words, fetch_positive, read_form, read_unless, read_form_if_any, fetch_form, fetch_destination, fetch_halftone, fetch_rule, fetch_axis, read_copy, store_painted, copy_bits}

@@ -15,7 +15,7 @@ use Rattle.st_model.specs.Table.{Table, table}
 use Rattle.st_model.specs.Births.{births}
 use Rattle.st_model.specs.Show.{raised}
 use Rattle.st_model.specs.Cycles.{cycle, run, run_of, finished, warned}
-use Rattle.st_model.specs.Foreseen.{foreseen_cycle}
+use Rattle.st_model.specs.inside.Foreseen.{foreseen_cycle}
 use Rattle.st_model.specs.Events.{event}
 use Rattle.st_model.specs.Text.{input_text}
 use Rattle.st_model.proofs.Opened.{opened}

@@ -12,7 +12,7 @@ use Rattle.st_model.specs.Formed.{IsFormed, IsHeader, IsWord, unit_limit}
 use Rattle.st_model.specs.Machine.{Head}
 use Rattle.st_model.specs.Table.{Table, entry, changed, total_used}
 use Rattle.st_model.specs.View.{View, IsComplete, IsWhole, is_live, object_of, held_at, with_object, with_stored, with_unit, nothing_held, no_devices, empty_view}
-use Rattle.st_model.specs.Loading.{IsLoading}
+use Rattle.st_model.specs.inside.Loading.{IsLoading}
 use Rattle.st_model.proofs.FormedLemmas.{formed_field, formed_unit, words_of-with_field, words_of-object_with_unit}
 use Rattle.st_model.proofs.TableLemmas.{length-changed}
 use Rattle.st_model.proofs.WholeLemmas.{named, total_used-changed, none_changed, changed_is}

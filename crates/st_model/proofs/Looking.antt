@@ -8,7 +8,7 @@ use Rattle.st_model.specs.Values.{Value, Small, Ref, integer}
 use Rattle.st_model.specs.Objects.{Object, PageObject}
 use Rattle.st_model.specs.Machine.{State, Transition, Died, Went, Step, answer, die, after, ◌>>=◌, ◌>>◌}
 use Rattle.st_model.specs.Table.{Table, table, entry}
-use Rattle.st_model.specs.Calls.{Reads, transition_of, itself}
+use Rattle.st_model.specs.inside.Calls.{Reads, transition_of, itself}
 use Rattle.st_model.specs.Steps.{found, object_named, object, of_page, check, or_die, fetch_field, integer_or_die, fetch_integer}
 use Rattle.st_model.specs.Primitives.{bits_or_die, positive_small}
 

@@ -21,7 +21,7 @@ use Rattle.st_model.specs.Returns.{calls, calls_nothing, cannot_return, return_i
 use Rattle.st_model.specs.Bytecodes.{fetch_receiver_variable, fetch_temporary_variable, fetch_literal_constant, fetch_literal_variable, fetch_operand, store_receiver_variable, store_temporary_variable, store_literal_variable, store_operand, constant_value, or_send, arithmetic_by, arithmetic_send, primitive_send, rows, bytecode, step, push_operand, store_and_pop, push_receiver, push_constant, extended_push, extended_store, extended_store_and_pop, pop_stack, duplicate_top, push_active_context, short_unconditional_jump, long_unconditional_jump, send_literal, send_literal_to_super, extended_send, double_extended_send, extended_super_send, double_extended_super_send, return_receiver, return_constant, return_top_to_sender, return_top_to_caller, short_jump_on_false, long_jump_on_true, long_jump_on_false}
 use Rattle.st_model.specs.Settled.{is_root, is_supported, next_round, settled_set, reclaim}
 use Rattle.st_model.specs.Cycles.{cycle, run_of, run, finished_of, finished, signal_if_any, signal_newest, switch_unless_nil, switch_if_waiting, check_process_switch, signal_next}
-use Rattle.st_model.specs.Foreseen.{foreseen_cycle}
+use Rattle.st_model.specs.inside.Foreseen.{foreseen_cycle}
 
 -- opens the machine's definitions
 unfoldable pub opened : Unit {0}

@@ -8,7 +8,7 @@ use Rattle.st_model.specs.Machine.{State, roots_of}
 use Rattle.st_model.specs.Table.{Table, table, entry, settled_table}
 use Rattle.st_model.specs.Settled.{AnyRefTo, IsRefTo, IsRoot, held_root, page_root, IsReferredFrom, IsSettled, settled_set, reclaim}
 use Rattle.st_model.specs.Show.{IsUsed, IsClosed}
-use Rattle.st_model.specs.Foreseen.{IsSound}
+use Rattle.st_model.specs.inside.Foreseen.{IsSound}
 use Rattle.st_model.proofs.SettledLemmas.{is_some-of, some_is, settled-entry, entry-settled}
 use Rattle.st_model.proofs.SettledIs.{settled_is}
 use Rattle.st_model.proofs.TableLemmas.{entry_before}

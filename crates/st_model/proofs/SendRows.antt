@@ -11,7 +11,7 @@ use Rattle.st_model.specs.Outcomes as outcome
 use Rattle.st_model.specs.Machine.{State, Registers, empty_world, Went, used}
 use Rattle.st_model.specs.Table.{Table, table}
 use Rattle.st_model.specs.Cycles.{run, run_of, finished}
-use Rattle.st_model.specs.Foreseen.{foreseen_cycle}
+use Rattle.st_model.specs.inside.Foreseen.{foreseen_cycle}
 use Rattle.st_model.proofs.Opened.{opened}
 use Rattle.st_model.proofs.StorageRows.{pointers, method}
 

@@ -32,13 +32,10 @@ pub mod Events
 pub mod Cycles
 pub mod Saving
 pub mod Show
-pub mod Foreseen
 pub mod Formed
 pub mod View
-pub mod Loading
-pub mod Props
-pub mod Calls
 pub mod Text
 pub mod Image
 pub mod Start
 pub mod Faults
+pub mod inside

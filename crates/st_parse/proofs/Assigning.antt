@@ -8,7 +8,7 @@ use Rattle.st_scan.specs.Views as views
 use Rattle.st_grammar.specs.declared.leaf.Leaf.{Leaf}
 use Rattle.st_grammar.specs.Trees.{name_at, sent, sent_if}
 use Rattle.st_grammar.specs.Reading.{is_target, targets_at, assigned_to}
-use Rattle.st_parse.specs.Phrases.{NoTarget, BeginsWithTarget}
+use Rattle.st_parse.specs.inside.Phrases.{NoTarget, BeginsWithTarget}
 
 names_view-push : (ns : List Name) (n : Name) → names_view (ns ++ n ∷ []) ≡ names_view ns ++ name_view n ∷ []
 names_view-push [] n = refl

@@ -9,11 +9,12 @@ use Rattle.st_scan.specs.declared.tree.MethodTree.{MethodTree}
 use Rattle.st_scan.specs.TreeFaults.{cause_number}
 use Rattle.st_scan.specs.Views.{MethodView, method_view}
 use Rattle.std.specs.Prelude.{IfOk, IfErr}
-use Rattle.st_scan.specs.Scans.{ScansTo}
+use Rattle.st_scan.specs.inside.Scanned.{ScansTo}
 use Rattle.st_grammar.specs.declared.leaf.Leaf.{Leaf}
 use Rattle.st_grammar.specs.Faults.{highest, most, IsMethodOf}
 use Rattle.st_grammar.specs.Reading.{whole_at}
-use Rattle.st_grammar.specs.Texts.{Means, words, place_at, GrammarFinds, first_fault, HasFirst, IsFaultOf, IsOnly}
+use Rattle.st_grammar.specs.inside.Meant.{Means, HasFirst, IsFaultOf}
+use Rattle.st_grammar.specs.Texts.{words, place_at, GrammarFinds, first_fault, IsOnly}
 use Rattle.st_grammar.proofs.Theorems.{whole_method, whole_fault}
 use Rattle.st_grammar.proofs.Faulty.{tree_determined, tree_or_fault}
 

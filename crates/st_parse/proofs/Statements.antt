@@ -9,7 +9,7 @@ use Rattle.st_grammar.specs.declared.read.ReadError.{ReadError}
 use Rattle.st_grammar.specs.declared.read.ReadError.TheVariants as errors
 use Rattle.st_grammar.specs.Leaves.{among}
 use Rattle.st_grammar.specs.Reading.{Stop, Fails, Read, BodyView, ◌>>=◌, stop, period_at, expression_at, statement_step, returned_at, plain_at}
-use Rattle.st_parse.specs.Phrases.{caret_at}
+use Rattle.st_parse.specs.inside.Phrases.{caret_at}
 
 -- what goes wrong goes wrong whatever would have followed
 pub fails_behind : {A B : Type 0} (e : ReadError) (m : Result A Stop) (f : A → Result B Stop) → Fails e m → Fails e (m >>= f)

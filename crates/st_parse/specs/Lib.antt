@@ -1,3 +1,1 @@
-pub mod Phrases
-pub mod Parsed
-pub mod Answers
+pub mod inside

@@ -3,8 +3,8 @@
 ghost use Rattle.std.specs.Prelude.{◌≡◌, ◌&&◌, true, not, IfOk};
 ghost use Rattle.st_scan.specs.Views.{expression_view, statements_view, no_statements};
 ghost use Rattle.st_grammar.specs.Reading.{first, period_at, statement_looks};
-ghost use Rattle.st_parse.specs.Phrases.{body_view, caret_at};
-ghost use Rattle.st_parse.specs.Answers.{IsBody};
+ghost use Rattle.st_parse.specs.inside.Phrases.{body_view, caret_at};
+ghost use Rattle.st_parse.specs.inside.Answers.{IsBody};
 
 use crate::kinds::STATEMENT_STARTS;
 use st_grammar::leaf::{Kind, Leaf};

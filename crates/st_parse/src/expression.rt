@@ -8,8 +8,8 @@ ghost use Rattle.st_grammar.specs.Reading.{binary_at, parts_step, parts_at, mess
 ghost use Rattle.st_grammar.specs.Reading.{cascade_step, cascades_at, sends_at, cascade_at, expression_at};
 ghost use Rattle.st_grammar.specs.Reading.{statement_step, body_at, statements_at, argument_body_at};
 ghost use Rattle.st_grammar.specs.Reading.{block_at, first};
-ghost use Rattle.st_parse.specs.Phrases.{parts_view, body_view};
-ghost use Rattle.st_parse.specs.Answers.{Reads, ReadsParts, ReadsBody, ReadsStatements, within};
+ghost use Rattle.st_parse.specs.inside.Phrases.{parts_view, body_view};
+ghost use Rattle.st_parse.specs.inside.Answers.{Reads, ReadsParts, ReadsBody, ReadsStatements, within};
 
 use crate::bodies::{Body, caret, goes_on, no_statements, period, with_statement};
 use crate::kinds::{KEYWORDS, NAMES, OPERATORS};

@@ -6,7 +6,7 @@ ghost use Rattle.st_grammar.specs.Trees.{undoubled, between_quotes, word_content
 ghost use Rattle.st_grammar.specs.Reading.{Gives, joined_step, joined_at, keyword_symbol_at};
 ghost use Rattle.st_grammar.specs.Reading.{constant_element_at, nested_at, element_at, elements_step};
 ghost use Rattle.st_grammar.specs.Reading.{elements_at, array_at};
-ghost use Rattle.st_parse.specs.Answers.{ReadsLiteral, ReadsArray, nested};
+ghost use Rattle.st_parse.specs.inside.Answers.{ReadsLiteral, ReadsArray, nested};
 
 use crate::read::Read;
 use st_grammar::leaf::{Kind, Leaf, bytes_of};

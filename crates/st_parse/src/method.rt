@@ -7,7 +7,7 @@ ghost use Rattle.st_grammar.specs.Reading.{Gives, pattern_step, keyword_names_at
 ghost use Rattle.st_grammar.specs.Reading.{unary_pattern_at, binary_pattern_at, keyword_pattern_at};
 ghost use Rattle.st_grammar.specs.Reading.{name_list_at, temporaries_at, primitive_at, options_at};
 ghost use Rattle.st_grammar.specs.Reading.{temporaries_first_at, primitive_first_at, method_at, whole_at};
-ghost use Rattle.st_parse.specs.{Parsed.{pattern_view, options_view}, Answers.{ReadsNames, ReadsPattern}};
+ghost use Rattle.st_parse.specs.{inside.Parsed.{pattern_view, options_view}, inside.Answers.{ReadsNames, ReadsPattern}};
 
 use crate::expression::statements;
 use crate::kinds::{KEYWORDS, NAMES, OPERATORS};

@@ -4,7 +4,7 @@ ghost use Rattle.std.specs.Prelude.{◌≡◌, IfOk, MatchOption};
 ghost use Rattle.st_scan.specs.Views.{name_view, names_view, expression_view};
 ghost use Rattle.st_grammar.specs.Trees.{name_at};
 ghost use Rattle.st_grammar.specs.Reading.{assigned_to, targets_at, name_step, parameters_step, parameters_at};
-ghost use Rattle.st_parse.specs.{Phrases.{NoTarget, BeginsWithTarget}, Answers.{ReadsNames, Makes}};
+ghost use Rattle.st_parse.specs.{inside.Phrases.{NoTarget, BeginsWithTarget}, inside.Answers.{ReadsNames, Makes}};
 
 use crate::kinds::NAMES;
 use crate::read::Read;

@@ -2,7 +2,8 @@
 
 ghost use Rattle.std.specs.Prelude.{◌≡◌, ◌<◌, ◌≤◌, ◌-◌, ◌^◌, IfOk, IfErr, Some, length, drop};
 ghost use Rattle.st_scan.specs.{Scans.AreSpans, Views.{MethodView, method_view}};
-ghost use Rattle.st_grammar.specs.Texts.{Means, IsFaultOf, IsOnly, bad_number, words, place_at, is_before};
+ghost use Rattle.st_grammar.specs.inside.Meant.{Means, IsFaultOf};
+ghost use Rattle.st_grammar.specs.Texts.{IsOnly, bad_number, words, place_at, is_before};
 ghost use Rattle.st_grammar.specs.Texts.{first_fault};
 
 use crate::method::whole;

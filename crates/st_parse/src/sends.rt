@@ -6,9 +6,9 @@ ghost use Rattle.st_grammar.specs.Leaves.{among};
 ghost use Rattle.st_grammar.specs.Reading.{first, message_starts, checked_at, names_step, names_at};
 ghost use Rattle.st_grammar.specs.Reading.{unary_message_at, no_parts_yet};
 ghost use Rattle.st_grammar.specs.Trees.{bytes};
-ghost use Rattle.st_parse.specs.Phrases.{parts_view};
-ghost use Rattle.st_parse.specs.Answers.{Reads, Makes, MakesParts, with_keyword, sent_message, sent_parts};
-ghost use Rattle.st_parse.specs.Answers.{sent_operator, also_parts, also_operator, argument_of};
+ghost use Rattle.st_parse.specs.inside.Phrases.{parts_view};
+ghost use Rattle.st_parse.specs.inside.Answers.{Reads, Makes, MakesParts, with_keyword, sent_message, sent_parts};
+ghost use Rattle.st_parse.specs.inside.Answers.{sent_operator, also_parts, also_operator, argument_of};
 
 use crate::kinds::{MESSAGE_STARTS, NAMES};
 use crate::read::Read;

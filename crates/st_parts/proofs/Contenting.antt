@@ -10,11 +10,11 @@ use Rattle.st_model.specs.View.{is_live, object_of}
 use Rattle.st_emit.specs.declared.literal.Literal.{Literal}
 use Rattle.st_emit.specs.declared.literal.Literal.TheVariants.{Array}
 use Rattle.st_emit.specs.Literals.{LiteralView, LiteralsView, array}
-use Rattle.st_emit.specs.Views.{literal_view, members_view}
+use Rattle.st_emit.specs.inside.Views.{literal_view, members_view}
 use Rattle.st_emit.proofs.Members.{array_view}
 use Rattle.st_parts.specs.Numbers.{small_number}
 use Rattle.st_parts.specs.Contents.{bytes_by, made_by, made_at, arrays_at, members_at, contents, or_character}
-use Rattle.st_parts.specs.Readings.{members_if}
+use Rattle.st_parts.specs.inside.Readings.{members_if}
 
 -- ARRAYS
 

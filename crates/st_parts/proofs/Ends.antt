@@ -11,12 +11,12 @@ use Rattle.st_model.specs.View.{View}
 use Rattle.st_emit.specs.declared.literal.Literal.{Literal}
 use Rattle.st_emit.specs.declared.literal.Literal.TheVariants.{Owner}
 use Rattle.st_emit.specs.Literals.{LiteralView, owner}
-use Rattle.st_emit.specs.Views.{literal_view, literals_view}
+use Rattle.st_emit.specs.inside.Views.{literal_view, literals_view}
 use Rattle.st_emit.specs.Names.{NamesView}
-use Rattle.st_scope.specs.Meanings.{values}
+use Rattle.st_scope.specs.inside.Meanings.{values}
 use Rattle.st_parts.specs.Parts.{Place, from_end, is_owner, ends_owned, ends_extended, literals_read, read_before, owned_read, extended_read}
 use Rattle.st_parts.specs.Numbers.{small_number}
-use Rattle.st_parts.specs.Readings.{literals_if}
+use Rattle.st_parts.specs.inside.Readings.{literals_if}
 
 got : (vs : List Oop) (i : ℕ) (d : Oop) → i < length vs → get_or (values vs) i nil ≡ value (get_or vs i d)
 got [] i d l = absurd (omega (arith, l))

@@ -11,22 +11,23 @@ use Rattle.st_model.specs.Values.{Value, value}
 use Rattle.st_model.specs.Table.{Table}
 use Rattle.st_scan.specs.Views.{StatementsView, no_statements}
 use Rattle.st_emit.specs.Names.{NamesView, SharedName, Variable, field, shared, field_named, variable_named, or_else}
-use Rattle.st_emit.specs.NameViews.{pointer_of, shared_view}
+use Rattle.st_emit.specs.inside.NameViews.{pointer_of, shared_view}
 use Rattle.st_emit.proofs.Sharing.{shared_found}
 use Rattle.st_scan.specs.Views.{MethodView}
 use Rattle.st_model.specs.Machine.{Step}
 use Rattle.std.specs.BTreeMap.{BTreeMap}
 use Rattle.st_emit.specs.declared.names.Names.{Names}
-use Rattle.st_emit.specs.NameViews.{names_view}
+use Rattle.st_emit.specs.inside.NameViews.{names_view}
 use Rattle.st_scope.specs.declared.fault.InstallFault.{InstallFault}
 use Rattle.st_scope.specs.declared.fault.InstallFault.TheVariants as fault
-use Rattle.st_scope.specs.Seen.{AreSeen, AnswersNames}
-use Rattle.st_scope.specs.Alike.{SeesAlike}
-use Rattle.st_scope.specs.Meanings.{values}
-use Rattle.st_scope.specs.Sought.{shared_at}
-use Rattle.st_parts.specs.Keys.{word_of, key_in, with_mentioned, with_keys, is_named_by, with_named, named_among, names_for, AreNamesFor, AnswersFor}
+use Rattle.st_scope.specs.inside.Seen.{AreSeen, AnswersNames}
+use Rattle.st_scope.specs.inside.Alike.{SeesAlike}
+use Rattle.st_scope.specs.inside.Meanings.{values}
+use Rattle.st_scope.specs.inside.Sought.{shared_at}
+use Rattle.st_parts.specs.Keys.{word_of, key_in, with_mentioned, with_keys, is_named_by, with_named, named_among, names_for}
+use Rattle.st_parts.specs.inside.NamesFor.{AreNamesFor, AnswersFor}
 use Rattle.st_expression_stack.specs.Names.{is_usable, is_value}
-use Rattle.st_parts.specs.Kept.{Keeps, KeepsIf, named_as, Says, AreKept}
+use Rattle.st_parts.specs.inside.Kept.{Keeps, KeepsIf, named_as, Says, AreKept}
 
 -- WHAT IS MENTIONED
 

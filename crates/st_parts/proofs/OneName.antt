@@ -7,7 +7,7 @@ use Rattle.st_model.specs.Values.{Value, Small, Ref}
 use Rattle.st_model.specs.Table.{Table}
 use Rattle.st_emit.specs.Names.{NamesView, SharedName}
 use Rattle.st_parts.specs.Keys.{word_of, key_in, is_named_by, with_named, named_among, names_for, HasOneName}
-use Rattle.st_parts.specs.Kept.{named_as}
+use Rattle.st_parts.specs.inside.Kept.{named_as}
 
 word_one : (v w : Value) → word_of v ≡ word_of w → v ≡ w
 word_one (Small n) (Small m) e = let q : n ≡ m = omega (arith, e) in ap Small q

@@ -5,7 +5,7 @@ use Rattle.st_model.specs.declared.dead.Dead.{Dead}
 use Rattle.st_model.specs.Values.{Value, value_of}
 use Rattle.st_model.specs.Table.{Table, table}
 use Rattle.st_model.specs.Deeds.{over_table}
-use Rattle.st_model.specs.Calls.{Reads, itself}
+use Rattle.st_model.specs.inside.Calls.{Reads, itself}
 use Rattle.st_model.specs.View.{table_of}
 use Rattle.st_parts.specs.Owners.{owns, was_true, is_owner_among}
 

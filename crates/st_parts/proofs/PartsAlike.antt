@@ -8,7 +8,7 @@ use Rattle.st_emit.specs.Names.{NamesView}
 use Rattle.st_emit.specs.Literals.{LiteralView, named, owner}
 use Rattle.st_code.specs.Methods.{PartsView}
 use Rattle.st_resolved.specs.Instructions.{on_some}
-use Rattle.st_scope.specs.Alike.{SeesAlike}
+use Rattle.st_scope.specs.inside.Alike.{SeesAlike}
 use Rattle.st_parts.specs.declared.ending.Ending.{Ending}
 use Rattle.st_parts.specs.declared.ending.Ending.TheVariants.{Plain, Owned, Extended}
 use Rattle.st_parts.specs.Keys.{word_of, key_in}

@@ -7,7 +7,7 @@ use Rattle.st_model.specs.View.{View, object_of}
 use Rattle.st_emit.specs.Names.{NamesView}
 use Rattle.st_emit.specs.Literals.{LiteralView}
 use Rattle.st_code.specs.Methods.{PartsView}
-use Rattle.st_scope.specs.Meanings.{values}
+use Rattle.st_scope.specs.inside.Meanings.{values}
 use Rattle.st_parts.specs.Parts.{Place, ending_of, all_read, parts_by, parts_at}
 use Rattle.st_parts.proofs.Taking.{word_is}
 

@@ -5,7 +5,7 @@ use Rattle.std.proofs.lemmas.Bool.Decides.{nat_tests}
 use Rattle.std.proofs.lemmas.List.{take_all, map-append}
 use Rattle.st_model.specs.declared.oop.Oop.{Oop}
 use Rattle.st_model.specs.Values.{Value, Small, Ref, value, value_of}
-use Rattle.st_scope.specs.Meanings.{values}
+use Rattle.st_scope.specs.inside.Meanings.{values}
 use Rattle.st_parts.specs.Keys.{word_of}
 
 taken_more : {A : Type 0} (us : List A) (i : ℕ) (b : A) → slice_get us i ≡ Some b → take i us ++ b ∷ [] ≡ take (suc i) us

@@ -11,9 +11,9 @@ use Rattle.st_model.specs.View.{is_live, object_of}
 use Rattle.st_model.specs.Steps.{same_value}
 use Rattle.st_emit.specs.declared.literal.Literal.{Literal}
 use Rattle.st_emit.specs.Literals.{LiteralView, LiteralsView, character, no_literals, literal}
-use Rattle.st_emit.specs.Views.{literal_view, literals_view, members_view}
+use Rattle.st_emit.specs.inside.Views.{literal_view, literals_view, members_view}
 use Rattle.st_resolved.specs.Instructions.{on_some}
-use Rattle.st_scope.specs.Meanings.{values}
+use Rattle.st_scope.specs.inside.Meanings.{values}
 use Rattle.st_model.specs.Table.{Table}
 use Rattle.st_emit.specs.Names.{NamesView}
 use Rattle.st_parts.specs.Contents.{fields_at, number_among, character_by, member_by, members_by}

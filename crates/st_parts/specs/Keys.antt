@@ -1,18 +1,11 @@
 -- The names that a method which is there sees: those by which its literals are members of tables of names.
-use Rattle.std.specs.Prelude.{◌≡◌, ℕ, ◌+◌, ◌*◌, List, [], ◌∷◌, drop, slice_get, Option, Some, None, Bool, false, ◌&&◌, nat_le, length, option_and_then, if◌then◌else◌, Result, Ok, Err, ⊤}
+use Rattle.std.specs.Prelude.{◌≡◌, ℕ, ◌+◌, ◌*◌, List, [], ◌∷◌, drop, slice_get, Option, Some, None, Bool, false, ◌&&◌, nat_le, length, option_and_then, if◌then◌else◌}
 use Rattle.st_model.specs.Values.{Value, Small, Ref}
 use Rattle.st_model.specs.Objects.{is_pointers}
-use Rattle.st_model.specs.Machine.{Step}
 use Rattle.st_model.specs.Table.{Table}
-use Rattle.st_model.specs.Calls.{Reads, itself}
 use Rattle.st_model.specs.View.{is_live, object_of}
 use Rattle.st_scan.specs.Views.{MethodView, StatementsView, no_statements, with_statement, variable}
-use Rattle.st_emit.specs.declared.names.Names.{Names}
 use Rattle.st_emit.specs.Names.{NamesView, SharedName, shared_named}
-use Rattle.st_emit.specs.NameViews.{names_view}
-use Rattle.st_scope.specs.declared.fault.InstallFault.{InstallFault}
-use Rattle.st_scope.specs.declared.fault.InstallFault.TheVariants as fault
-use Rattle.st_scope.specs.Alike.{SeesAlike}
 use Rattle.st_scope.specs.Texts.{text_at}
 use Rattle.st_expression_stack.specs.Names.{names_value}
 
@@ -78,18 +71,6 @@ named_among names t ss (v ∷ vs) =
 -- the names of a class, of which those that are shared name one of these values
 abbrev pub names_for : Table → List Value → NamesView → NamesView
 names_for t vs names = record names { shared = named_among names t [] vs }
-
--- The step answers names, as f gives them, that tell of each text the same as these, once none is left but what names a literal.
-pub record AreNamesFor {A : Type 0} (vs : List Value) (step : Step Table A) (f : NamesView → A) (t : Table) (names : Names) : Type 0 where
-  pub listed : NamesView
-  pub reads : Reads step f t (Ok listed)
-  pub alike : SeesAlike (names_for t vs listed) (names_view names)
-
--- the step answers such names, or this fault; where there was no memory, nothing is said
-abbrev pub AnswersFor : List Value → Step Table (Result NamesView InstallFault) → Table → Result Names InstallFault → Type 0
-AnswersFor vs step t (Ok names) = AreNamesFor vs step Ok t names
-AnswersFor vs step t (Err fault.OutOfMemory) = ⊤
-AnswersFor vs step t (Err cause) = Reads step itself t (Ok (Err cause))
 
 -- no association is the value of two names
 abbrev pub HasOneName : NamesView → Type 0

@@ -1,9 +1,7 @@
 pub mod Keys
-pub mod Kept
 pub mod Numbers
 pub mod Contents
 pub mod Owners
 pub mod Cutting
 pub mod Parts
-pub mod Readings
-pub mod Places
+pub mod inside

@@ -2,7 +2,7 @@
 
 ghost use Rattle.std.specs.Prelude.{◌≡◌, true, false, drop, IfOk};
 ghost use Rattle.st_model.specs.{Values.value, Objects.{is_words, is_pointers}, View.{is_live, object_of}};
-ghost use Rattle.st_scope.specs.Meanings.{values_of};
+ghost use Rattle.st_scope.specs.inside.Meanings.{values_of};
 
 use st_memory::{Memory, count_fields, count_units};
 use st_model::Oop;

@@ -2,11 +2,11 @@
 
 ghost use Rattle.std.specs.Prelude.{◌≡◌, ◌<◌, min, true, IfOk, option_map};
 ghost use Rattle.st_model.specs.{Values.value, View.{is_live, object_of}};
-ghost use Rattle.st_emit.specs.{Literals.character, Views.literal_view};
-ghost use Rattle.st_scope.specs.Meanings.{values};
+ghost use Rattle.st_emit.specs.{Literals.character, inside.Views.literal_view};
+ghost use Rattle.st_scope.specs.inside.Meanings.{values};
 ghost use Rattle.st_parts.specs.Contents.{class_in, bytes_by, character_at, constant_named, or_character};
 ghost use Rattle.st_parts.specs.Contents.{contents, made_at, member_at, members_at, arrays_at};
-ghost use Rattle.st_parts.specs.Readings.{members_if};
+ghost use Rattle.st_parts.specs.inside.Readings.{members_if};
 
 use crate::bodies::{bytes_of, fields_of};
 use crate::numbers::{large_number, small_number};

@@ -4,7 +4,7 @@
 ghost use Rattle.std.specs.Prelude.{◌≡◌, List};
 ghost use Rattle.st_model.specs.{Values.Value, Table.Table, View.View};
 ghost use Rattle.st_emit.specs.Names.{NamesView};
-ghost use Rattle.st_scope.specs.Alike.{SeesAlike};
+ghost use Rattle.st_scope.specs.inside.Alike.{SeesAlike};
 ghost use Rattle.st_parts.specs.{Keys.{HasOneName, names_for}, Parts.{Place, parts_at}};
 
 /// Of the names that a method sees no two mean the value of one association.

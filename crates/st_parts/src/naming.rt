@@ -3,12 +3,13 @@
 ghost use Rattle.std.specs.Prelude.{◌≡◌, true, IfOk, OnOk, option_map};
 ghost use Rattle.st_model.specs.{Values.value, Table.table, View.is_live};
 ghost use Rattle.st_scan.specs.Views.{method_view, statements_view, no_statements};
-ghost use Rattle.st_emit.specs.NameViews.{names_view};
-ghost use Rattle.st_scope.specs.{Alike.SeesAlike, Calls.names, Findings.text_of, Meanings.values};
+ghost use Rattle.st_emit.specs.inside.NameViews.{names_view};
+ghost use Rattle.st_scope.specs.{inside.Alike.SeesAlike, Calls.names, inside.Findings.text_of, inside.Meanings.values};
 ghost use Rattle.st_scope.specs.Texts.{found, text_at};
 ghost use Rattle.st_parts.specs.Keys.{key_field, key_in, with_keys, with_mentioned, mentioning, literals_in};
-ghost use Rattle.st_parts.specs.Keys.{is_named_by, names_for, AnswersFor};
-ghost use Rattle.st_parts.specs.Kept.{Keeps, KeepsIf, AreKept};
+ghost use Rattle.st_parts.specs.Keys.{is_named_by, names_for};
+ghost use Rattle.st_parts.specs.inside.NamesFor.{AnswersFor};
+ghost use Rattle.st_parts.specs.inside.Kept.{Keeps, KeepsIf, AreKept};
 
 use crate::bodies::{behind_header, bytes_of, fields_of};
 use st_emit::{NamedOops, Names};

@@ -2,7 +2,7 @@
 
 ghost use Rattle.std.specs.Prelude.{◌≡◌, true, option_map};
 ghost use Rattle.st_model.specs.Values.{value, is_small};
-ghost use Rattle.st_emit.specs.Views.{literal_view};
+ghost use Rattle.st_emit.specs.inside.Views.{literal_view};
 ghost use Rattle.st_parts.specs.Numbers.{small_number, ends_high, number_within, large_number};
 
 use st_emit::Literal;

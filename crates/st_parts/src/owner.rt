@@ -1,7 +1,7 @@
 //! The association of a method's class.
 
 ghost use Rattle.std.specs.Prelude.{◌≡◌};
-ghost use Rattle.st_model.specs.{Values.value, Steps.same_value, Table.table, Calls.{Reads, itself}};
+ghost use Rattle.st_model.specs.{Values.value, Steps.same_value, Table.table, inside.Calls.{Reads, itself}};
 ghost use Rattle.st_parts.specs.Owners.{is_of_metaclass, owns_by, owns, is_owner_among};
 
 use st_memory::Memory;

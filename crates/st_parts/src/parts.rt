@@ -2,11 +2,11 @@
 
 ghost use Rattle.std.specs.Prelude.{◌≡◌, ◌≤◌, ◌-◌, true, length, IfOk, option_map};
 ghost use Rattle.st_model.specs.{Values.{value, is_small}, Objects.is_method, View.{is_live, object_of}};
-ghost use Rattle.st_emit.specs.{NameViews.names_view, Views.literal_view};
-ghost use Rattle.st_code.specs.MethodDrafts.{parts_view};
-ghost use Rattle.st_scope.specs.Meanings.{values};
+ghost use Rattle.st_emit.specs.{inside.NameViews.names_view, inside.Views.literal_view};
+ghost use Rattle.st_code.specs.inside.MethodDrafts.{parts_view};
+ghost use Rattle.st_scope.specs.inside.Meanings.{values};
 ghost use Rattle.st_parts.specs.Parts.{literal_read, literals_read, ends_owned, ends_extended, from_end, owned_read, extended_read, all_read, parts_at};
-ghost use Rattle.st_parts.specs.{Places.place_of, Readings.literals_if};
+ghost use Rattle.st_parts.specs.{inside.Places.place_of, inside.Readings.literals_if};
 
 use crate::bodies::{behind_header, bytes_of, fields_of};
 use crate::contents::{MOST_DEEP, contents_of};

@@ -11,8 +11,8 @@ use Rattle.st_model.specs.Objects.{Object, words_of}
 use Rattle.st_model.specs.Table.{entry, total_used}
 use Rattle.st_plain.specs.declared.entry.Entry.{Entry}
 use Rattle.st_plain.specs.declared.objects.Objects.{Objects}
-use Rattle.st_plain.specs.Lists.{slot, new_entry, entry_object, entry_total, slot_number, entry_words, entry_fields, entry_units, IsPlaced, AllPlaced}
-use Rattle.st_plain.specs.ListsPlain.{Extent, objects_of, with_taken}
+use Rattle.st_plain.specs.inside.Lists.{slot, new_entry, entry_object, entry_total, slot_number, entry_words, entry_fields, entry_units, IsPlaced, AllPlaced}
+use Rattle.st_plain.specs.inside.ListsPlain.{Extent, objects_of, with_taken}
 use Rattle.st_plain.proofs.Slots.{entry-listed, entry-slot, slice_get-slot}
 use Rattle.st_plain.proofs.Looking.{total_more}
 use Rattle.st_plain.proofs.Counting.{used_is}

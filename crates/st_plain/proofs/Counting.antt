@@ -5,8 +5,8 @@ use Rattle.st_model.specs.Objects.{one, words_of, is_words}
 use Rattle.st_model.specs.Table.{total_used}
 use Rattle.st_plain.specs.declared.entry.Entry.{Entry}
 use Rattle.st_plain.specs.declared.objects.Objects.{Objects}
-use Rattle.st_plain.specs.Lists.{slot, entry_object, entry_total, one_entry, entry_words, IsLaidOut, IsCounted}
-use Rattle.st_plain.specs.ListsPlain.{objects_of}
+use Rattle.st_plain.specs.inside.Lists.{slot, entry_object, entry_total, one_entry, entry_words, IsLaidOut, IsCounted}
+use Rattle.st_plain.specs.inside.ListsPlain.{objects_of}
 use Rattle.st_plain.proofs.Looking.{total_used-listed, words_of-entry}
 
 pub total-with : (w : Entry → ℕ) (es : List (Option Entry)) (k : ℕ) (e : Entry) → k < length es → slot es k ≡ None → entry_total w (set es k (Some e)) ≡ entry_total w es + w e

@@ -11,7 +11,7 @@ use Rattle.st_model.specs.Table.{Table, entry, changed, exchanged}
 use Rattle.st_model.specs.View.{with_exchanged}
 use Rattle.st_model.proofs.Exchanging.{other_of, exchanged_is}
 use Rattle.st_plain.specs.declared.entry.Entry.{Entry}
-use Rattle.st_plain.specs.Lists.{slot, entry_object, entry_total, listed_table, IsLaidOut, IsFull}
+use Rattle.st_plain.specs.inside.Lists.{slot, entry_object, entry_total, listed_table, IsLaidOut, IsFull}
 use Rattle.st_plain.proofs.Slots.{slice_get-slot, slot-slice_get, entry-slot}
 use Rattle.st_heap.proofs.Changing.{changed-set}
 use Rattle.st_plain.proofs.Placing.{slice_get-set_other}

@@ -4,7 +4,7 @@ use Rattle.st_model.specs.declared.oop.Oop.{Oop}
 use Rattle.st_model.specs.Values.{Value, value}
 use Rattle.st_model.specs.Objects.{words_of, is_words, size_of}
 use Rattle.st_model.specs.Formed.{IsHeader, unit_limit}
-use Rattle.st_model.specs.Loading.{IsLoading}
+use Rattle.st_model.specs.inside.Loading.{IsLoading}
 use Rattle.st_model.specs.Table.{total_used}
 use Rattle.st_model.specs.View.{View, IsWhole, is_live, object_of, with_unit, with_stored}
 use Rattle.st_model.proofs.FormedLemmas.{words_range}
@@ -15,9 +15,9 @@ use Rattle.st_plain.specs.declared.objects.Objects.{Objects}
 use Rattle.st_plain.specs.declared.contents.Contents.{Contents}
 use Rattle.st_plain.specs.declared.memory.PlainMemory.{PlainMemory}
 use Rattle.st_plain.specs.declared.loader.PlainLoader.{PlainLoader}
-use Rattle.st_plain.specs.ListsPlain.{objects_of, extent_of, IsLong}
-use Rattle.st_plain.specs.Plain.{plain_view, HasRoom, AreLong}
-use Rattle.st_plain.specs.Lists.{listed_table}
+use Rattle.st_plain.specs.inside.ListsPlain.{objects_of, extent_of, IsLong}
+use Rattle.st_plain.specs.inside.Plain.{plain_view, HasRoom, AreLong}
+use Rattle.st_plain.specs.inside.Lists.{listed_table}
 use Rattle.st_plain.proofs.Placing.{same_table}
 use Rattle.st_plain.proofs.Room.{long_same, room_same}
 

@@ -12,8 +12,8 @@ use Rattle.st_model.specs.Table.{Table, entry, changed}
 use Rattle.st_model.specs.View.{nothing, is_live, object_of, with_object, with_stored}
 use Rattle.st_model.proofs.Pointers.{value_of-even}
 use Rattle.st_plain.specs.declared.objects.Objects.{Objects}
-use Rattle.st_plain.specs.Lists.{cleared, entry_object}
-use Rattle.st_plain.specs.ListsPlain.{objects_of}
+use Rattle.st_plain.specs.inside.Lists.{cleared, entry_object}
+use Rattle.st_plain.specs.inside.ListsPlain.{objects_of}
 use Rattle.st_model.proofs.LoadingLemmas.{entry-set_same}
 
 -- each pointer has its place in the table

@@ -4,7 +4,7 @@ use Rattle.std.specs.Prelude.{slice_index_or, ◌==◌}
 use Rattle.st_model.specs.declared.oop.Oop.{Oop}
 use Rattle.st_model.specs.Values.{value, value_of}
 use Rattle.st_model.specs.Settled.{or, names, any_names}
-use Rattle.st_counted.specs.Words.{nil_word}
+use Rattle.st_counted.specs.inside.Words.{nil_word}
 use Rattle.st_plain.proofs.Marking.{or_step}
 
 pub twice : (a b : Bool) → or a (or a b) ≡ or a b

@@ -10,7 +10,7 @@ use Rattle.st_model.specs.Table.{total_used}
 use Rattle.st_model.specs.View.{is_live}
 use Rattle.st_model.proofs.Pointers.{value_of-pointer}
 use Rattle.st_plain.specs.declared.entry.Entry.{Entry}
-use Rattle.st_plain.specs.Lists.{listed_table, entry_object, slot, entry_of, entry_total, entry_words, slot_number}
+use Rattle.st_plain.specs.inside.Lists.{listed_table, entry_object, slot, entry_of, entry_total, entry_words, slot_number}
 use Rattle.st_plain.proofs.Slots.{is_live-listed}
 
 module _ (p : List Oop) (u : List ℕ) (es : List (Option Entry)) where

@@ -12,8 +12,8 @@ use Rattle.st_model.proofs.Pointers.{value_of-pointer}
 use Rattle.st_model.proofs.TableLemmas.{first_free-none}
 use Rattle.st_model.proofs.Making.{placed_object}
 use Rattle.st_plain.specs.declared.objects.Objects.{Objects}
-use Rattle.st_plain.specs.Lists.{entry_object, IsFull}
-use Rattle.st_plain.specs.ListsPlain.{objects_of}
+use Rattle.st_plain.specs.inside.Lists.{entry_object, IsFull}
+use Rattle.st_plain.specs.inside.ListsPlain.{objects_of}
 use Rattle.st_plain.proofs.Slots.{is_some-entry}
 use Rattle.st_counted.proofs.Referring.{entry-set_same, entry-set_other}
 

@@ -10,10 +10,10 @@ use Rattle.st_model.proofs.SettledIs.{or_cases, below_true, object_is, is_object
 use Rattle.st_model.proofs.SettledLemmas.{is_some-of, some_is}
 use Rattle.st_model.proofs.Settling.{DropsTo, left, left_is, settled}
 use Rattle.st_model.proofs.Rounds.{KeepsNeeded, all_kept, settled_all}
-use Rattle.st_plain.specs.Held.{register_roots, names_held}
-use Rattle.st_plain.specs.Marked.{is_of_page}
-use Rattle.st_plain.specs.ListsPlain.{is_referred}
-use Rattle.st_plain.specs.Plain.{is_needed}
+use Rattle.st_plain.specs.inside.Held.{register_roots, names_held}
+use Rattle.st_plain.specs.inside.Marked.{is_of_page}
+use Rattle.st_plain.specs.inside.ListsPlain.{is_referred}
+use Rattle.st_plain.specs.inside.Plain.{is_needed}
 use Rattle.st_plain.proofs.Marking.{any_names-append, or_step}
 use Rattle.st_plain.proofs.Holding.{twice}
 use Rattle.st_counted.proofs.Dropping.{moved_root}

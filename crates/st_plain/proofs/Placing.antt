@@ -11,8 +11,8 @@ use Rattle.st_model.specs.Table.{Table}
 use Rattle.st_model.specs.View.{with_object}
 use Rattle.st_model.proofs.Pointers.{value_of-even}
 use Rattle.st_plain.specs.declared.entry.Entry.{Entry}
-use Rattle.st_counted.specs.Words.{nil_word}
-use Rattle.st_plain.specs.Lists.{entry_object, listed_table, slot, new_entry, words_for, IsApart, IsPlaced, AllPlaced, AllApart, IsLaidOut, IsFull, cleared, AreBounded}
+use Rattle.st_counted.specs.inside.Words.{nil_word}
+use Rattle.st_plain.specs.inside.Lists.{entry_object, listed_table, slot, new_entry, words_for, IsApart, IsPlaced, AllPlaced, AllApart, IsLaidOut, IsFull, cleared, AreBounded}
 
 -- runs before a place are the same in lists that are the same up to it
 

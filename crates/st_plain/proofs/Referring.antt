@@ -11,8 +11,8 @@ use Rattle.st_model.specs.Table.{entry}
 use Rattle.st_model.specs.Settled.{or, names, any_names, object_names, any_below}
 use Rattle.st_model.proofs.Pointers.{names-even}
 use Rattle.st_plain.specs.declared.entry.Entry.{Entry}
-use Rattle.st_plain.specs.Lists.{listed_table, entry_object, slot}
-use Rattle.st_plain.specs.ListsPlain.{is_referred}
+use Rattle.st_plain.specs.inside.Lists.{listed_table, entry_object, slot}
+use Rattle.st_plain.specs.inside.ListsPlain.{is_referred}
 use Rattle.st_plain.proofs.Slots.{entry-listed, entry-slot}
 use Rattle.st_plain.proofs.Marking.{or_step}
 

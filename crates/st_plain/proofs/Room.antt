@@ -1,6 +1,6 @@
 -- The lists keep room for what the objects may take.
 use Rattle.std.proofs.Common.{◌≡◌, ℕ, ◌+◌, ◌*◌, ◌≤◌, ap, subst, sym, arith}
-use Rattle.st_plain.specs.ListsPlain.{Extent, IsEnough, IsLong, unused, with_taken}
+use Rattle.st_plain.specs.inside.ListsPlain.{Extent, IsEnough, IsLong, unused, with_taken}
 
 pub room_same : (e f : Extent) (used now words : ℕ) → IsEnough e used words → f ≡ e → now ≡ used → IsEnough f now words
 room_same e f used now words room same as_many = subst (λ (g : Extent). IsEnough g now words) (sym same) (subst (λ n. IsEnough e n words) (sym as_many) room)

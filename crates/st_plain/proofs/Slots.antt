@@ -8,7 +8,7 @@ use Rattle.st_model.specs.Table.{entry}
 use Rattle.st_model.specs.View.{nothing, is_live, object_of}
 use Rattle.st_model.proofs.Pointers.{value_of-even}
 use Rattle.st_plain.specs.declared.entry.Entry.{Entry}
-use Rattle.st_plain.specs.Lists.{entry_object, listed_table, slot, entry_of, IsPlaced, AllPlaced}
+use Rattle.st_plain.specs.inside.Lists.{entry_object, listed_table, slot, entry_of, IsPlaced, AllPlaced}
 use Rattle.st_heap.proofs.Changing.{none_of}
 
 pub entry_of-small : (es : List (Option Entry)) (v : Value) → is_small v ≡ true → entry_of es v ≡ None

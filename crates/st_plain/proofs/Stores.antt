@@ -11,7 +11,7 @@ use Rattle.st_model.specs.Objects.{with_field, object_with_unit}
 use Rattle.st_model.specs.Table.{Table, changed}
 use Rattle.st_model.specs.View.{with_stored, with_unit}
 use Rattle.st_plain.specs.declared.entry.Entry.{Entry}
-use Rattle.st_plain.specs.Lists.{entry_object, listed_table, entry_of, AllApart}
+use Rattle.st_plain.specs.inside.Lists.{entry_object, listed_table, entry_of, AllApart}
 use Rattle.st_plain.proofs.Slots.{slice_get-slot, slot-entry_of, entry-slot, object_of-listed}
 use Rattle.st_heap.proofs.Changing.{changed-set}
 

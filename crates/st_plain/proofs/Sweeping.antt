@@ -8,7 +8,7 @@ use Rattle.st_model.specs.declared.oop.Oop.{Oop}
 use Rattle.st_model.specs.Table.{settled_table}
 use Rattle.st_model.specs.Settled.{or}
 use Rattle.st_plain.specs.declared.entry.Entry.{Entry}
-use Rattle.st_plain.specs.Lists.{listed_table, entry_object, slot, kept_entries, IsLaidOut, IsFull}
+use Rattle.st_plain.specs.inside.Lists.{listed_table, entry_object, slot, kept_entries, IsLaidOut, IsFull}
 use Rattle.st_plain.proofs.Placing.{slot-set_other}
 
 -- the names that are marked, or not reached yet

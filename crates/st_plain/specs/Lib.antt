@@ -1,5 +1,1 @@
-pub mod Plain
-pub mod Held
-pub mod Lists
-pub mod Marked
-pub mod ListsPlain
+pub mod inside

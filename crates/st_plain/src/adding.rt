@@ -3,9 +3,9 @@ ghost use Rattle.st_model.specs.Values.{value, Ref, is_small};
 ghost use Rattle.st_model.specs.Formed.{IsMakeable, fresh};
 ghost use Rattle.st_model.specs.Table.{first_free, placed};
 ghost use Rattle.st_model.specs.View.{is_live, with_object};
-ghost use Rattle.st_counted.specs.Words.{nil_word};
-ghost use Rattle.st_plain.specs.Lists.{slot, cleared, new_entry, words_for, entry_object, IsFull};
-ghost use Rattle.st_plain.specs.ListsPlain.{objects_of, extent_of, with_taken};
+ghost use Rattle.st_counted.specs.inside.Words.{nil_word};
+ghost use Rattle.st_plain.specs.inside.Lists.{slot, cleared, new_entry, words_for, entry_object, IsFull};
+ghost use Rattle.st_plain.specs.inside.ListsPlain.{objects_of, extent_of, with_taken};
 
 use crate::entry::Entry;
 use crate::objects::Objects;

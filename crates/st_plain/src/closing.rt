@@ -1,8 +1,8 @@
 ghost use Rattle.std.specs.Prelude.{◌≡◌, ◌<◌, ◌≤◌, ◌+◌, ◌*◌, ◌≢◌, ℕ, length, None};
 ghost use Rattle.st_model.specs.Objects.{words_of};
 ghost use Rattle.st_model.specs.Table.{entry, total_used};
-ghost use Rattle.st_plain.specs.Lists.{slot, slot_number, entry_fields, entry_units};
-ghost use Rattle.st_plain.specs.ListsPlain.{objects_of, extent_of, with_taken, emptied, IsEnough};
+ghost use Rattle.st_plain.specs.inside.Lists.{slot, slot_number, entry_fields, entry_units};
+ghost use Rattle.st_plain.specs.inside.ListsPlain.{objects_of, extent_of, with_taken, emptied, IsEnough};
 
 use crate::entry::Entry;
 use crate::objects::Objects;

@@ -32,8 +32,8 @@ pub struct Contents {
 }
 
 impl Contents {
-    ghost use Rattle.st_plain.specs.ListsPlain.{extent_of, unused};
-    ghost use Rattle.st_plain.specs.Plain.{plain_view, is_needed, AreLong};
+    ghost use Rattle.st_plain.specs.inside.ListsPlain.{extent_of, unused};
+    ghost use Rattle.st_plain.specs.inside.Plain.{plain_view, is_needed, AreLong};
 
     /// No objects under a head, and nothing held.
     pub fn new(alloc: Global, head: Head) -> Result<Contents, AllocError>

@@ -2,7 +2,7 @@ ghost use Rattle.std.specs.Prelude.{◌≡◌, ◌<◌, ◌≤◌, ◌+◌, None
 ghost use Rattle.st_model.specs.Objects.{one};
 ghost use Rattle.st_model.specs.Table.{total_used, settled_table};
 ghost use Rattle.st_model.specs.Settled.{is_marked};
-ghost use Rattle.st_plain.specs.ListsPlain.{objects_of, extent_of};
+ghost use Rattle.st_plain.specs.inside.ListsPlain.{objects_of, extent_of};
 
 use crate::marks::Marks;
 use crate::objects::Objects;

@@ -19,7 +19,7 @@ pub struct Entry {
 
 impl Entry {
     ghost use Rattle.std.specs.Prelude.{◌≡◌, ◌≤◌, ◌+◌, ◌*◌};
-    ghost use Rattle.st_plain.specs.Lists.{entry_words};
+    ghost use Rattle.st_plain.specs.inside.Lists.{entry_words};
 
     /// How many words the object has: those of its size, its class and its body.
     pub fn words(&self) -> u32

@@ -1,7 +1,7 @@
 ghost use Rattle.std.specs.Prelude.{◌≡◌, ℕ, length, replicate, None, IfOk, slice_index_or, false};
 ghost use Rattle.st_model.specs.Settled.{is_marked};
-ghost use Rattle.st_plain.specs.Lists.{slot};
-ghost use Rattle.st_counted.specs.Words.{nil_word};
+ghost use Rattle.st_plain.specs.inside.Lists.{slot};
+ghost use Rattle.st_counted.specs.inside.Words.{nil_word};
 
 use crate::entry::Entry;
 use st_model::Oop;

@@ -1,8 +1,8 @@
 ghost use Rattle.std.specs.Prelude.{◌≡◌};
-ghost use Rattle.st_model.specs.Loading.{IsLoading};
-ghost use Rattle.st_model.specs.Props.{IsLoading-prop};
-ghost use Rattle.st_plain.specs.ListsPlain.{extent_of, IsLong};
-ghost use Rattle.st_plain.specs.Plain.{plain_view, HasRoom};
+ghost use Rattle.st_model.specs.inside.Loading.{IsLoading};
+ghost use Rattle.st_model.specs.inside.Props.{IsLoading-prop};
+ghost use Rattle.st_plain.specs.inside.ListsPlain.{extent_of, IsLong};
+ghost use Rattle.st_plain.specs.inside.Plain.{plain_view, HasRoom};
 
 use crate::contents::Contents;
 use crate::memory::PlainMemory;

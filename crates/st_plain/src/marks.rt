@@ -4,7 +4,7 @@ ghost use Rattle.st_model.specs.Values.{value};
 ghost use Rattle.st_model.specs.Machine.{table_root};
 ghost use Rattle.st_model.specs.Settled.{names, any_names, is_marked};
 ghost use Rattle.st_model.specs.View.{table_of};
-ghost use Rattle.st_plain.specs.Marked.{AddsMarks, is_of_page};
+ghost use Rattle.st_plain.specs.inside.Marked.{AddsMarks, is_of_page};
 
 use crate::lists::no_marks;
 use st_counted::ROOT_PAGE;

@@ -1,7 +1,7 @@
 ghost use Rattle.std.specs.Prelude.{◌≡◌, ⊤};
 ghost use Rattle.st_model.specs.View.{IsWhole};
-ghost use Rattle.st_plain.specs.Plain.{plain_view, AreLong};
-ghost use Rattle.st_model.specs.Props.{IsWhole-prop};
+ghost use Rattle.st_plain.specs.inside.Plain.{plain_view, AreLong};
+ghost use Rattle.st_model.specs.inside.Props.{IsWhole-prop};
 
 use crate::contents::Contents;
 use st_memory::Memory;

@@ -5,8 +5,8 @@ ghost use Rattle.st_model.specs.Objects.{one, words_of};
 ghost use Rattle.st_model.specs.Table.{entry, total_used};
 ghost use Rattle.st_model.specs.Settled.{object_names};
 ghost use Rattle.st_model.specs.View.{is_live, object_of, with_exchanged, with_stored, with_unit};
-ghost use Rattle.st_plain.specs.Marked.{AddsMarks};
-ghost use Rattle.st_plain.specs.Lists.{IsLaidOut, IsCounted, IsFull, IsPlaced, slot, entry_of, entry_object};
+ghost use Rattle.st_plain.specs.inside.Marked.{AddsMarks};
+ghost use Rattle.st_plain.specs.inside.Lists.{IsLaidOut, IsCounted, IsFull, IsPlaced, slot, entry_of, entry_object};
 
 use crate::entry::Entry;
 use crate::lists::{empty_places, nil_words, zero_units};
@@ -40,7 +40,7 @@ pub struct Objects {
 }
 
 impl Objects {
-    ghost use Rattle.st_plain.specs.ListsPlain.{objects_of, is_referred, extent_of, unused};
+    ghost use Rattle.st_plain.specs.inside.ListsPlain.{objects_of, is_referred, extent_of, unused};
 
     /// No objects, and room for the fields and units of so many words.
     pub fn new(alloc: Global, words: u32) -> Result<Objects, AllocError>

@@ -1,6 +1,6 @@
-ghost use Rattle.st_counted.specs.Held.{held_of};
-ghost use Rattle.st_plain.specs.Held.{names_held};
-ghost use Rattle.st_plain.specs.Marked.{AddsMarks};
+ghost use Rattle.st_counted.specs.inside.Held.{held_of};
+ghost use Rattle.st_plain.specs.inside.Held.{names_held};
+ghost use Rattle.st_plain.specs.inside.Marked.{AddsMarks};
 
 use crate::marks::Marks;
 use st_counted::Roots;

@@ -5,13 +5,13 @@ use Rattle.std.specs.Str.{byte}
 use Rattle.std.proofs.lemmas.List.{append-nil}
 use Rattle.st_scan.specs.Views.{NameView, ContentView, ExpressionView, StatementsView, MessagesView, ExpressionsView, MethodView, is_super}
 use Rattle.st_scan.specs.Views as views
-use Rattle.st_scan.specs.Placeless.{placeless_name, placeless_names, placeless, placeless_statements}
+use Rattle.st_scan.specs.inside.Placeless.{placeless_name, placeless_names, placeless, placeless_statements}
 use Rattle.st_grammar.specs.declared.leaf.Leaf.{Leaf}
 use Rattle.st_grammar.specs.declared.leaf.Kind.TheVariants as kinds
 use Rattle.st_grammar.specs.Phrases.{One, names, Parameter, Primary, Block, Expression, Statements, KeywordName, Pattern, Temporaries, Primitive', Options, Method, ones_text, parameters_text, literal_text, block_text, primary_text, unary_text, expression_text, statements_text, keyword_names_text, pattern_text, temporaries_text, primitive_text, options_text, method_text}
 use Rattle.st_grammar.specs.Phrases as phrases
 use Rattle.st_grammar.specs.Trees.{parameters_tree, block_tree, statements_tree, BlockFits, StatementsFit}
-use Rattle.st_grammar.specs.Formed.{MayFollow, ReceiverFormed, StatementsFormed, MessagesFormed, ArgumentsFormed}
+use Rattle.st_grammar.specs.inside.Formed.{MayFollow, ReceiverFormed, StatementsFormed, MessagesFormed, ArgumentsFormed}
 use Rattle.st_print.specs.Words.{name, mark, bar}
 use Rattle.st_print.specs.Printed.{parameter_words, parameters_words, expression_words, statements_words}
 use Rattle.st_print.proofs.Spelled.{Spells, first_of, spells_nothing, parted, inside_of, one_of, name_is}

@@ -3,12 +3,12 @@ use Rattle.std.proofs.Common.{◌≡◌, Bool, true, false, List, [], ◌∷◌,
 use Rattle.std.specs.Str.{byte}
 use Rattle.std.proofs.lemmas.List.{append-nil}
 use Rattle.st_scan.specs.Views.{ExpressionView, variable, literal, block, assign, send}
-use Rattle.st_scan.specs.Chains.{LinkView, assigned, sent, with_link, linked, IsStart}
+use Rattle.st_scan.specs.inside.Chains.{LinkView, assigned, sent, with_link, linked, IsStart}
 use Rattle.st_print.specs.declared.rank.Rank.{Rank}
 use Rattle.st_print.specs.declared.rank.Rank.TheVariants.{Unary, Binary, Any}
 use Rattle.st_print.specs.Words.{Word, name, mark, wrapped}
 use Rattle.st_print.specs.Printed.{is_loose, rank_of, expression_words, placed}
-use Rattle.st_print.specs.Chained.{rank_of_link, inner_rank, wanted_by, opened, closed, target_words, link_words, before_link, behind_link, before_links, behind_links}
+use Rattle.st_print.specs.inside.Chained.{rank_of_link, inner_rank, wanted_by, opened, closed, target_words, link_words, before_link, behind_link, before_links, behind_links}
 
 wrapped_parts : (b : Bool) (ws : List Word) → wrapped b ws ≡ opened b ++ (ws ++ closed b)
 wrapped_parts true ws = refl

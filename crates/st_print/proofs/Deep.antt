@@ -13,7 +13,7 @@ use Rattle.st_grammar.specs.Leaves.{among, keywords, operators, openings}
 use Rattle.st_grammar.specs.Faults.{height, highest}
 use Rattle.st_grammar.specs.Phrases.{One, names, Element, plain, keyword_symbol, nested, Elements, no_elements, element, Literal, constant, array, Target, Primary, name, literal, block, group, Block, plain_block, full_block, empty_block, Unary, unary, Binary, binary, Operations, no_operations, operation, keyworded, Parts, no_parts, part, Cascade, cascade, Messages, no_messages, message, Message, unary_message, binary_message, keyword_message, Expression, expression, Statements, no_statements, last, next, returned, returned_ended, Method, method, ones_text, element_text, elements_text, literal_text, parameters_text, targets_text, primary_text, block_text, unary_text, binary_text, operations_text, keyworded_text, parts_text, cascade_text, messages_text, message_text, expression_text, statements_text, pattern_text, options_text, method_text}
 use Rattle.st_grammar.specs.Trees.{bytes, sent, sent_if, content_of, word_content, element_tree, elements_tree, literal_tree, assigned, after_names, selector_of, primary_tree, block_tree, unary_tree, binary_tree, after_operations, keyworded_tree, arguments_of, cascade_tree, after_messages, with_one, expression_tree, statements_tree, method_tree, PrimaryFits, BlockFits, UnaryFits, BinaryFits, OperationsFit, PartsFit, CascadeFits, MessagesFit, MessageFits, ExpressionFits, StatementsFit, MethodFits}
-use Rattle.st_grammar.specs.Formed.{HasMessage, ReceiverFormed}
+use Rattle.st_grammar.specs.inside.Formed.{HasMessage, ReceiverFormed}
 use Rattle.st_grammar.proofs.KindSets.{within}
 use Rattle.st_grammar.proofs.Heights.{highest_append, highest_grows, highest_bracket}
 use Rattle.st_grammar.proofs.Balanced.{elements_balanced, block_balanced, expression_balanced, closes, closes_block}

@@ -11,7 +11,7 @@ use Rattle.st_scan.specs.Pieces as pieces
 use Rattle.st_grammar.specs.declared.leaf.Kind.{Kind}
 use Rattle.st_grammar.specs.Leaves.{kind_of_sort, mark_kind}
 use Rattle.st_grammar.specs.Faults.{level}
-use Rattle.st_grammar.specs.Formed.{IsSymbol}
+use Rattle.st_grammar.specs.inside.Formed.{IsSymbol}
 use Rattle.st_grammar.proofs.KindSets.{sample}
 use Rattle.st_print.specs.Words.{Word, name, keyword, operator, number, character, string, symbol, opening, mark, word_text}
 

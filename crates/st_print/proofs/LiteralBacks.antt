@@ -4,14 +4,14 @@ use Rattle.std.specs.Prelude.{codes}
 use Rattle.std.specs.Str.{byte}
 use Rattle.st_scan.specs.Views.{ContentView, ElementsView}
 use Rattle.st_scan.specs.Views as views
-use Rattle.st_scan.specs.Placeless.{placeless_content, placeless_elements}
+use Rattle.st_scan.specs.inside.Placeless.{placeless_content, placeless_elements}
 use Rattle.st_grammar.specs.declared.leaf.Leaf.{Leaf}
 use Rattle.st_grammar.specs.declared.leaf.Kind.TheVariants as kinds
 use Rattle.st_grammar.specs.Leaves.{among}
 use Rattle.st_grammar.specs.Phrases.{One, constants, plain_elements, Element, Elements, Literal, element_text, elements_text, literal_text}
 use Rattle.st_grammar.specs.Phrases as phrases
 use Rattle.st_grammar.specs.Trees.{constant_at, element_tree, elements_tree, literal_tree, content_of}
-use Rattle.st_grammar.specs.Formed.{LiteralFormed}
+use Rattle.st_grammar.specs.inside.Formed.{LiteralFormed}
 use Rattle.st_grammar.proofs.KindSets.{sample}
 use Rattle.st_print.specs.Words.{Word, name, number, character, string, symbol, opening, mark, word_text}
 use Rattle.st_print.specs.Printed.{content_words, elements_words}

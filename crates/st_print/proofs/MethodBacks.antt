@@ -6,7 +6,7 @@ use Rattle.std.proofs.lemmas.List.{append-nil}
 use Rattle.st_scan.specs.declared.token.Signed.{Signed}
 use Rattle.st_scan.specs.Views.{NameView, StatementsView, MethodView}
 use Rattle.st_scan.specs.Views as views
-use Rattle.st_scan.specs.Placeless.{placeless_name, placeless_names, placeless_statements, without_places}
+use Rattle.st_scan.specs.inside.Placeless.{placeless_name, placeless_names, placeless_statements, without_places}
 use Rattle.st_grammar.specs.declared.leaf.Leaf.{Leaf}
 use Rattle.st_grammar.specs.declared.leaf.Kind.{Kind}
 use Rattle.st_grammar.specs.declared.leaf.Kind.TheVariants as kinds
@@ -15,7 +15,7 @@ use Rattle.st_grammar.specs.Phrases.{One, names, Primary, Expression, Statements
 use Rattle.st_grammar.specs.Phrases as phrases
 use Rattle.st_grammar.specs.Trees.{number_of, names_of, expression_tree, statements_tree, keyword_selector, keyword_arguments, pattern_selector, pattern_arguments, primitive_number, options_temporaries, options_primitive, method_tree, ExpressionFits, StatementsFit}
 use Rattle.st_grammar.specs.Faults.{IsMethodOf}
-use Rattle.st_grammar.specs.Formed.{AreKeywords, IsSelector, IsWellFormed}
+use Rattle.st_grammar.specs.inside.Formed.{AreKeywords, IsSelector, IsWellFormed}
 use Rattle.st_grammar.proofs.KindSets as sets
 use Rattle.st_print.specs.Words.{Word, name, keyword, operator, number, mark, bar, first_keyword, other_keywords}
 use Rattle.st_print.specs.Printed.{statements_words, names_words, keyword_pattern, pattern_words, temporaries_words, primitive_words, options_words, first_signed, apart, behind_pattern, method_words}

@@ -3,12 +3,12 @@ use Rattle.std.proofs.Common.{ℕ, ◌≤◌, List, sym, ap, subst, arith}
 use Rattle.st_scan.specs.Views.{MethodView}
 use Rattle.st_grammar.specs.Leaves.{leaves_of}
 use Rattle.st_grammar.specs.Faults.{highest, most}
-use Rattle.st_grammar.specs.Texts.{Means}
-use Rattle.st_grammar.specs.Formed.{IsWellFormed}
+use Rattle.st_grammar.specs.inside.Meant.{Means}
+use Rattle.st_grammar.specs.inside.Formed.{IsWellFormed}
 use Rattle.st_grammar.proofs.FormedLeaves.{Each}
 use Rattle.st_grammar.proofs.FormedTrees.{means_formed, each_of}
 use Rattle.st_print.specs.Printed.{method_words, printed}
-use Rattle.st_print.specs.Printing.{IsPrintedBack}
+use Rattle.st_print.specs.inside.Printing.{IsPrintedBack}
 use Rattle.st_print.proofs.Nesting.{statements_nesting}
 use Rattle.st_print.proofs.Going.{outside}
 use Rattle.st_print.proofs.Walks.{method_goes}

@@ -9,7 +9,8 @@ use Rattle.st_scan.specs.declared.token.Token.{Token}
 use Rattle.st_scan.specs.declared.token.Sort.{Sort}
 use Rattle.st_scan.specs.Pieces.{Piece, IsFormed, Stands, spelling}
 use Rattle.st_scan.specs.Pieces as pieces
-use Rattle.st_scan.specs.Scans.{Context, start, signs, joined, AllStand, with_token, tokens_from, HasTokens}
+use Rattle.st_scan.specs.Scans.{Context, start, signs, joined, AllStand, with_token, tokens_from}
+use Rattle.st_scan.specs.inside.Scanned.{HasTokens}
 use Rattle.st_scan.proofs.Formed.{before_end, before_blank}
 use Rattle.st_grammar.specs.declared.leaf.Leaf.{Leaf}
 use Rattle.st_grammar.specs.declared.leaf.Kind.{Kind}

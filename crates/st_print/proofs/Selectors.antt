@@ -12,7 +12,7 @@ use Rattle.st_scan.specs.Pieces.{begins, is_name, is_operator, keywords_text}
 use Rattle.st_scan.specs.Bytes.{is_operator_byte}
 use Rattle.st_scan.proofs.Prefixes.{prefix-all}
 use Rattle.st_scan.proofs.Classes.{or_second, operator-sign, in_range}
-use Rattle.st_grammar.specs.Formed.{AreKeywords}
+use Rattle.st_grammar.specs.inside.Formed.{AreKeywords}
 use Rattle.st_print.specs.Words.{keyword_end, first_keyword, other_keywords}
 use Rattle.st_print.specs.Printed.{is_word}
 

@@ -5,14 +5,14 @@ use Rattle.std.specs.Str.{byte}
 use Rattle.std.proofs.lemmas.List.{append-nil}
 use Rattle.st_scan.specs.Views.{ExpressionView, MessagesView, ExpressionsView, with_message, with_sent, is_super}
 use Rattle.st_scan.specs.Views as views
-use Rattle.st_scan.specs.Placeless.{placeless, placeless_messages, placeless_expressions}
+use Rattle.st_scan.specs.inside.Placeless.{placeless, placeless_messages, placeless_expressions}
 use Rattle.st_grammar.specs.declared.leaf.Leaf.{Leaf}
 use Rattle.st_grammar.specs.declared.leaf.Kind.TheVariants as kinds
 use Rattle.st_grammar.specs.Leaves.{operators}
 use Rattle.st_grammar.specs.Phrases.{One, names, Primary, Unary, Operations, Parts, Keyworded, Message, Messages, primary_text, unary_text, binary_text, operations_text, ones_text, parts_text, keyworded_text, message_text, messages_text}
 use Rattle.st_grammar.specs.Phrases as phrases
 use Rattle.st_grammar.specs.Trees.{bytes, sent, primary_tree, unary_tree, binary_tree, keyworded_tree, after_messages, with_one, selector_of, arguments_of, has_message, MayCascade, PrimaryFits, UnaryFits, OperationsFit, PartsFit, MessageFits, MessagesFit}
-use Rattle.st_grammar.specs.Formed.{AreKeywords, IsSelector, HasMessage, count_of}
+use Rattle.st_grammar.specs.inside.Formed.{AreKeywords, IsSelector, HasMessage, count_of}
 use Rattle.st_print.specs.declared.rank.Rank.{Rank}
 use Rattle.st_print.specs.declared.rank.Rank.TheVariants.{Binary, Any}
 use Rattle.st_print.specs.declared.rank.Rank.TheVariants as ranks

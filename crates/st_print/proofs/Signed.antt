@@ -8,13 +8,13 @@ use Rattle.std.proofs.Math.Seq.{drop-append_seam}
 use Rattle.st_scan.specs.declared.token.Signed.{Signed}
 use Rattle.st_scan.specs.Views.{ContentView, number, character, bytes, symbol, array, nil_object, false_object, true_object, ExpressionView, variable, literal, block, assign, send}
 use Rattle.st_scan.specs.declared.chain.Link.{Link}
-use Rattle.st_scan.specs.Chains.{LinkView, assigned, sent, linked, links_view, IsStart}
+use Rattle.st_scan.specs.inside.Chains.{LinkView, assigned, sent, linked, links_view, IsStart}
 use Rattle.st_print.specs.declared.rank.Rank.{Rank}
 use Rattle.st_print.specs.declared.rank.Rank.TheVariants.{Any}
 use Rattle.st_print.specs.Words.{Word, number_text, spaced, grouped, wrapped, mark}
 use Rattle.st_print.specs.Words as words
 use Rattle.st_print.specs.Printed.{is_loose, rank_of, receiver_rank, content_words, expression_words, messages_words, first_signed, apart, behind_pattern}
-use Rattle.st_print.specs.Chained.{rank_of_link, wanted_by, opened, target_words, before_link, before_links, behind_links, signed_content, signed_start}
+use Rattle.st_print.specs.inside.Chained.{rank_of_link, wanted_by, opened, target_words, before_link, before_links, behind_links, signed_content, signed_start}
 use Rattle.st_print.proofs.Turning.{put_word, put_then, take_rest}
 use Rattle.st_print.proofs.Chained.{chained}
 

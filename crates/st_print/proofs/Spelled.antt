@@ -7,7 +7,7 @@ use Rattle.std.proofs.lemmas.Bool.{cases_Bool}
 use Rattle.std.proofs.Math.Seq.{take-append_seam}
 use Rattle.st_scan.specs.declared.token.Sort.{Sort}
 use Rattle.st_scan.specs.Views.{NameView}
-use Rattle.st_scan.specs.Placeless.{placeless_name}
+use Rattle.st_scan.specs.inside.Placeless.{placeless_name}
 use Rattle.st_scan.specs.Pieces.{doubled}
 use Rattle.st_grammar.specs.declared.leaf.Leaf.{Leaf}
 use Rattle.st_grammar.specs.declared.leaf.Kind.{Kind}

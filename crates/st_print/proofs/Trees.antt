@@ -3,7 +3,7 @@ use Rattle.std.proofs.Common.{◌≡◌, ℕ, true, false, List, [], ◌∷◌, 
 use Rattle.std.proofs.lemmas.List.{append-nil}
 use Rattle.st_scan.specs.Views.{ExpressionView, MessagesView, ExpressionsView, with_message, is_super}
 use Rattle.st_scan.specs.Views as views
-use Rattle.st_scan.specs.Placeless.{placeless}
+use Rattle.st_scan.specs.inside.Placeless.{placeless}
 use Rattle.st_scan.proofs.Views.{is_super-placeless}
 use Rattle.st_grammar.specs.declared.leaf.Leaf.{Leaf}
 use Rattle.st_grammar.specs.Leaves.{operators}

@@ -8,7 +8,7 @@ use Rattle.st_scan.specs.Views.{NameView, ContentView, ElementsView, ExpressionV
 use Rattle.st_scan.specs.Views as views
 use Rattle.st_scan.specs.Scans.{Context, signs}
 use Rattle.st_scan.proofs.Classes.{or_second}
-use Rattle.st_grammar.specs.Formed.{AreKeywords, IsSelector, ContentFormed, ElementsFormed, LiteralFormed, NamesFormed, HasMessage, count_of, ReceiverFormed, StatementsFormed, MessagesFormed, ArgumentsFormed, PrimitiveFormed, IsWellFormed}
+use Rattle.st_grammar.specs.inside.Formed.{AreKeywords, IsSelector, ContentFormed, ElementsFormed, LiteralFormed, NamesFormed, HasMessage, count_of, ReceiverFormed, StatementsFormed, MessagesFormed, ArgumentsFormed, PrimitiveFormed, IsWellFormed}
 use Rattle.st_print.specs.declared.rank.Rank.{Rank}
 use Rattle.st_print.specs.declared.rank.Rank.TheVariants.{Unary, Binary}
 use Rattle.st_print.specs.Words.{Word, name, keyword, operator, number, character, string, symbol, opening, mark, bar, wrapped, other_keywords}

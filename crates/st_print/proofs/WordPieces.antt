@@ -14,7 +14,7 @@ use Rattle.st_scan.specs.declared.token.Sort.TheVariants as sorts
 use Rattle.st_scan.specs.Pieces.{Piece, IsFormed, spelling, is_name, keywords_text, size, are_digits, is_allowed, greatest}
 use Rattle.st_scan.specs.Pieces as pieces
 use Rattle.st_scan.specs.Scans.{Context, after, sort_of}
-use Rattle.st_grammar.specs.Formed.{IsSelector}
+use Rattle.st_grammar.specs.inside.Formed.{IsSelector}
 use Rattle.st_print.specs.Words.{Word, name, keyword, operator, number, character, string, symbol, opening, mark, word_text}
 use Rattle.st_print.proofs.Going.{word_sort, WordFormed, after_word}
 

@@ -1,5 +1,3 @@
 pub mod Words
 pub mod Printed
-pub mod Chained
-pub mod Putting
-pub mod Printing
+pub mod inside

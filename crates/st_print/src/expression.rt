@@ -4,12 +4,12 @@ ghost use Rattle.std.specs.Prelude.{◌≡◌, ◌≤◌, ◌==◌, ◌++◌, no
 ghost use Rattle.std.specs.List.{prefix_len};
 ghost use Rattle.std.specs.Str.{byte};
 ghost use Rattle.st_scan.specs.Views.{names_view, expression_view, statements_view, messages_view};
-ghost use Rattle.st_scan.specs.Chains.{link_view, links_view};
+ghost use Rattle.st_scan.specs.inside.Chains.{link_view, links_view};
 ghost use Rattle.st_print.specs.Words.{first_keyword, other_keywords};
 ghost use Rattle.st_print.specs.Printed.{parameter_words, parameters_words, placed, statements_words};
 ghost use Rattle.st_print.specs.Printed.{next_statements, messages_words, next_messages};
-ghost use Rattle.st_print.specs.Chained.{before_link, behind_link, before_links, behind_links};
-ghost use Rattle.st_print.specs.Putting.{IsPut, block_words, statement_words, sent_words, keyword_parts};
+ghost use Rattle.st_print.specs.inside.Chained.{before_link, behind_link, before_links, behind_links};
+ghost use Rattle.st_print.specs.inside.Putting.{IsPut, block_words, statement_words, sent_words, keyword_parts};
 
 use crate::literal::literal;
 use crate::rank::{Rank, is_word, rank_of_link, wanted_by};

@@ -3,7 +3,7 @@
 ghost use Rattle.std.specs.Prelude.{◌≡◌, ◌++◌, OnOk};
 ghost use Rattle.st_scan.specs.Views.{array, content_view, elements_view};
 ghost use Rattle.st_print.specs.Printed.{content_words, elements_words};
-ghost use Rattle.st_print.specs.Putting.{IsPut};
+ghost use Rattle.st_print.specs.inside.Putting.{IsPut};
 
 use crate::words::{put, put_number, put_string, put_symbol};
 use st_scan::{Content, Element, Text};

@@ -3,11 +3,11 @@
 ghost use Rattle.std.specs.Prelude.{◌≡◌, ◌++◌, drop, OnOk, IfOk};
 ghost use Rattle.st_scan.specs.Views.{names_view, content_view, expression_view, statements_view};
 ghost use Rattle.st_scan.specs.Views.{method_view};
-ghost use Rattle.st_print.specs.Chained.{signed_content, signed_start};
+ghost use Rattle.st_print.specs.inside.Chained.{signed_content, signed_start};
 ghost use Rattle.st_print.specs.Printed.{pattern_words, keyword_pattern, names_words, temporaries_words};
 ghost use Rattle.st_print.specs.Printed.{primitive_words, expression_words, statements_words, first_signed};
 ghost use Rattle.st_print.specs.Printed.{printed};
-ghost use Rattle.st_print.specs.Putting.{IsPut, apart_words, rest_words};
+ghost use Rattle.st_print.specs.inside.Putting.{IsPut, apart_words, rest_words};
 
 use crate::expression::{before_links, split_keyword, statements};
 use crate::rank::{Rank, is_word};

@@ -2,10 +2,10 @@
 
 ghost use Rattle.std.specs.Prelude.{◌≡◌};
 ghost use Rattle.st_scan.specs.Views.{messages_view};
-ghost use Rattle.st_scan.specs.Chains.{link_view, links_view};
+ghost use Rattle.st_scan.specs.inside.Chains.{link_view, links_view};
 ghost use Rattle.st_print.specs.Printed.{is_loose, is_word, rank_of_messages, receiver_rank};
-ghost use Rattle.st_print.specs.Chained.{rank_of_link, inner_rank, wanted_by};
-ghost use Rattle.st_print.specs.Putting.{sent_rank};
+ghost use Rattle.st_print.specs.inside.Chained.{rank_of_link, inner_rank, wanted_by};
+ghost use Rattle.st_print.specs.inside.Putting.{sent_rank};
 
 use st_scan::{Expression, Link, Message};
 

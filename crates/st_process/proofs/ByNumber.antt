@@ -10,9 +10,9 @@ use Rattle.st_model.specs.Input as act
 use Rattle.st_model.specs.Table.{Table}
 use Rattle.st_model.specs.declared.device.Device.TheVariants.{Cursor, Display}
 use Rattle.st_process.specs.declared.shapes.Setting.TheVariants.{CursorLink, SampleInterval}
-use Rattle.st_process.specs.Devices.{set_device, be_device}
+use Rattle.st_process.specs.inside.Devices.{set_device, be_device}
 use Rattle.st_process.proofs.Settings.{link-set, interval-set}
-use Rattle.st_process.specs.Numbers.{process_takes, input_takes}
+use Rattle.st_process.specs.inside.Numbers.{process_takes, input_takes}
 use Rattle.st_frames.proofs.Numbered.{fails, none, taken}
 
 module _ (m : ObjectMemory Table) where

@@ -17,9 +17,9 @@ use Rattle.st_model.specs.Primitives.{succeed, primitive}
 use Rattle.st_model.specs.Deeds.{with_deed}
 use Rattle.st_model.specs.Input.{always, mouse_point, primitive_mouse_point, move_mouse, set_low_space}
 use Rattle.st_model.proofs.Runs.{run-change_world, run-passed, run-failed}
-use Rattle.st_frames.specs.Answering.{succeed_with}
+use Rattle.st_frames.specs.inside.Answering.{succeed_with}
 use Rattle.st_frames.proofs.Tries.{primitive-same}
-use Rattle.st_process.specs.Timing.{place_in, low_in}
+use Rattle.st_process.specs.inside.Timing.{place_in, low_in}
 use Rattle.st_process.specs.declared.shapes.Place.{Place}
 use Rattle.st_process.specs.declared.shapes.Low.{Low as CodeLow}
 

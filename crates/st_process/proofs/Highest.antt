@@ -9,7 +9,7 @@ use Rattle.st_model.specs.Machine.{ObjectMemory, State, Transition, Died, Went, 
 use Rattle.st_model.specs.Table.{Table}
 use Rattle.st_model.specs.Steps.{of_page, same_value, fetch_field, count_fields}
 use Rattle.st_model.specs.Processes.{ready_lists, go_on_with, highest_goes_on, suspend}
-use Rattle.st_process.specs.Scheduling.{is_empty, highest_list}
+use Rattle.st_process.specs.inside.Scheduling.{is_empty, highest_list}
 
 after_after : {S A B C : Type 0} (x : Transition S A) (f : A → S → Transition S B) (g : B → S → Transition S C) → after (after x f) g ≡ after x (λ a s. after (f a s) g)
 unfolding after

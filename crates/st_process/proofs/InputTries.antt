@@ -4,14 +4,14 @@ use Rattle.st_model.specs.declared.dead.Dead.{Dead}
 use Rattle.st_model.specs.declared.device.Device.{Device}
 use Rattle.st_model.specs.declared.device.Device.TheVariants as device
 use Rattle.st_process.specs.declared.shapes.Setting.{Setting}
-use Rattle.st_process.specs.Devices.{check_setting, set_device, be_device}
+use Rattle.st_process.specs.inside.Devices.{check_setting, set_device, be_device}
 use Rattle.st_model.specs.Values.{Value}
 use Rattle.st_model.specs.Machine.{ObjectMemory, State, Transition, Step, Died, Went, after, answer, ◌>>=◌, ◌>>◌}
 use Rattle.st_model.specs.Table.{Table}
 use Rattle.st_model.specs.Steps.{top, under}
 use Rattle.st_model.specs.Processes.{check_fields}
 use Rattle.st_model.specs.Input.{Place, place_in, move_mouse, primitive_move_mouse, hold_and_answer, primitive_input_semaphore, word_that_waits, take_word, primitive_input_word, check_four_bytes, store_seconds, primitive_second_clock, store_milliseconds, primitive_millisecond_clock, Timing, timing, set_timer, set_timer_and_answer, primitive_timer, Low, low_space, set_low_space, primitive_low_space}
-use Rattle.st_frames.specs.Answering.{succeed_by, succeed_with}
+use Rattle.st_frames.specs.inside.Answering.{succeed_by, succeed_with}
 use Rattle.st_frames.proofs.Tries.{primitive-done, primitive-same}
 
 -- an effect, and then its answer

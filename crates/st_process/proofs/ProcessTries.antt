@@ -11,7 +11,7 @@ use Rattle.st_model.specs.Machine.{ObjectMemory, State, Transition, Died, Went, 
 use Rattle.st_model.specs.Table.{Table, IsTabular}
 use Rattle.st_model.specs.Steps.{of_page, store_field, get_active, change_world, top}
 use Rattle.st_model.specs.Processes.{check_fields, signal_and_answer, primitive_signal, excess_of, take_excess, wait_and_answer, scheduler, scheduled_process, let_wait, leave_process, primitive_wait, resume_and_answer, primitive_resume, suspend, check_active, suspend_and_answer, primitive_suspend}
-use Rattle.st_frames.specs.Answering.{succeed_by, succeed_with}
+use Rattle.st_frames.specs.inside.Answering.{succeed_by, succeed_with}
 use Rattle.st_frames.proofs.Doing.{row-page}
 use Rattle.st_frames.proofs.Tries.{primitive-done}
 

@@ -13,9 +13,9 @@ use Rattle.st_model.specs.Steps.{found, object, object_named, check, fetch_kind,
 use Rattle.st_model.specs.Primitives.{number_of_bytes}
 use Rattle.st_model.specs.Input.{Timing, Rings, Waits, check_four_bytes, can_be_signalled, ring, ring_or_wait, timing}
 use Rattle.st_frames.specs.declared.registers.Registers.{Registers as Words}
-use Rattle.st_frames.specs.Rows.{row_state}
-use Rattle.st_frames.specs.Answering.{number_read}
-use Rattle.st_process.specs.Timing.{timing_by}
+use Rattle.st_frames.specs.inside.Rows.{row_state}
+use Rattle.st_frames.specs.inside.Answering.{number_read}
+use Rattle.st_process.specs.inside.Timing.{timing_by}
 
 module _ (m : ObjectMemory Table) where
   -- a look at an object that is there or not

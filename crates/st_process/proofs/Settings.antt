@@ -7,7 +7,7 @@ use Rattle.st_model.specs.Steps.{top, under}
 use Rattle.st_model.specs.Primitives.{primitive, succeed, bits_or_die}
 use Rattle.st_model.specs.Input.{check_truth, primitive_link_cursor, primitive_sample_interval}
 use Rattle.st_process.specs.declared.shapes.Setting.TheVariants.{CursorLink, SampleInterval}
-use Rattle.st_process.specs.Devices.{check_setting, set_device}
+use Rattle.st_process.specs.inside.Devices.{check_setting, set_device}
 
 module _ (m : ObjectMemory Table) where
   pub link-said : (a : Value) (s : State Table) → (check_setting m CursorLink a).run s ≡ (check_truth m a).run s

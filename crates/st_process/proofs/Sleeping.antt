@@ -5,12 +5,12 @@ use Rattle.st_model.specs.declared.dead.Dead.{Dead}
 use Rattle.st_model.specs.Values.{Value}
 use Rattle.st_model.specs.Machine.{ObjectMemory, State, Transition, Died, Went, Step, after, ◌>>=◌}
 use Rattle.st_model.specs.Table.{Table}
-use Rattle.st_model.specs.Calls.{Does}
+use Rattle.st_model.specs.inside.Calls.{Does}
 use Rattle.st_model.specs.Steps.{fetch_field, fetch_integer}
 use Rattle.st_model.specs.Processes.{list_number, ready_lists, add_last, sleep}
 use Rattle.st_memory.specs.declared.objects.Objects.{Ghosts}
 use Rattle.st_frames.specs.declared.registers.Registers.{Registers as Words}
-use Rattle.st_frames.specs.Rows.{state_of, RowDoes}
+use Rattle.st_frames.specs.inside.Rows.{state_of, RowDoes}
 
 does_died : {A B : Type 0} (step : Step Table A) (f : B → A) (s t : State Table) (x : Result B Dead) (k : Dead) → x ≡ Err k → step.run s ≡ Died k → Does step f s x t
 does_died step f s t x k e h = rw e h

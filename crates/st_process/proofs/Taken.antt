@@ -7,12 +7,12 @@ use Rattle.st_model.specs.declared.tried.Tried.TheVariants.{Done, Failed}
 use Rattle.st_model.specs.Values.{Value}
 use Rattle.st_model.specs.Machine.{ObjectMemory, State, Transition, Died, Went, Step, answer, after, ◌>>=◌, ◌>>◌}
 use Rattle.st_model.specs.Table.{Table}
-use Rattle.st_model.specs.Calls.{Does}
+use Rattle.st_model.specs.inside.Calls.{Does}
 use Rattle.st_model.specs.Deeds.{is_done}
 use Rattle.st_model.specs.Primitives.{answer_with}
 use Rattle.st_memory.specs.declared.objects.Objects.{Ghosts}
-use Rattle.st_frames.specs.Answering.{succeed_by, succeed_with}
-use Rattle.st_frames.specs.Rows.{Takes, tried_changes}
+use Rattle.st_frames.specs.inside.Answering.{succeed_by, succeed_with}
+use Rattle.st_frames.specs.inside.Rows.{Takes, tried_changes}
 
 answered : (x : Transition (State Table) (Unit {0})) (t : State Table) (b : Bool) → after x (λ u w. Went true w) ≡ Went b t → b ≡ true
 unfolding after

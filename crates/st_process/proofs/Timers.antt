@@ -17,7 +17,7 @@ use Rattle.st_model.specs.Deeds.{with_deed}
 use Rattle.st_model.specs.Input.{Rings, Waits, LetsGo, signal_once, set_timer}
 use Rattle.st_model.proofs.Runs.{run-change_world}
 use Rattle.st_frames.proofs.Doing.{row-page}
-use Rattle.st_process.specs.Timing.{wait_for}
+use Rattle.st_process.specs.inside.Timing.{wait_for}
 use Rattle.st_process.proofs.Changing.{one-there, of_table, change-gone}
 
 module _ (m : ObjectMemory Table) (tabular : IsTabular m) (t : Table) (s : State Table) (same : s.memory ≡ t) (v : Word) where

@@ -7,7 +7,7 @@ use Rattle.st_model.specs.Machine.{Head, Went}
 use Rattle.st_model.specs.Table.{Table}
 use Rattle.st_model.specs.Steps.{get_device, count_signals, oldest_word, get_mouse_x, get_mouse_y, get_second_clock, get_millisecond_clock}
 use Rattle.st_frames.specs.declared.registers.Registers.{Registers as Words}
-use Rattle.st_frames.specs.Rows.{row_state}
+use Rattle.st_frames.specs.inside.Rows.{row_state}
 
 module _ (t : Table) (a : Head) (r : Words) where
   pub row-device : (d : Device) → (get_device d).run (row_state t a r) ≡ Went (held_by r.world.now.devices d) (row_state t a r)

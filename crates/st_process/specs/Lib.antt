@@ -1,4 +1,1 @@
-pub mod Devices
-pub mod Numbers
-pub mod Scheduling
-pub mod Timing
+pub mod inside

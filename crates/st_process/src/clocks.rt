@@ -1,10 +1,10 @@
 ghost use Rattle.std.specs.Prelude.{◌≡◌, ◌≤◌, ◌+◌, false, IfOk};
 ghost use Rattle.st_model.specs.Values.{word};
 ghost use Rattle.st_model.specs.Input.{check_four_bytes, store_time, store_seconds, primitive_second_clock, store_milliseconds, primitive_millisecond_clock};
-ghost use Rattle.st_model.specs.Calls.{itself};
+ghost use Rattle.st_model.specs.inside.Calls.{itself};
 ghost use Rattle.st_model.specs.Deeds.{is_done, deed_of_trial, copies_pixels};
-ghost use Rattle.st_frames.specs.Answering.{succeed_by, answer_word, answer_deed};
-ghost use Rattle.st_frames.specs.Rows.{RowReads, RowLeaves, Takes};
+ghost use Rattle.st_frames.specs.inside.Answering.{succeed_by, answer_word, answer_deed};
+ghost use Rattle.st_frames.specs.inside.Rows.{RowReads, RowLeaves, Takes};
 
 use st_frames::{Answer, Registers, check_bytes, find_bytes, succeed_leaving, top, under};
 use st_memory::Objects;
@@ -44,7 +44,7 @@ fn store_time<O: Objects>(
 }
 
 /// Stores the second clock, and answers the receiver.
-#[tactic(auto, using(st_frames::proofs::Doing::rows, crate::proofs::Worlds::worlds), unfolding(st_frames::specs::Answering::succeed_by, st_model::specs::Input::store_seconds))]
+#[tactic(auto, using(st_frames::proofs::Doing::rows, crate::proofs::Worlds::worlds), unfolding(st_frames::specs::inside::Answering::succeed_by, st_model::specs::Input::store_seconds))]
 fn answer_seconds<O: Objects>(
     m: &mut O,
     r: &mut Registers,
@@ -78,7 +78,7 @@ pub fn primitive_second_clock<O: Objects>(m: &mut O, r: &mut Registers) -> Resul
 }
 
 /// Stores the millisecond clock, and answers the receiver.
-#[tactic(auto, using(st_frames::proofs::Doing::rows, crate::proofs::Worlds::worlds), unfolding(st_frames::specs::Answering::succeed_by, st_model::specs::Input::store_milliseconds))]
+#[tactic(auto, using(st_frames::proofs::Doing::rows, crate::proofs::Worlds::worlds), unfolding(st_frames::specs::inside::Answering::succeed_by, st_model::specs::Input::store_milliseconds))]
 fn answer_milliseconds<O: Objects>(
     m: &mut O,
     r: &mut Registers,

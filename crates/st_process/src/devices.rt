@@ -1,11 +1,11 @@
 ghost use Rattle.std.specs.Prelude.{◌≡◌, ◌<◌, ◌≤◌, ◌+◌, IfOk, false};
 ghost use Rattle.st_model.specs.Values.{word};
 ghost use Rattle.st_model.specs.Input.{check_truth, hold_and_answer, primitive_input_semaphore, word_that_waits, take_word, primitive_input_word};
-ghost use Rattle.st_model.specs.Calls.{itself};
+ghost use Rattle.st_model.specs.inside.Calls.{itself};
 ghost use Rattle.st_model.specs.Deeds.{is_done, deed_of_trial, copies_pixels};
-ghost use Rattle.st_process.specs.Devices.{check_setting, set_device, be_device};
-ghost use Rattle.st_frames.specs.Answering.{succeed_by, answer_word, answer_deed};
-ghost use Rattle.st_frames.specs.Rows.{RowReads, RowLeaves, Takes};
+ghost use Rattle.st_process.specs.inside.Devices.{check_setting, set_device, be_device};
+ghost use Rattle.st_frames.specs.inside.Answering.{succeed_by, answer_word, answer_deed};
+ghost use Rattle.st_frames.specs.inside.Rows.{RowReads, RowLeaves, Takes};
 
 use crate::holding::hold;
 use crate::processes::check_fields;
@@ -46,7 +46,7 @@ fn check_setting<O: Objects>(m: &O, r: &Registers, setting: Setting, v: Word) ->
 }
 
 /// Primitives 92 and 94: the argument sets what nothing is seen of.
-#[tactic(auto, using(st_frames::proofs::Tries::tries, crate::proofs::Changing::same), unfolding(crate::specs::Devices::set_device))]
+#[tactic(auto, using(st_frames::proofs::Tries::tries, crate::proofs::Changing::same), unfolding(crate::specs::inside::Devices::set_device))]
 pub fn set_device<O: Objects>(m: &mut O, r: &mut Registers, setting: Setting) -> Result<Tried, Dead>
     requires room { 1 ≤ O.room m.old }
     ensures does { RowLeaves O.Objects.own (set_device O.names setting)
@@ -62,7 +62,7 @@ pub fn set_device<O: Objects>(m: &mut O, r: &mut Registers, setting: Setting) ->
 }
 
 /// A device holds an object from now on, and n arguments and the receiver are answered by the receiver.
-#[tactic(auto, using(st_frames::proofs::Doing::rows), unfolding(st_frames::specs::Answering::succeed_by, st_model::specs::Input::hold_and_answer))]
+#[tactic(auto, using(st_frames::proofs::Doing::rows), unfolding(st_frames::specs::inside::Answering::succeed_by, st_model::specs::Input::hold_and_answer))]
 fn answer_held<O: Objects>(
     m: &mut O,
     r: &mut Registers,
@@ -130,7 +130,7 @@ fn take_word<O: Objects>(m: &mut O, r: &Registers, oldest: u16) -> Result<Answer
 }
 
 /// Takes the oldest input word and answers its number.
-#[tactic(auto, using(st_frames::proofs::Doing::rows), unfolding(st_frames::specs::Answering::succeed_by))]
+#[tactic(auto, using(st_frames::proofs::Doing::rows), unfolding(st_frames::specs::inside::Answering::succeed_by))]
 fn answer_word_taken<O: Objects>(m: &mut O, r: &mut Registers, oldest: u16) -> Result<Tried, Dead>
     requires room { 2 ≤ O.room m.old }
     ensures does { RowLeaves O.Objects.own (succeed_by O.names 0 (take_word O.names oldest))
@@ -156,7 +156,7 @@ pub fn primitive_input_word<O: Objects>(m: &mut O, r: &mut Registers) -> Result<
 }
 
 /// Primitives 101 and 102: the receiver is what this device shows.
-#[tactic(auto, using(st_frames::proofs::Tries::effects), unfolding(crate::specs::Devices::be_device))]
+#[tactic(auto, using(st_frames::proofs::Tries::effects), unfolding(crate::specs::inside::Devices::be_device))]
 pub fn be_device<O: Objects>(m: &mut O, r: &mut Registers, device: Device) -> Result<Tried, Dead>
     requires room { 1 ≤ O.room m.old }
     ensures does { RowLeaves O.Objects.own (be_device O.names device)

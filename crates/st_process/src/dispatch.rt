@@ -2,8 +2,8 @@ ghost use Rattle.std.specs.Prelude.{◌≡◌, ◌≤◌, ◌+◌, false, IfOk};
 ghost use Rattle.st_model.specs.Processes.{processes};
 ghost use Rattle.st_model.specs.Input.{input};
 ghost use Rattle.st_model.specs.Deeds.{is_done, deed_of_trial};
-ghost use Rattle.st_process.specs.Numbers.{process_takes, input_takes};
-ghost use Rattle.st_frames.specs.Rows.{RowLeaves, Takes, tried_changes, process_changes};
+ghost use Rattle.st_process.specs.inside.Numbers.{process_takes, input_takes};
+ghost use Rattle.st_frames.specs.inside.Rows.{RowLeaves, Takes, tried_changes, process_changes};
 
 use crate::clocks::{primitive_millisecond_clock, primitive_second_clock};
 use crate::devices::{be_device, primitive_input_semaphore, primitive_input_word, set_device};

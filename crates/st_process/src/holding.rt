@@ -3,9 +3,9 @@ ghost use Rattle.std.specs.Prelude.{◌≡◌, false, IfOk};
 ghost use Rattle.st_model.specs.Values.{word};
 ghost use Rattle.st_model.specs.Surroundings.{Hold};
 ghost use Rattle.st_model.specs.Steps.{change_world};
-ghost use Rattle.st_model.specs.Calls.{itself};
-ghost use Rattle.st_frames.specs.Answering.{no_word};
-ghost use Rattle.st_frames.specs.Rows.{RowLeaves};
+ghost use Rattle.st_model.specs.inside.Calls.{itself};
+ghost use Rattle.st_frames.specs.inside.Answering.{no_word};
+ghost use Rattle.st_frames.specs.inside.Rows.{RowLeaves};
 
 use st_frames::Registers;
 use st_memory::Objects;

@@ -4,9 +4,9 @@ ghost use Rattle.st_model.specs.Objects.{place_of};
 ghost use Rattle.st_model.specs.declared.page.PageObject.TheVariants.{NilObject};
 ghost use Rattle.st_model.specs.Steps.{same_value};
 ghost use Rattle.st_model.specs.Processes.{link_first, add_last, unlink_first, take_first};
-ghost use Rattle.st_model.specs.Calls.{Reads, itself};
-ghost use Rattle.st_process.specs.Scheduling.{is_empty};
-ghost use Rattle.st_frames.specs.Rows.{RowDoes, Takes};
+ghost use Rattle.st_model.specs.inside.Calls.{Reads, itself};
+ghost use Rattle.st_process.specs.inside.Scheduling.{is_empty};
+ghost use Rattle.st_frames.specs.inside.Rows.{RowDoes, Takes};
 
 use crate::shapes::Listed;
 use st_frames::{Registers, page};
@@ -14,7 +14,7 @@ use st_memory::Objects;
 use st_model::{Dead, PageObject, Word};
 
 /// Whether a list has no process.
-#[tactic(auto, using(st_model::proofs::Runs::runs), unfolding(crate::specs::Scheduling::is_empty))]
+#[tactic(auto, using(st_model::proofs::Runs::runs), unfolding(crate::specs::inside::Scheduling::is_empty))]
 pub fn is_empty<O: Objects>(m: &O, list: Word) -> Result<bool, Dead>
     ensures { Reads (is_empty O.names (word list)) itself (O.table m.now) result }
 {

@@ -2,9 +2,9 @@ ghost use Rattle.std.specs.Prelude.{◌≡◌, ◌≤◌, ◌+◌, false, IfOk};
 ghost use Rattle.st_model.specs.Values.{word};
 ghost use Rattle.st_model.specs.Input.{low_space, set_low_space, primitive_low_space};
 ghost use Rattle.st_model.specs.Deeds.{is_done, deed_of_trial, copies_pixels};
-ghost use Rattle.st_process.specs.Timing.{low_in};
-ghost use Rattle.st_frames.specs.Answering.{answer_word, answer_deed};
-ghost use Rattle.st_frames.specs.Rows.{RowReads, RowLeaves, Takes};
+ghost use Rattle.st_process.specs.inside.Timing.{low_in};
+ghost use Rattle.st_frames.specs.inside.Answering.{answer_word, answer_deed};
+ghost use Rattle.st_frames.specs.inside.Rows.{RowReads, RowLeaves, Takes};
 
 use crate::processes::check_fields;
 use crate::shapes::Low;

@@ -3,9 +3,9 @@ ghost use Rattle.st_model.specs.Values.{word};
 ghost use Rattle.st_model.specs.Arithmetic.{new_point};
 ghost use Rattle.st_model.specs.Input.{mouse_point, primitive_mouse_point, place_in, move_mouse, primitive_move_mouse};
 ghost use Rattle.st_model.specs.Deeds.{is_done, deed_of_trial};
-ghost use Rattle.st_process.specs.Timing as meaning;
-ghost use Rattle.st_frames.specs.Answering.{succeed_by};
-ghost use Rattle.st_frames.specs.Rows.{RowReads, RowDoes, RowLeaves, Takes};
+ghost use Rattle.st_process.specs.inside.Timing as meaning;
+ghost use Rattle.st_frames.specs.inside.Answering.{succeed_by};
+ghost use Rattle.st_frames.specs.inside.Rows.{RowReads, RowDoes, RowLeaves, Takes};
 
 use crate::shapes::Place;
 use st_frames::{
@@ -69,7 +69,7 @@ fn place_in<O: Objects>(m: &O, r: &Registers, a: Word) -> Result<Place, Dead>
 }
 
 /// Moves the mouse, and answers the receiver.
-#[tactic(auto, using(st_frames::proofs::Doing::rows, crate::proofs::Changing::mice), unfolding(st_frames::specs::Answering::succeed_by))]
+#[tactic(auto, using(st_frames::proofs::Doing::rows, crate::proofs::Changing::mice), unfolding(st_frames::specs::inside::Answering::succeed_by))]
 fn answer_move<O: Objects>(
     m: &mut O,
     r: &mut Registers,

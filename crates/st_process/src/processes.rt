@@ -1,10 +1,10 @@
 ghost use Rattle.std.specs.Prelude.{◌≡◌, ◌≤◌, ◌+◌, ◌≤ℤ◌, pos, negsuc, true, false, IfOk};
 ghost use Rattle.st_model.specs.Values.{word};
 ghost use Rattle.st_model.specs.Processes.{check_fields, signal_and_answer, primitive_signal, excess_of, wait_and_answer, primitive_wait, resume_and_answer, primitive_resume, check_active, suspend_and_answer, primitive_suspend};
-ghost use Rattle.st_model.specs.Calls.{itself};
+ghost use Rattle.st_model.specs.inside.Calls.{itself};
 ghost use Rattle.st_model.specs.Deeds.{is_done, deed_of_trial};
-ghost use Rattle.st_frames.specs.Answering.{succeed_by};
-ghost use Rattle.st_frames.specs.Rows.{RowReads, RowLeaves, Takes, tried_changes, process_changes};
+ghost use Rattle.st_frames.specs.inside.Answering.{succeed_by};
+ghost use Rattle.st_frames.specs.inside.Rows.{RowReads, RowLeaves, Takes, tried_changes, process_changes};
 
 use crate::ready::{resume, suspend};
 use crate::scheduler::active_process;
@@ -26,7 +26,7 @@ pub fn check_fields<O: Objects>(m: &O, r: &Registers, v: Word, n: u32) -> Result
 }
 
 /// Signals a semaphore and answers it.
-#[tactic(auto, using(st_frames::proofs::Doing::rows), unfolding(st_frames::specs::Answering::succeed_by, st_model::specs::Processes::signal_and_answer))]
+#[tactic(auto, using(st_frames::proofs::Doing::rows), unfolding(st_frames::specs::inside::Answering::succeed_by, st_model::specs::Processes::signal_and_answer))]
 fn answer_signal<O: Objects>(m: &mut O, r: &mut Registers, semaphore: Word) -> Result<Tried, Dead>
     requires room { 7 ≤ O.room m.old }
     ensures does { RowLeaves O.Objects.own
@@ -68,7 +68,7 @@ fn excess_of<O: Objects>(m: &O, r: &Registers, semaphore: Word) -> Result<i32, D
 }
 
 /// Takes a signal in excess, or has the active process wait, and answers the semaphore.
-#[tactic(auto, using(st_frames::proofs::Doing::rows, st_frames::proofs::Leaves::left), unfolding(st_frames::specs::Answering::succeed_by, st_model::specs::Processes::wait_and_answer))]
+#[tactic(auto, using(st_frames::proofs::Doing::rows, st_frames::proofs::Leaves::left), unfolding(st_frames::specs::inside::Answering::succeed_by, st_model::specs::Processes::wait_and_answer))]
 fn answer_wait<O: Objects>(
     m: &mut O,
     r: &mut Registers,
@@ -105,7 +105,7 @@ pub fn primitive_wait<O: Objects>(m: &mut O, r: &mut Registers) -> Result<Tried,
 }
 
 /// Resumes a process and answers it.
-#[tactic(auto, using(st_frames::proofs::Doing::rows), unfolding(st_frames::specs::Answering::succeed_by, st_model::specs::Processes::resume_and_answer))]
+#[tactic(auto, using(st_frames::proofs::Doing::rows), unfolding(st_frames::specs::inside::Answering::succeed_by, st_model::specs::Processes::resume_and_answer))]
 fn answer_resume<O: Objects>(m: &mut O, r: &mut Registers, process: Word) -> Result<Tried, Dead>
     requires room { 4 ≤ O.room m.old }
     ensures does { RowLeaves O.Objects.own
@@ -149,7 +149,7 @@ fn check_active<O: Objects>(m: &O, r: &Registers, v: Word) -> Result<(), Dead>
 }
 
 /// Suspends the active process and answers nil.
-#[tactic(auto, using(st_frames::proofs::Doing::rows, st_frames::proofs::Doing::pages), unfolding(st_frames::specs::Answering::succeed_by, st_model::specs::Processes::suspend_and_answer))]
+#[tactic(auto, using(st_frames::proofs::Doing::rows, st_frames::proofs::Doing::pages), unfolding(st_frames::specs::inside::Answering::succeed_by, st_model::specs::Processes::suspend_and_answer))]
 fn answer_suspend<O: Objects>(m: &mut O, r: &mut Registers) -> Result<Tried, Dead>
     requires room { 4 ≤ O.room m.old }
     ensures does { RowLeaves O.Objects.own (succeed_by O.names 0 (suspend_and_answer O.names))

@@ -4,10 +4,10 @@ ghost use Rattle.st_model.specs.Values.{word};
 ghost use Rattle.st_model.specs.Machine.{State};
 ghost use Rattle.st_model.specs.Table.{Table};
 ghost use Rattle.st_model.specs.Processes.{list_number, sleep, resume, go_on_with, suspend};
-ghost use Rattle.st_model.specs.Calls.{Does, Reads, itself};
-ghost use Rattle.st_process.specs.Scheduling.{highest_list};
-ghost use Rattle.st_frames.specs.Answering.{no_word};
-ghost use Rattle.st_frames.specs.Rows.{RowDoes, RowLeaves, Takes};
+ghost use Rattle.st_model.specs.inside.Calls.{Does, Reads, itself};
+ghost use Rattle.st_process.specs.inside.Scheduling.{highest_list};
+ghost use Rattle.st_frames.specs.inside.Answering.{no_word};
+ghost use Rattle.st_frames.specs.inside.Rows.{RowDoes, RowLeaves, Takes};
 
 use crate::holding::hold;
 use crate::lists::{add_last, is_empty, take_first};

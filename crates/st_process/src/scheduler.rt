@@ -1,8 +1,8 @@
 ghost use Rattle.std.specs.Prelude.{◌≡◌};
 ghost use Rattle.st_model.specs.Values.{word};
 ghost use Rattle.st_model.specs.Processes.{scheduler, scheduled_process, active_process, ready_lists};
-ghost use Rattle.st_model.specs.Calls.{Reads};
-ghost use Rattle.st_frames.specs.Rows.{RowReads};
+ghost use Rattle.st_model.specs.inside.Calls.{Reads};
+ghost use Rattle.st_frames.specs.inside.Rows.{RowReads};
 
 use st_frames::{Registers, page};
 use st_memory::Objects;

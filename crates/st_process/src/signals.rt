@@ -2,9 +2,9 @@ ghost use Rattle.st_model.specs.Deeds.{copies_pixels};
 ghost use Rattle.std.specs.Prelude.{◌≡◌, ◌≤◌, ◌+◌, ◌≤ℤ◌, pos, false, IfOk};
 ghost use Rattle.st_model.specs.Values.{word};
 ghost use Rattle.st_model.specs.Processes.{add_excess, signal, wait_in, take_excess};
-ghost use Rattle.st_model.specs.Calls.{itself};
-ghost use Rattle.st_frames.specs.Answering.{no_word};
-ghost use Rattle.st_frames.specs.Rows.{RowDoes, RowLeaves, Takes};
+ghost use Rattle.st_model.specs.inside.Calls.{itself};
+ghost use Rattle.st_frames.specs.inside.Answering.{no_word};
+ghost use Rattle.st_frames.specs.inside.Rows.{RowDoes, RowLeaves, Takes};
 
 use crate::lists::{add_last, take_first};
 use crate::ready::{resume, suspend};

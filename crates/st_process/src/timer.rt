@@ -2,11 +2,11 @@ ghost use Rattle.std.specs.Prelude.{◌≡◌, ◌<◌, ◌≤◌, ◌+◌, leng
 ghost use Rattle.st_model.specs.Values.{word};
 ghost use Rattle.st_model.specs.Input.{can_be_signalled, ring_or_wait, timing, signal_once, set_timer, primitive_timer};
 ghost use Rattle.st_model.specs.declared.device.Device.TheVariants.{Timer};
-ghost use Rattle.st_model.specs.Calls.{Reads, itself};
+ghost use Rattle.st_model.specs.inside.Calls.{Reads, itself};
 ghost use Rattle.st_model.specs.Deeds.{is_done, deed_of_trial, copies_pixels};
-ghost use Rattle.st_process.specs.Timing.{timing_in, timing_by, wait_for, HasRoom};
-ghost use Rattle.st_frames.specs.Answering.{no_word};
-ghost use Rattle.st_frames.specs.Rows.{RowReads, RowLeaves, Takes};
+ghost use Rattle.st_process.specs.inside.Timing.{timing_in, timing_by, wait_for, HasRoom};
+ghost use Rattle.st_frames.specs.inside.Answering.{no_word};
+ghost use Rattle.st_frames.specs.inside.Rows.{RowReads, RowLeaves, Takes};
 
 use crate::clocks::check_four_bytes;
 use crate::holding::hold;
@@ -45,7 +45,7 @@ fn ring_or_wait<O: Objects>(m: &O, r: &Registers, time: u32) -> Result<Timing, D
 }
 
 /// What is done to the timer, by the time that was read.
-#[tactic(auto, using(st_frames::proofs::Doing::rows), unfolding(crate::specs::Timing::timing_by))]
+#[tactic(auto, using(st_frames::proofs::Doing::rows), unfolding(crate::specs::inside::Timing::timing_by))]
 fn timing_by<O: Objects>(m: &O, r: &Registers, semaphore: Word, time: u32) -> Result<Timing, Dead>
     ensures does { RowReads O.Objects.own (timing_by O.names (word semaphore) time)
         timing_in m.now r.now result }

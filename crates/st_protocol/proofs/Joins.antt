@@ -4,7 +4,7 @@ use Rattle.std.specs.Prelude.{Result, Ok, Err, IsErrOf}
 use Rattle.st_host.specs.Files.{Files}
 use Rattle.st_host.specs.Stops.{SaidPart, WhileSaying}
 use Rattle.st_host.specs.Runs.{LeavesOnly, SaysAll, Spares, IsAtRest, Makes}
-use Rattle.st_host.specs.Telling.{Says}
+use Rattle.st_host.specs.inside.Telling.{Says}
 use Rattle.st_host.specs.declared.host.Host.{Ghosts}
 use Rattle.st_host.proofs.Joining.{weaker, moments_join, all_join}
 use Rattle.st_host.proofs.Rising.{rose_second}
@@ -16,7 +16,7 @@ use Rattle.st_protocol.specs.declared.status.Status.TheVariants as status
 use Rattle.st_protocol.specs.Courses.{Deed, Reply, Keep, Course, Goes, Ends, deeds_of, said_of, commits_of, last_of, preceded, and_then, replies}
 use Rattle.st_protocol.specs.Underway.{Underway}
 use Rattle.st_protocol.specs.Done.{SaysFirst, EndsBetween, RestsBetween, RestsWithin, Rests, Did, Began}
-use Rattle.st_protocol.specs.Obeying.{Obeys}
+use Rattle.st_protocol.specs.inside.Obeying.{Obeys}
 use Rattle.st_protocol.specs.Statuses.{IsFault, StatusHasCause, EndHasCause, Counts}
 use Rattle.st_protocol.proofs.Courses.{said_of_both, last_of_both, last_unkept}
 use Rattle.st_protocol.proofs.Underways.{nothing_of, part_more, part_after, part_all, starts, more, behind, while_said}

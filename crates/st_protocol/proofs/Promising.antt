@@ -12,7 +12,7 @@ use Rattle.st_protocol.specs.declared.status.Status.TheVariants as status
 use Rattle.st_protocol.specs.Acknowledged.{acknowledged, acknowledged_from, rest_from, SaysLines, AcknowledgesEach, Promised}
 use Rattle.st_protocol.specs.Courses.{Deed, Reply, Keep, Course, Goes, Ends, deeds_of, said_of, commits_of, last_of}
 use Rattle.st_protocol.specs.Done.{SaysFirst, EndsBetween, RestsBetween, Rests, RestsAsOne}
-use Rattle.st_protocol.specs.Obeying.{Obeys}
+use Rattle.st_protocol.specs.inside.Obeying.{Obeys}
 use Rattle.st_protocol.specs.Underway.{Underway}
 use Rattle.st_protocol.proofs.Counting.{acknowledged_both, front_of, front_acknowledges_from, promised, first_whole}
 use Rattle.st_protocol.proofs.Joins.{between_first, first_all, rests_between, obeys_moments}

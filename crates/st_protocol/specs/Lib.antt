@@ -1,8 +1,7 @@
 pub mod Acknowledged
 pub mod Courses
 pub mod Done
-pub mod Obeying
 pub mod Statuses
 pub mod Underway
 pub mod Installing
-pub mod Installations
+pub mod inside

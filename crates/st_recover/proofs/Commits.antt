@@ -10,9 +10,9 @@ use Rattle.st_chunk.specs.Definitions.{Definition, IsDefinition, entry, entries}
 use Rattle.st_store.specs.Stored.{Opens}
 use Rattle.st_store.specs.Faults.{RestsUnlessGate}
 use Rattle.st_store.proofs.Turning.{rests}
-use Rattle.st_changes.specs.States.{grown, next_store}
+use Rattle.st_changes.specs.inside.States.{grown, next_store}
 use Rattle.st_changes.proofs.ListTexts.{entries_more}
-use Rattle.st_recover.specs.Archives.{ArchiveState, Holds, store_of}
+use Rattle.st_recover.specs.inside.Archives.{ArchiveState, Holds, store_of}
 use Rattle.st_recover.specs.Images.{IsReadable}
 use Rattle.st_recover.specs.Commits.{Commit, OpensAs, all_of, accepted, imaged, root_of, stored_of, other_image}
 

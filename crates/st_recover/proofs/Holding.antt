@@ -11,9 +11,9 @@ use Rattle.st_store.specs.Stored.{StoreState, Stored, Opens, IsFirm, IsKept}
 use Rattle.st_store.specs.Faults.{RestsUnlessGate}
 use Rattle.st_store.specs.declared.root.Root.{Root}
 use Rattle.st_store.proofs.Settling.{kept_rest}
-use Rattle.st_changes.specs.States.{grown, next_store}
+use Rattle.st_changes.specs.inside.States.{grown, next_store}
 use Rattle.st_changes.proofs.ListTexts.{entries_more, all_more}
-use Rattle.st_recover.specs.Archives.{ArchiveState, IsStoreOf, store_of, Holds}
+use Rattle.st_recover.specs.inside.Archives.{ArchiveState, IsStoreOf, store_of, Holds}
 use Rattle.st_recover.specs.Images.{IsReadable}
 use Rattle.st_recover.specs.Commits.{Commit, OpensAs, all_of, accepted, imaged, root_of, stored_of, other_image}
 use Rattle.st_recover.proofs.Commits.{all_accepted, grown_accepted, next_accepted, root_imaged, makes_commit, held_openable, broken_commit}

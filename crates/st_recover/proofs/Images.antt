@@ -4,7 +4,7 @@ use Rattle.st_model.specs.Limits.{longest_image}
 use Rattle.st_model.specs.View.{View, IsWhole}
 use Rattle.st_writer.specs.Written.{image_of}
 use Rattle.st_writer.proofs.Rows.{image_small}
-use Rattle.st_image.specs.Back.{CanStart}
+use Rattle.st_image.specs.inside.Back.{CanStart}
 use Rattle.st_image.proofs.Back.{formed}
 use Rattle.st_recover.specs.Images.{IsReadable}
 use Rattle.st_recover.specs.Commits.{image_with}

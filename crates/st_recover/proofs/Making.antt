@@ -16,7 +16,7 @@ use Rattle.st_store.specs.Founding.{OpensMaybe, IsCleared, first_root, first_sto
 use Rattle.st_store.specs.Faults.{RestsUnlessLetters}
 use Rattle.st_store.proofs.Founding.{empty_none}
 use Rattle.st_store.proofs.Others.{image_roots, image_changes}
-use Rattle.st_recover.specs.Archives.{store_of}
+use Rattle.st_recover.specs.inside.Archives.{store_of}
 use Rattle.st_recover.specs.Images.{IsReadable}
 use Rattle.st_recover.specs.Commits.{stored_of}
 use Rattle.st_recover.specs.Creating.{first_commit, IsMade, IsNoFirstFile, AreFirstFiles}

@@ -8,11 +8,11 @@ use Rattle.st_host.specs.declared.host.Host.{Ghosts}
 use Rattle.st_host.proofs.Telling.{OnlyNow}
 use Rattle.st_chunk.specs.Definitions.{Definition, entry, entries}
 use Rattle.st_store.specs.Faults.{RestsUnlessGate}
-use Rattle.st_protocol.specs.Obeying.{Obeys}
+use Rattle.st_protocol.specs.inside.Obeying.{Obeys}
 use Rattle.st_protocol.specs.declared.status.Status.{Status}
 use Rattle.st_protocol.specs.declared.status.Status.TheVariants.{DiskFault, TooLarge, OutOfMemory}
 use Rattle.st_protocol.proofs.Joins.{makes_did, makes_began, obeys_end, obeys_fault}
-use Rattle.st_changes.specs.States.{FitsBehind}
+use Rattle.st_changes.specs.inside.States.{FitsBehind}
 use Rattle.st_recover.specs.Commits.{Commit, all_of, accepted, accepted_if, accepting, fits}
 
 -- what the list of a commit's definitions tells of one definition more

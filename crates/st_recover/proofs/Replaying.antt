@@ -7,16 +7,17 @@ use Rattle.st_model.specs.Table.{Table}
 use Rattle.st_model.specs.Show.{Shows}
 use Rattle.st_model.specs.View.{View}
 use Rattle.st_frames.specs.declared.frame.Frame.{Frame}
-use Rattle.st_frames.specs.Shown.{IsReady, shown}
+use Rattle.st_frames.specs.inside.Shown.{IsReady, shown}
 use Rattle.st_chunk.specs.Definitions.{Definition, entries}
 use Rattle.st_protocol.specs.Installing.{Install, Installed, Refused, Accepted}
-use Rattle.st_protocol.specs.Installations.{InstallsAs, Unchanged}
+use Rattle.st_protocol.specs.inside.Installations.{InstallsAs, Unchanged}
 use Rattle.st_protocol.specs.declared.installation.Installation.{Installation}
 use Rattle.st_protocol.specs.declared.installation.Installation.TheVariants as installation
 use Rattle.st_protocol.specs.declared.refusal.Refusal.{Refusal}
 use Rattle.st_recover.specs.declared.opened.Lost.{Lost}
 use Rattle.st_recover.specs.declared.replay.Replay.{Replay}
-use Rattle.st_recover.specs.Replays.{Loss, Replayed, replay, replay_one, loss_of, losses_of, ReplaysAs, ReplaysFrom, Notes}
+use Rattle.st_recover.specs.Replays.{Loss, Replayed, replay, replay_one}
+use Rattle.st_recover.specs.inside.Replayings.{loss_of, losses_of, ReplaysAs, ReplaysFrom, Notes}
 
 -- what is answered so far, and then this
 abbrev pub behind : Replay → Replayed → Replayed

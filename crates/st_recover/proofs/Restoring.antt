@@ -8,17 +8,19 @@ use Rattle.st_model.specs.Objects.{nil}
 use Rattle.st_model.specs.Machine.{empty_world}
 use Rattle.st_model.specs.Image.{image_head}
 use Rattle.st_model.specs.View.{View, no_devices}
-use Rattle.st_frames.specs.Shown.{IsFrame, IsReady, filled}
+use Rattle.st_frames.specs.inside.Shown.{IsFrame, IsReady, filled}
 use Rattle.st_frames.specs.declared.frame.Frame.{Frame}
-use Rattle.st_image.specs.Reading.{IsStart}
+use Rattle.st_image.specs.inside.Reading.{IsStart}
 use Rattle.st_chunk.specs.Definitions.{Definition, IsDefinition, entries}
 use Rattle.st_store.specs.Names.{image_file}
 use Rattle.st_store.specs.Stored.{Stored, Opens, IsKept, stored_in}
 use Rattle.st_changes.specs.Lists.{Lists}
 use Rattle.st_protocol.specs.Installing.{Install}
 use Rattle.st_recover.specs.Commits.{Commit, stored_of}
-use Rattle.st_recover.specs.Replays.{replay, ReplaysFrom}
-use Rattle.st_recover.specs.Openings.{IsReadable, IsReopenedAs}
+use Rattle.st_recover.specs.Replays.{replay}
+use Rattle.st_recover.specs.inside.Replayings.{ReplaysFrom}
+use Rattle.st_recover.specs.Openings.{IsReadable}
+use Rattle.st_recover.specs.inside.Reopened.{IsReopenedAs}
 use Rattle.st_recover.specs.declared.opened.Opened.{Opened}
 
 -- a memory that holds nothing but the registers is ready with an empty world

@@ -5,11 +5,11 @@ use Rattle.std.proofs.Math.ListN.{length-map}
 use Rattle.std.proofs.lemmas.List.{drop_more, take_rest, get_or-append-add}
 use Rattle.st_chunk.specs.Definitions.{Definition, IsDefinition}
 use Rattle.st_changes.specs.declared.definition.Definition as declared
-use Rattle.st_changes.specs.Views.{definition_of, definitions_of}
+use Rattle.st_changes.specs.inside.Views.{definition_of, definitions_of}
 use Rattle.st_recover.specs.declared.replay.Replay.{Replay}
 use Rattle.st_protocol.specs.declared.installation.Installation.{Installation}
 use Rattle.st_protocol.specs.declared.installation.Installation.TheVariants as installation
-use Rattle.st_recover.specs.Replays.{Notes}
+use Rattle.st_recover.specs.inside.Replayings.{Notes}
 
 module _ (rest : List declared.Definition) (x : declared.Definition) (there : 1 ≤ length rest) (is : x ≡ get_or rest 0 x) where
   pub rest_is : rest ≡ x ∷ take (length rest - 1) (drop 1 rest)

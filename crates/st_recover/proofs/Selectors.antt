@@ -9,7 +9,7 @@ use Rattle.st_code.specs.declared.fault.Fault.{Fault}
 use Rattle.st_code.specs.Methods.{PartsView, fault, parts_or}
 use Rattle.st_chunk.specs.Definitions.{Definition}
 use Rattle.st_install.specs.declared.preparing.Prepared.{Prepared}
-use Rattle.st_install.specs.Prepareds.{IsPrepared}
+use Rattle.st_install.specs.inside.Prepareds.{IsPrepared}
 use Rattle.st_changes.specs.Last.{HasSelector, FindsEach}
 use Rattle.st_changes.proofs.Indexing.{Selector, Finds, each_more}
 

@@ -7,7 +7,7 @@ use Rattle.st_model.specs.declared.fault.ImageFault.{ImageFault}
 use Rattle.st_model.specs.View.{View}
 use Rattle.st_frames.specs.declared.frame.Frame.{Frame}
 use Rattle.st_image.specs.HeadValues.{no_values, head_over}
-use Rattle.st_image.specs.Reading.{IsStart}
+use Rattle.st_image.specs.inside.Reading.{IsStart}
 use Rattle.st_recover.specs.Openings.{IsReadable, IsFaulty}
 use Rattle.st_image.proofs.Back.{own_head}
 

@@ -1,8 +1,7 @@
 pub mod Images
 pub mod Commits
-pub mod Archives
 pub mod Replays
 pub mod Openings
-pub mod Fetched
 pub mod Creating
 pub mod Condensed
+pub mod inside

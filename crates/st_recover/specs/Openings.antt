@@ -4,28 +4,23 @@ use Rattle.st_host.specs.Counts.{Rose}
 use Rattle.st_host.specs.Files.{Files, bytes_of}
 use Rattle.st_host.specs.declared.host.Host.{Ghosts}
 use Rattle.st_model.specs.Limits.{longest_image}
-use Rattle.st_model.specs.Objects.{nil}
-use Rattle.st_model.specs.Machine.{State, Went, empty_world}
+use Rattle.st_model.specs.Machine.{State, Went}
 use Rattle.st_model.specs.Births.{Births}
-use Rattle.st_model.specs.View.{View}
 use Rattle.st_model.specs.Image.{image_head}
-use Rattle.st_model.specs.Show.{Shows}
 use Rattle.st_model.specs.Start.{begin}
-use Rattle.st_frames.specs.Shown.{shown}
 use Rattle.st_store.specs.Names.{image_file}
 use Rattle.st_store.specs.Refusals.{Refuses}
-use Rattle.st_store.specs.Stored.{Stored, StoreState, Opens, IsKept, IsOpening}
+use Rattle.st_store.specs.Stored.{Stored, StoreState, Opens, IsOpening}
 use Rattle.st_store.specs.declared.fault.StoreFault.{StoreFault}
 use Rattle.st_store.specs.declared.fault.StoreFault.TheVariants.{Missing, Exists, NotAStore, Disk as DiskOfStore, OutOfMemory as NoMemoryForStore}
 use Rattle.st_store.specs.declared.fault.StorePlace.TheVariants.{Roots, Changes}
 use Rattle.st_changes.specs.Lists.{RefusesChanges}
 use Rattle.st_protocol.specs.Installing.{Install}
 pub use Rattle.st_recover.specs.Images.{IsReadable, IsFaulty}
-use Rattle.st_recover.specs.Commits.{Commit, OpensAs, all_of, root_of, stored_of}
-use Rattle.st_recover.specs.Replays.{Replayed, replay, losses_of}
+use Rattle.st_recover.specs.Commits.{Commit, OpensAs}
+use Rattle.st_recover.specs.Replays.{Replayed, replay}
 use Rattle.st_recover.specs.declared.fault.OpenFault.{OpenFault}
 use Rattle.st_recover.specs.declared.fault.OpenFault.TheVariants as opening
-use Rattle.st_recover.specs.declared.opened.Opened.{Opened}
 
 -- IMAGES
 
@@ -55,19 +50,6 @@ pub record Reopens (install : Install) (c : Commit) (r : Replayed) : Type 0 wher
   pub births : State Births
   pub begins : begin (image_head c.image) c.image ≡ Went tt births
   pub replays : r ≡ replay install births (length c.before) c.definitions
-
--- The files as they read open as this commit, which the open store keeps. The commit opens as what the memory shows under
--- its registers in an empty world, with this count and these losses.
-pub record IsReopenedAs {D M : Type 0} (host : Ghosts D) (install : Install) (view : M → View) (name : List ℕ) (old new : D) (o : Opened M) (c : Commit) : Type 0 where
-  pub opens : OpensAs name c (host.files old)
-  pub listed : o.changes.listed ≡ all_of c
-  pub root : o.store.root ≡ root_of o.store.root.slot c
-  pub kept : IsKept host new o.store (stored_of o.store.root.slot c)
-  pub replayed : Replayed
-  pub reopens : Reopens install c replayed
-  pub shows : Shows (shown (view o.loaded.memory) o.loaded.frame (empty_world nil)) replayed.state
-  pub count : o.replayed ≡ replayed.count
-  pub lost : losses_of o.lost.items ≡ replayed.lost
 
 -- WHAT AN OPENING KEEPS
 

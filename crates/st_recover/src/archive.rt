@@ -1,13 +1,13 @@
 // What a session keeps.
 ghost use Rattle.std.specs.Prelude.{◌≡◌, ◌-◌, ℕ, List, Some, None, IsTrue, IfErr, IfOk, OnOk, OnErr, IsSome, length};
 ghost use Rattle.st_host.specs.{Counts.HasCause, Runs.{Makes, Spares}};
-ghost use Rattle.st_image.specs.Back.{CanStart};
-ghost use Rattle.st_chunk.specs.{Definitions.{IsDefinition, entries}, ScriptDefinitions.definition_of};
-ghost use Rattle.st_changes.specs.{Last.HasSelector, Views.{definition_of as kept_definition}};
+ghost use Rattle.st_image.specs.inside.Back.{CanStart};
+ghost use Rattle.st_chunk.specs.{Definitions.{IsDefinition, entries}, inside.ScriptDefinitions.definition_of};
+ghost use Rattle.st_changes.specs.{Last.HasSelector, inside.Views.{definition_of as kept_definition}};
 ghost use Rattle.st_store.specs.{Names.IsNoFileOf, Faults.RestsUnlessGate};
-ghost use Rattle.st_protocol.specs.{Obeying.Obeys, declared.status.Status.TheVariants.DiskFault};
+ghost use Rattle.st_protocol.specs.{inside.Obeying.Obeys, declared.status.Status.TheVariants.DiskFault};
 ghost use Rattle.st_protocol.specs.Statuses.{Counts};
-ghost use Rattle.st_recover.specs.Archives.{Holds, IsStoreOf, IsOfKeeping};
+ghost use Rattle.st_recover.specs.inside.Archives.{Holds, IsStoreOf, IsOfKeeping};
 ghost use Rattle.st_recover.specs.Commits.{Commit, OpensAs, accepting, imaged, image_in, other_image};
 
 use st_changes::{Changes, Definition as KeptDefinition};
@@ -64,7 +64,7 @@ pub struct Archive {
 
 impl Model for Archive {
     ghost use Rattle.std.specs.Option.{ForSome};
-    ghost use Rattle.st_recover.specs.Archives.{ArchiveState, IsStoreOf};
+    ghost use Rattle.st_recover.specs.inside.Archives.{ArchiveState, IsStoreOf};
 
     ghost Value = { ArchiveState };
 

@@ -1,11 +1,11 @@
 // Making a store.
 ghost use Rattle.std.specs.Prelude.{◌≡◌, ℕ, List, IsTrue, IfErr, IfOk, OnOk, OnErr};
 ghost use Rattle.st_host.specs.{Files.{Files, bytes_of}, Runs.{LeavesOnly, Narrows, Spares}};
-ghost use Rattle.st_image.specs.Back.{CanStart};
+ghost use Rattle.st_image.specs.inside.Back.{CanStart};
 ghost use Rattle.st_store.specs.{Names.roots_file, Roots.HasLetters, Stored.IsKept, Founding.IsCleared};
 ghost use Rattle.st_store.specs.{Faults.RestsUnlessLetters, Refusals.{RefusesNew, IsOfMaking, FaultHasCause}};
 ghost use Rattle.st_store.specs.declared.fault.StoreFault.TheVariants.{Disk};
-ghost use Rattle.st_recover.specs.{Archives.store_of, Commits.{stored_of, image_in}};
+ghost use Rattle.st_recover.specs.{inside.Archives.store_of, Commits.{stored_of, image_in}};
 ghost use Rattle.st_recover.specs.Creating.{first_commit, IsMade, IsNoFirstFile, AreFirstFiles};
 
 use st_host::Host;

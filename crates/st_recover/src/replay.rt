@@ -2,13 +2,14 @@
 ghost use Rattle.std.specs.Prelude.{◌≡◌, ◌≤◌, ◌<◌, ◌+◌, ◌-◌, ◌^◌, length, All, IfOk, OnOk};
 ghost use Rattle.std.specs.Option.{option_map};
 ghost use Rattle.st_model.specs.{Machine.{State, World}, Births.Births, Show.Shows};
-ghost use Rattle.st_frames.specs.{declared.frame.Frame.Frame, Shown.{IsReady, shown}};
-ghost use Rattle.st_chunk.specs.{Definitions.IsDefinition, ScriptDefinitions.definition_of};
-ghost use Rattle.st_protocol.specs.Installations.{InstallsAs, Unchanged};
+ghost use Rattle.st_frames.specs.{declared.frame.Frame.Frame, inside.Shown.{IsReady, shown}};
+ghost use Rattle.st_chunk.specs.{Definitions.IsDefinition, inside.ScriptDefinitions.definition_of};
+ghost use Rattle.st_protocol.specs.inside.Installations.{InstallsAs, Unchanged};
 ghost use Rattle.st_install.specs.Defining.{installed};
-ghost use Rattle.st_changes.specs.Views.{definition_of as kept_definition, definitions_of};
+ghost use Rattle.st_changes.specs.inside.Views.{definition_of as kept_definition, definitions_of};
 ghost use Rattle.st_changes.specs.Last.{FindsSelector, FindsEach};
-ghost use Rattle.st_recover.specs.Replays.{replay, ReplaysAs, Notes};
+ghost use Rattle.st_recover.specs.Replays.{replay};
+ghost use Rattle.st_recover.specs.inside.Replayings.{ReplaysAs, Notes};
 
 use crate::opened::{Lost, LostList};
 use st_changes::{Definition as KeptDefinition, find_selector};

@@ -10,9 +10,9 @@ use Rattle.st_scan.specs.Views as views
 use Rattle.st_scan.specs.Pieces.{begins, is_name, is_operator, keywords_text}
 use Rattle.st_scan.specs.Bytes.{is_operator_byte}
 use Rattle.st_scan.proofs.Classes.{or_second, operator-sign, in_range}
-use Rattle.st_grammar.specs.Formed.{IsSelector, ReceiverFormed, StatementsFormed, MessagesFormed, ArgumentsFormed, IsWellFormed, count_of}
+use Rattle.st_grammar.specs.inside.Formed.{IsSelector, ReceiverFormed, StatementsFormed, MessagesFormed, ArgumentsFormed, IsWellFormed, count_of}
 use Rattle.st_emit.specs.Selectors.{arity, colons}
-use Rattle.st_resolved.specs.Right.{RightExpression, RightStatements, RightMessages, RightAll, arguments_count}
+use Rattle.st_resolved.specs.inside.Right.{RightExpression, RightStatements, RightMessages, RightAll, arguments_count}
 
 no_colon : (b : ℕ) → is_ascii_alphanumeric b ≡ true → (b == 58) ≡ false
 no_colon b e = elim (or_cases (is_in_range 48 57 b || is_in_range 65 90 b) (is_in_range 97 122 b) e) [

@@ -18,9 +18,9 @@ use Rattle.st_emit.specs.Resolving.{special_selectors, first_special}
 use Rattle.st_emit.specs.Nodes as nodes
 use Rattle.st_emit.specs.Nodes.{Node, Body, Messages, Nodes, count, returns}
 use Rattle.st_emit.specs.Emitting.{Use, for_value, for_effect, used, stored, choice, repeat, code_of, body_code, messages_code, nodes_code, method_code, return_code, block_end, pop_arguments, passes_on, other_side, leaves_on, send_step}
-use Rattle.st_resolved.specs.Placed.{IsCount, IsFound, Placed, BodyPlaced, MessagesPlaced, NodesPlaced}
+use Rattle.st_resolved.specs.inside.Placed.{IsCount, IsFound, Placed, BodyPlaced, MessagesPlaced, NodesPlaced}
 use Rattle.st_resolved.specs.Instructions.{IsNumbered, Fits, AllFit}
-use Rattle.st_resolved.specs.Seen.{In, range, AllBelow, SeenPlace, StoredPlace, Fresh, Seen, BodySeen, MessagesSeen, NodesSeen}
+use Rattle.st_resolved.specs.inside.Seen.{In, range, AllBelow, SeenPlace, StoredPlace, Fresh, Seen, BodySeen, MessagesSeen, NodesSeen}
 use Rattle.st_resolved.proofs.Seen.{below_more, below_both, below_range}
 use Rattle.std.proofs.lemmas.Bool.{and_parts}
 

@@ -3,7 +3,7 @@ use Rattle.std.proofs.Common.{◌≡◌, ℕ, suc, ◌+◌, Bool, true, false, �
 use Rattle.std.specs.Prelude.{if◌then◌else◌, is_some, nat_lt, Ok}
 use Rattle.st_scan.specs.Views.{is_super, NameView, ContentView, ElementsView, ExpressionView, StatementsView, MessagesView, ExpressionsView, MethodView}
 use Rattle.st_scan.specs.Views as views
-use Rattle.st_scan.specs.Placeless.{placeless_name, placeless_names, placeless_content, placeless_elements, placeless, placeless_statements, placeless_messages, placeless_expressions, without_places}
+use Rattle.st_scan.specs.inside.Placeless.{placeless_name, placeless_names, placeless_content, placeless_elements, placeless, placeless_statements, placeless_messages, placeless_expressions, without_places}
 use Rattle.st_emit.specs.Names.{NamesView, Scope, Declared, Variable, temporary, field, shared, constant_named, variable_named, declared_as, numbered, declared, or_else}
 use Rattle.st_emit.specs.Literals.{LiteralView, Named, Naming, given, ◌>>=◌, literal_of, members_of}
 use Rattle.st_emit.specs.Literals as lits

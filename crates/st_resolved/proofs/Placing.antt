@@ -20,10 +20,10 @@ use Rattle.st_emit.specs.Nodes as nodes
 use Rattle.st_emit.specs.Nodes.{Sending, Node, Body, Tail, Nodes, body_of, with_tail, count}
 use Rattle.st_emit.specs.Resolving.{place_named, constant_or, literal_node, small_or, content_node, special_selector, special_selectors, special_code, code_at, first_special, block_copy, by_code, by_literal, sending, Message, all_nodes, message_nodes, plain_tail, formed, form_named, no_message, single_tail, sends_tail, tailed, before, Context, behind, inside, names_in, names_in_all, place_of_name, assign_tail, count_node, is_plain, expression_node, statements_body, messages_of, nodes_of}
 use Rattle.st_emit.proofs.SpecialSelectors.{special_there}
-use Rattle.st_resolved.specs.Right.{IsRight, arguments_count, RightExpression, RightStatements, RightMessages, RightAll}
+use Rattle.st_resolved.specs.inside.Right.{IsRight, arguments_count, RightExpression, RightStatements, RightMessages, RightAll}
 use Rattle.st_resolved.proofs.Grows.{Extends, extends_on, Grows, AllGrow, MessagesGrow, grows_given, grows_then, grows_end, grows_all, grows_sending, grows_messages, grows_place, grows_sends, statements_grow, messages_grow}
 use Rattle.st_resolved.proofs.Places.{named_found}
-use Rattle.st_resolved.specs.Placed.{IsVariable, IsCount, IsFound, IsSent, Placed, BodyPlaced, MessagesPlaced, NodesPlaced}
+use Rattle.st_resolved.specs.inside.Placed.{IsVariable, IsCount, IsFound, IsSent, Placed, BodyPlaced, MessagesPlaced, NodesPlaced}
 
 -- a number from -1 to 2, by one more
 small_by : (a m b c d : Bool) (k : ℕ) → (if a then Some 1 else (if m then (if b then Some 0 else None) else (if c then Some 2 else (if d then Some 3 else None)))) ≡ Some k → k ≤ 3

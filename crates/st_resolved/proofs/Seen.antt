@@ -22,7 +22,7 @@ use Rattle.st_code.specs.declared.fault.Cause.TheVariants.{Unknown, Store}
 use Rattle.st_code.specs.Faults.{fault_at, read_fault, store_fault, stored_fault, content_fault, expression_fault, statements_fault, messages_fault, expressions_fault, declare_fault}
 use Rattle.st_resolved.proofs.Grows.{Grows, AllGrow, MessagesGrow, grows_then, grows_end, grows_all, grows_sending, grows_messages, grows_place, grows_sends, statements_grow, messages_grow}
 use Rattle.st_resolved.proofs.Placing.{Puts, puts_given, puts_then, puts_end, puts_literal}
-use Rattle.st_resolved.specs.Seen.{In, range, AllBelow, numbers, unnumbered, assigns, IsScope, SeenPlace, StoredPlace, Fresh, Seen, BodySeen, MessagesSeen, NodesSeen}
+use Rattle.st_resolved.specs.inside.Seen.{In, range, AllBelow, numbers, unnumbered, assigns, IsScope, SeenPlace, StoredPlace, Fresh, Seen, BodySeen, MessagesSeen, NodesSeen}
 use Rattle.st_resolved.proofs.Unnumbered.{or_none, read_alike, store_alike, more_names}
 use Rattle.std.proofs.lemmas.Bool.{and_right}
 

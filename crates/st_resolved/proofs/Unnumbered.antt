@@ -6,7 +6,7 @@ use Rattle.st_emit.specs.Names.{NamesView, Scope, Declared, Variable, temporary,
 use Rattle.st_code.specs.declared.fault.Fault.{Fault}
 use Rattle.st_code.specs.declared.fault.Cause.TheVariants.{Unknown, Store}
 use Rattle.st_code.specs.Faults.{fault_at, read_fault, store_fault, stored_fault}
-use Rattle.st_resolved.specs.Seen.{unnumbered}
+use Rattle.st_resolved.specs.inside.Seen.{unnumbered}
 
 -- SCOPES
 

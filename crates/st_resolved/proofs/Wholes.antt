@@ -11,9 +11,9 @@ use Rattle.st_code.specs.declared.fault.Cause.{Cause}
 use Rattle.st_code.specs.declared.fault.Cause.TheVariants.{Literals, Temporaries, Depth, Jump, Size}
 use Rattle.st_code.specs.Faults.{declare_fault, statements_fault, method_fault}
 use Rattle.st_code.specs.Methods.{scope_from, own_variables, variables, body, steps, depth, literals, last_literals, passes, fault_if, symbols_fault, primitive_fault, bounds_fault, whole_fault, fault}
-use Rattle.st_resolved.specs.Right.{RightStatements}
-use Rattle.st_resolved.specs.Placed.{BodyPlaced}
-use Rattle.st_resolved.specs.Seen.{range, AllBelow, numbers, unnumbered, assigns, IsScope, BodySeen}
+use Rattle.st_resolved.specs.inside.Right.{RightStatements}
+use Rattle.st_resolved.specs.inside.Placed.{BodyPlaced}
+use Rattle.st_resolved.specs.inside.Seen.{range, AllBelow, numbers, unnumbered, assigns, IsScope, BodySeen}
 use Rattle.st_resolved.specs.Instructions.{AllFit}
 use Rattle.st_resolved.proofs.Placing.{statements_put}
 use Rattle.st_resolved.proofs.Unnumbered.{or_none, unnumbered-append, unnumbered-any}

@@ -1,4 +1,2 @@
-pub mod Placed
-pub mod Right
 pub mod Instructions
-pub mod Seen
+pub mod inside

@@ -11,7 +11,7 @@ use Rattle.st_scan.specs.declared.tree.Expression.TheViews.{sized-Send}
 use Rattle.st_scan.specs.declared.tree.Message.{Message, size-Message}
 use Rattle.st_scan.specs.Views.{ExpressionView}
 use Rattle.st_scan.specs.declared.chain.Link.TheVariants as links
-use Rattle.st_scan.specs.Chains.{linked, links_view, link_view, with_link, link_size, links_size, IsBelow, IsWithin}
+use Rattle.st_scan.specs.inside.Chains.{linked, links_view, link_view, with_link, link_size, links_size, IsBelow, IsWithin}
 
 pub linked_turn : (e inner whole : ExpressionView) (links more : List Link) (link : Link)
     → more ≡ links ++ link ∷ [] → with_link (link_view link) inner ≡ e → linked e (links_view (reverse links)) ≡ whole → linked inner (links_view (reverse more)) ≡ whole

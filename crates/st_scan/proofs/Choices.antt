@@ -6,7 +6,7 @@ use Rattle.std.specs.Char.{is_ascii_digit, is_ascii_alphabetic}
 use Rattle.st_scan.specs.declared.fault.Cause.TheVariants as causes
 use Rattle.st_scan.specs.Bytes.{is_blank, begins_operator, is_mark}
 use Rattle.st_scan.specs.Pieces.{blank, operator, begins}
-use Rattle.st_scan.specs.Faults.{begins_piece}
+use Rattle.st_scan.specs.inside.Faults.{begins_piece}
 use Rattle.st_scan.specs.Fronts.{piece, fault, front_of, comment_to, word_at, number_at, operator_of, mark_at, character_at, string_of, inside_of, hash_at}
 use Rattle.st_scan.proofs.Classes.{letter-inked, digit-inked, operator-sign, mark-sign, nothing_of}
 

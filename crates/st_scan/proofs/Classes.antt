@@ -7,7 +7,7 @@ use Rattle.std.specs.Char.{is_ascii_digit, is_ascii_alphabetic, is_ascii_alphanu
 use Rattle.std.specs.Str.{byte}
 use Rattle.std.proofs.lemmas.Bool.{leb-true, lt-leb, eqb-true, ne_eqb, and_parts, or_cases, not-true, both_ways, or_from, or_left}
 use Rattle.st_scan.specs.Bytes.{is_blank, is_among, operator_bytes, begins_operator, mark_bytes, is_mark}
-use Rattle.st_scan.specs.Faults.{begins_piece}
+use Rattle.st_scan.specs.inside.Faults.{begins_piece}
 
 pub in_range : (low high b : ℕ) → is_in_range low high b ≡ true → (low ≤ b) × (b ≤ high)
 in_range low high b e =

@@ -12,7 +12,7 @@ use Rattle.st_scan.specs.declared.fault.Cause.{Cause}
 use Rattle.st_scan.specs.declared.fault.Cause.TheVariants as causes
 use Rattle.st_scan.specs.Bytes.{is_radix_digit, is_operator_byte, is_second_operator_byte, begins_operator}
 use Rattle.st_scan.specs.Pieces.{Digits, decimal, radix, Symbol, unary, keywords, binary, Piece, blank, comment, name, keyword, operator, number, character, string, symbol, opening, mark, digits_text, keywords_text, symbol_text, doubled, spelling, is_name, is_operator, operator_ends, is_sign, is_mark_text, mark_ends, begins, begins_keyword, makes_keyword, makes_radix, some_pass, are_digits, digits_end, IsNumber, SymbolStands, Stands}
-use Rattle.st_scan.specs.Faults.{IsFaulty, begins_nothing, begins_piece, goes_with_hash}
+use Rattle.st_scan.specs.inside.Faults.{IsFaulty, begins_nothing, begins_piece, goes_with_hash}
 use Rattle.st_scan.specs.Fronts.{piece, fault, front_of, comment_to, word_at, number_before, number_at, operator_of, inside_of, string_of, keywords_of, selector_at, hash_at, character_at, mark_at}
 use Rattle.st_scan.proofs.Prefixes.{prefix-all, begins-append}
 use Rattle.st_scan.proofs.Keywords.{keywords-more, keywords-none}

@@ -8,7 +8,7 @@ use Rattle.std.proofs.lemmas.Bool.{leb-true, leb-false, le-leb, lt-leb, cases_Bo
 use Rattle.std.proofs.lemmas.List.{nil_from_length}
 use Rattle.std.proofs.Math.Nat.{mul-le-mul_left}
 use Rattle.st_scan.specs.Pieces.{greatest}
-use Rattle.st_scan.specs.Numerals.{with_digit, size_in}
+use Rattle.st_scan.specs.inside.Numerals.{with_digit, size_in}
 
 -- more digits make no size less
 digits_grow : (base n : ℕ) (ds : List ℕ) → 1 ≤ base → n ≤ digits_value_after base n ds

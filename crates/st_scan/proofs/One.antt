@@ -5,8 +5,9 @@ use Rattle.st_scan.specs.declared.fault.Fault.{Fault}
 use Rattle.st_scan.specs.declared.fault.Cause.{Cause}
 use Rattle.st_scan.specs.declared.fault.Cause.TheVariants as causes
 use Rattle.st_scan.specs.Pieces.{Digits, Piece, spelling, number, sign_text, digits_text, are_digits, Stands}
-use Rattle.st_scan.specs.Faults.{IsFaulty}
-use Rattle.st_scan.specs.Scans.{Context, start, signs, after, after_all, joined, AllStand, tokens_from, EndsBy, ScansTo, HasScan}
+use Rattle.st_scan.specs.inside.Faults.{IsFaulty}
+use Rattle.st_scan.specs.Scans.{Context, start, signs, after, after_all, joined, AllStand, tokens_from}
+use Rattle.st_scan.specs.inside.Scanned.{EndsBy, ScansTo, HasScan}
 use Rattle.st_scan.specs.Fronts.{Found, piece, fault, front_of}
 use Rattle.st_scan.proofs.Sound.{IsFront, sound}
 use Rattle.st_scan.proofs.Complete.{complete, complete_fault}

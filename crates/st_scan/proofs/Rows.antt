@@ -8,7 +8,7 @@ use Rattle.st_scan.specs.declared.fault.Fault.{Fault}
 use Rattle.st_scan.specs.declared.fault.Cause.{Cause}
 use Rattle.st_scan.specs.declared.fault.Cause.TheVariants as causes
 use Rattle.st_scan.specs.Pieces.{decimal, radix, keywords, blank, name, operator, number, string, symbol, opening, mark}
-use Rattle.st_scan.specs.Scans.{HasTokens, HasFault}
+use Rattle.st_scan.specs.inside.Scanned.{HasTokens, HasFault}
 
 abbrev token : Sort → ℕ → ℕ → Token
 token sort start end = record { start = start; end = end; sort = sort }

@@ -11,9 +11,10 @@ use Rattle.st_scan.specs.declared.fault.Cause.{Cause}
 use Rattle.st_scan.specs.declared.front.Front.{Front}
 use Rattle.st_scan.specs.declared.front.Front.TheVariants as fronts
 use Rattle.st_scan.specs.Pieces.{Digits, decimal, radix, Piece, blank, comment, name, keyword, operator, number, character, string, symbol, opening, mark, digits_text, sign_text, spelling, size, are_digits, begins, Stands}
-use Rattle.st_scan.specs.Scans.{Context, start, signs, after, after_all, depth_after, joined, AllStand, sort_of, with_token, tokens_from, ScansTo}
-use Rattle.st_scan.specs.Faults.{IsFaulty}
-use Rattle.st_scan.specs.Contexts.{is_operand_token, depth_behind}
+use Rattle.st_scan.specs.Scans.{Context, start, signs, after, after_all, depth_after, joined, AllStand, sort_of, with_token, tokens_from}
+use Rattle.st_scan.specs.inside.Scanned.{ScansTo}
+use Rattle.st_scan.specs.inside.Faults.{IsFaulty}
+use Rattle.st_scan.specs.inside.Contexts.{is_operand_token, depth_behind}
 use Rattle.st_scan.specs.Fronts.{Found, piece, fault, shown, shown_piece, front_of, IsWithin}
 use Rattle.st_scan.proofs.Sound.{StandsFirst, IsFront, sound}
 

@@ -13,7 +13,7 @@ use Rattle.st_scan.specs.declared.fault.Cause.{Cause}
 use Rattle.st_scan.specs.declared.fault.Cause.TheVariants as causes
 use Rattle.st_scan.specs.Bytes.{is_blank, is_radix_digit, is_operator_byte, is_second_operator_byte, begins_operator, is_mark}
 use Rattle.st_scan.specs.Pieces.{Digits, decimal, radix, unary, keywords, binary, Piece, blank, comment, name, keyword, operator, number, character, string, symbol, opening, mark, digits_text, sign_text, keywords_text, doubled, spelling, is_name, is_operator, operator_ends, is_sign, begins, begins_keyword, makes_keyword, makes_radix, makes_float, is_allowed, some_pass, are_digits, digits_end, IsNumber, Stands}
-use Rattle.st_scan.specs.Faults.{IsFaulty, StartsWithNumber, begins_nothing, begins_piece}
+use Rattle.st_scan.specs.inside.Faults.{IsFaulty, StartsWithNumber, begins_nothing, begins_piece}
 use Rattle.st_scan.specs.Fronts.{Found, piece, fault, front_of, comment_to, word_at, number_before, number_at, operator_of, inside_of, string_of, keywords_of, selector_at, hash_at, character_at, mark_at}
 use Rattle.st_scan.proofs.Prefixes.{all-prefix, stops-prefix, some-prefix, begins-take}
 use Rattle.st_scan.proofs.Classes.{letter-alphanumeric, or_second, no_piece}

@@ -8,7 +8,8 @@ use Rattle.st_scan.specs.declared.token.Token.{Token}
 use Rattle.st_scan.specs.declared.token.Sort.{Sort}
 use Rattle.st_scan.specs.declared.fault.Fault.{Fault}
 use Rattle.st_scan.specs.Pieces.{Piece, spelling, Stands}
-use Rattle.st_scan.specs.Scans.{Context, start, signs, after, joined, AllStand, sort_of, with_token, tokens_from, AreSpans, IsToken, IsJoined, ScansTo, HasTokens}
+use Rattle.st_scan.specs.Scans.{Context, start, signs, after, joined, AllStand, sort_of, with_token, tokens_from, AreSpans, IsToken, IsJoined}
+use Rattle.st_scan.specs.inside.Scanned.{ScansTo, HasTokens}
 use Rattle.st_scan.proofs.Scanning.{has_bytes}
 
 -- what lies behind a place lies behind an earlier one

@@ -11,7 +11,7 @@ use Rattle.st_scan.specs.declared.tree.Content.TheVariants.{Array, Array'}
 use Rattle.st_scan.specs.declared.tree.Expression.{Expression, Row_of-Statement, end_of-Statement, more_of-Statement, Row_of-Message, end_of-Message, more_of-Message, Row_of-Expression, end_of-Expression, more_of-Expression, items-the_row-Statement, items-the_row-Message, items-the_row-Expression, items_hidden-the_row-Statement-0, items_hidden-the_row-Message-2, items_shown-the_row-Expression-1}
 use Rattle.st_scan.specs.declared.tree.Expression.TheVariants.{Block, Block', Assign, Send, Send'}
 use Rattle.st_scan.specs.Views.{name_view, names_view, content_view, elements_in, elements_view, element, array, expression_view, statements_in, messages_in, expressions_in, expressions_view, statements_view, messages_view, block, assign, send, statement, message, expression, element_view, with_element, with_expression, with_statement, with_message, ExpressionView, variable, literal, is_super}
-use Rattle.st_scan.specs.Placeless.{placeless}
+use Rattle.st_scan.specs.inside.Placeless.{placeless}
 
 -- the elements of a row are those of the list
 elements_row : (n : Count) (row : Row_of-Element n) → elements_in row ≡ elements_view (items-the_row-Element n row)

@@ -1,11 +1,7 @@
 pub mod Bytes
-pub mod Contexts
-pub mod Faults
 pub mod Fronts
-pub mod Numerals
 pub mod Pieces
 pub mod Scans
-pub mod Chains
 pub mod TreeFaults
 pub mod Views
-pub mod Placeless
+pub mod inside

@@ -2,7 +2,7 @@
 
 ghost use Rattle.std.specs.Prelude.{◌≡◌, IfOk};
 ghost use Rattle.st_scan.specs.Views.{expression_view};
-ghost use Rattle.st_scan.specs.Chains.{IsStart, IsWithin, linked, links_view};
+ghost use Rattle.st_scan.specs.inside.Chains.{IsStart, IsWithin, linked, links_view};
 
 use crate::tree::{Expression, Message, Name};
 use std::alloc::{AllocError, Global};

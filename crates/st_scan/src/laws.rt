@@ -5,7 +5,8 @@ ghost use Rattle.st_scan.specs.declared.token.Token.{Token};
 ghost use Rattle.st_scan.specs.declared.fault.Fault.{Fault};
 ghost use Rattle.std.specs.Str.{byte};
 ghost use Rattle.st_scan.specs.Pieces.{Piece, IsFormed, Stands};
-ghost use Rattle.st_scan.specs.Scans.{ScansTo, HasScan, HasTokens, AreSpans, IsToken, IsJoined};
+ghost use Rattle.st_scan.specs.inside.Scanned.{ScansTo, HasScan, HasTokens};
+ghost use Rattle.st_scan.specs.Scans.{AreSpans, IsToken, IsJoined};
 
 /// A text has one list of tokens, up to its end or up to its one first fault.
 pub fn one_scan()

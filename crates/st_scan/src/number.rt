@@ -7,7 +7,7 @@ ghost use Rattle.std.specs.Char.{is_ascii_digit};
 ghost use Rattle.st_scan.specs.Bytes.{is_radix_digit};
 ghost use Rattle.st_scan.specs.Pieces.{digits_text, makes_radix, makes_float};
 ghost use Rattle.st_scan.specs.Fronts.{shown, number_at, number_before};
-ghost use Rattle.st_scan.specs.Numerals.{digits_of, allowed_size, size_in, with_digit};
+ghost use Rattle.st_scan.specs.inside.Numerals.{digits_of, allowed_size, size_in, with_digit};
 
 use crate::bytes::is_radix_digit;
 use crate::fault::Cause;

@@ -2,8 +2,9 @@
 
 ghost use Rattle.std.specs.Prelude.{◌≡◌, ◌<◌, ◌≤◌, ◌-◌, ◌^◌, IfOk, IfErr, length};
 ghost use Rattle.st_scan.specs.Fronts.{shown, front_of, IsWithin};
-ghost use Rattle.st_scan.specs.Scans.{ScansTo, HasTokens, AreSpans, IsFaultOf, signs};
-ghost use Rattle.st_scan.specs.Contexts.{context_of, is_operand_token, depth_behind};
+ghost use Rattle.st_scan.specs.inside.Scanned.{ScansTo, HasTokens, IsFaultOf};
+ghost use Rattle.st_scan.specs.Scans.{AreSpans, signs};
+ghost use Rattle.st_scan.specs.inside.Contexts.{context_of, is_operand_token, depth_behind};
 
 use crate::fault::{Fault, SyntaxFault};
 use crate::front::{Front, front_of};

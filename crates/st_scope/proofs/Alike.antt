@@ -16,7 +16,7 @@ use Rattle.st_emit.specs.declared.step.Step.{Step}
 use Rattle.st_emit.specs.Steps.{all_bytes}
 use Rattle.st_emit.specs.Emitting.{method_code}
 use Rattle.st_emit.specs.Depths.{empty, method_level}
-use Rattle.st_scope.specs.Alike.{SeesAlike}
+use Rattle.st_scope.specs.inside.Alike.{SeesAlike}
 
 module _ (a b : NamesView) (alike : SeesAlike a b) where
   same_variable : (scope : Scope) (text : List ℕ) → variable_named a scope text ≡ variable_named b scope text

@@ -8,7 +8,7 @@ use Rattle.st_model.specs.Values.{Value, Small, Ref, value_of, value, is_small}
 use Rattle.st_model.specs.Machine.{Head, State, Went, answer, tried, ◌>>=◌, ◌>>◌}
 use Rattle.st_model.specs.Steps.{object, of_page, class_of, or_die, fetch_field}
 use Rattle.st_model.specs.Table.{Table, table}
-use Rattle.st_model.specs.Calls.{Reads, itself}
+use Rattle.st_model.specs.inside.Calls.{Reads, itself}
 use Rattle.st_model.specs.View.{View, IsWhole, table_of, is_live}
 use Rattle.st_model.proofs.Runs.{run-then, after-went, after-died}
 use Rattle.st_scope.specs.declared.fault.InstallFault.TheVariants.{NoClass, NoGlobals}
@@ -16,7 +16,7 @@ use Rattle.st_scope.specs.Classes.{class_named, class_association}
 use Rattle.st_scope.specs.Tables.{member_named, check_fields}
 use Rattle.st_scope.specs.Texts.{found}
 use Rattle.st_scope.specs.Calls.{class_among, class_of_name}
-use Rattle.st_scope.specs.Meanings.{class_found}
+use Rattle.st_scope.specs.inside.Meanings.{class_found}
 
 -- CLASSES OF OBJECTS
 

@@ -7,9 +7,9 @@ use Rattle.st_model.specs.Values.{Value, Ref, value}
 use Rattle.st_model.specs.Machine.{State, Went, Died, answer, ◌>>=◌}
 use Rattle.st_model.specs.Steps.{same_value, fetch_field, fetch_fields}
 use Rattle.st_model.specs.Table.{Table, table}
-use Rattle.st_model.specs.Calls.{Reads}
+use Rattle.st_model.specs.inside.Calls.{Reads}
 use Rattle.st_model.proofs.Runs.{run-then, run-of_page, after-went, run-answer}
-use Rattle.st_scope.specs.Meanings.{values}
+use Rattle.st_scope.specs.inside.Meanings.{values}
 use Rattle.st_scope.specs.Variables.{fields_unless, fields_or_none, name_unless, name_of, pool_unless, pool_or_none}
 use Rattle.st_scope.specs.Tables.{bytes_of}
 use Rattle.st_scope.proofs.Lineages.{is_nil, is_other}

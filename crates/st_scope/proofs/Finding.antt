@@ -3,11 +3,11 @@ use Rattle.std.proofs.Common.{◌≡◌, Result, Ok, Err, subst, sym, ◌∙◌,
 use Rattle.st_model.specs.declared.dead.Dead.{Dead}
 use Rattle.st_model.specs.Machine.{State, Step, ◌>>=◌}
 use Rattle.st_model.specs.Table.{Table}
-use Rattle.st_model.specs.Calls.{Reads}
+use Rattle.st_model.specs.inside.Calls.{Reads}
 use Rattle.st_model.proofs.Runs.{run-then, after-went, after-died}
 use Rattle.st_scope.specs.declared.unread.Unread.{Unread}
 use Rattle.st_scope.specs.declared.unread.Unread.TheVariants.{Dies, OutOfMemory}
-use Rattle.st_scope.specs.Findings.{Finds}
+use Rattle.st_scope.specs.inside.Findings.{Finds}
 
 module _ {A B : Type 0} (m : Step Table A) (f : B → A) (t : Table) (r : Result B Unread) where
   pub finds_death : (k : Dead) → r ≡ Err (Dies k) → Reads m f t (Err k) → Finds m f t r

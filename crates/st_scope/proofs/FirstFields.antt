@@ -6,7 +6,7 @@ use Rattle.st_model.specs.Values.{Value, value}
 use Rattle.st_model.specs.Machine.{State, Step, answer, ◌>>=◌}
 use Rattle.st_model.specs.Steps.{fetch_field, count_fields}
 use Rattle.st_model.specs.Table.{Table, table}
-use Rattle.st_model.specs.Calls.{Reads, itself}
+use Rattle.st_model.specs.inside.Calls.{Reads, itself}
 use Rattle.st_model.proofs.Runs.{run-then, after-went, after-died, run-answer}
 use Rattle.st_scope.specs.Tables.{found_or, first_from, first_field}
 use Rattle.st_scope.specs.Texts.{found}

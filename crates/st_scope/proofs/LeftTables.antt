@@ -7,11 +7,11 @@ use Rattle.st_model.specs.declared.oop.Oop.{Oop}
 use Rattle.st_model.specs.Values.{value}
 use Rattle.st_model.specs.Machine.{State, answer, tried, ◌>>=◌}
 use Rattle.st_model.specs.Table.{Table, table}
-use Rattle.st_model.specs.Calls.{Reads}
+use Rattle.st_model.specs.inside.Calls.{Reads}
 use Rattle.st_model.proofs.Runs.{run-then, after-went}
 use Rattle.st_scope.specs.Tables.{member_named}
 use Rattle.st_scope.specs.Variables.{member_if_any, or_later, association_in}
-use Rattle.st_scope.specs.Meanings.{values}
+use Rattle.st_scope.specs.inside.Meanings.{values}
 use Rattle.st_scope.specs.Texts.{found}
 
 module _ (names : Oop) (text : List ℕ) (t : Table) where

@@ -6,10 +6,10 @@ use Rattle.st_model.specs.Values.{Value, value}
 use Rattle.st_model.specs.Machine.{State, Went}
 use Rattle.st_model.specs.Steps.{fetch_field}
 use Rattle.st_model.specs.Table.{Table, table}
-use Rattle.st_model.specs.Calls.{Reads}
+use Rattle.st_model.specs.inside.Calls.{Reads}
 use Rattle.st_model.proofs.Runs.{run-then, after-went, run-answer}
 use Rattle.st_scope.specs.Classes.{chain, instance_lineage, metaclass_lineage}
-use Rattle.st_scope.specs.Meanings.{values, values_of}
+use Rattle.st_scope.specs.inside.Meanings.{values, values_of}
 
 module _ (class : Value) (t : Table) where
   pub one_chain : (classes : Vec Oop) → Reads (chain table 9 class) values_of t (Ok classes) → (copy : Vec Oop) → copy.items ≡ classes.items

@@ -10,10 +10,10 @@ use Rattle.st_model.specs.Values.{Value, Small, Ref, value_of, value}
 use Rattle.st_model.specs.Machine.{State, Transition, Went, Died, Step, after, answer, die, ◌>>=◌}
 use Rattle.st_model.specs.Steps.{of_page, same_value}
 use Rattle.st_model.specs.Table.{Table, table}
-use Rattle.st_model.specs.Calls.{Reads}
+use Rattle.st_model.specs.inside.Calls.{Reads}
 use Rattle.st_model.proofs.Runs.{run-then, after-went, after-died}
 use Rattle.st_scope.specs.Classes.{superclass, class_and, none_if, until_nil, chain_within, chain}
-use Rattle.st_scope.specs.Meanings.{values}
+use Rattle.st_scope.specs.inside.Meanings.{values}
 
 pub nil_if : (w : ℕ) (b : Bool) → (w % 2 == 1) ≡ b → w ≡ 2 → same_value (if b then Small (w / 2) else Ref (w / 2)) (Ref 1) ≡ true
 nil_if w true e q = let z : w % 2 ≡ 1 = grind (arith, nat_tests) in absurd (omega (arith, z, q))

@@ -4,7 +4,7 @@ use Rattle.std.proofs.lemmas.List.{append_assoc, append-nil}
 use Rattle.st_model.specs.declared.dead.Dead.{Dead}
 use Rattle.st_model.specs.Machine.{State, Transition, Went, Died, Step, after, answer, ◌>>=◌}
 use Rattle.st_model.specs.Table.{Table}
-use Rattle.st_model.specs.Calls.{Reads}
+use Rattle.st_model.specs.inside.Calls.{Reads}
 use Rattle.st_model.proofs.Runs.{run-then, after-went, after-died}
 
 module _ {A : Type 0} where

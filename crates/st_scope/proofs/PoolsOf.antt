@@ -9,13 +9,13 @@ use Rattle.st_model.specs.Values.{Value, value}
 use Rattle.st_model.specs.Machine.{State, Went, Died, answer, ◌>>=◌}
 use Rattle.st_model.specs.Table.{Table, table}
 use Rattle.st_model.specs.Steps.{fetch_field, count_fields}
-use Rattle.st_model.specs.Calls.{Reads, itself}
+use Rattle.st_model.specs.inside.Calls.{Reads, itself}
 use Rattle.st_model.proofs.Runs.{run-then, after-went, after-died, run-answer}
 use Rattle.st_scope.specs.Variables.{fields_or_none, pool_unless, pool_or_none, own_pools, pools}
-use Rattle.st_scope.specs.Meanings.{values, values_of}
+use Rattle.st_scope.specs.inside.Meanings.{values, values_of}
 use Rattle.st_scope.specs.declared.unread.Unread.{Unread}
 use Rattle.st_scope.specs.declared.unread.Unread.TheVariants.{Dies, OutOfMemory}
-use Rattle.st_scope.specs.Findings.{Finds}
+use Rattle.st_scope.specs.inside.Findings.{Finds}
 use Rattle.st_scope.proofs.Finding.{finds_death, finds_nothing}
 use Rattle.st_scope.proofs.Lineages.{is_nil, is_other}
 use Rattle.st_scope.proofs.FieldsOf.{pool_by}

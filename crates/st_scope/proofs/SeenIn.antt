@@ -16,13 +16,13 @@ use Rattle.st_model.specs.Objects.{Object}
 use Rattle.st_model.specs.Machine.{Head, State, Transition, Went, Step, tried, answer, ◌>>=◌, ◌>>◌}
 use Rattle.st_model.specs.Table.{Table, table, entry}
 use Rattle.st_model.specs.Lookup.{half_word, pointer_if}
-use Rattle.st_model.specs.Calls.{Reads, itself}
+use Rattle.st_model.specs.inside.Calls.{Reads, itself}
 use Rattle.st_model.specs.View.{is_live, table_of}
 use Rattle.st_model.proofs.Runs.{run-then, run-next, after-went, run-answer}
 use Rattle.st_scan.specs.Views.{MethodView}
 use Rattle.st_emit.specs.declared.names.Names.{Names}
 use Rattle.st_emit.specs.Names.{NamesView, SharedName}
-use Rattle.st_emit.specs.NameViews.{names_view, shared_view, pointer_of}
+use Rattle.st_emit.specs.inside.NameViews.{names_view, shared_view, pointer_of}
 use Rattle.st_emit.proofs.Sharing.{shared_found}
 use Rattle.st_scope.specs.declared.fault.InstallFault.TheVariants as fault
 use Rattle.st_scope.specs.declared.lineage.Chains.{Chains}
@@ -33,15 +33,15 @@ use Rattle.st_scope.specs.Classes.{lineage}
 use Rattle.st_scope.specs.Mentions.{mentioned_in}
 use Rattle.st_scope.specs.Shapes.{check_dictionary, check_symbols}
 use Rattle.st_scope.specs.Variables.{field_names, pools, association_in, shared_by, shared_names}
-use Rattle.st_scope.specs.Meanings.{values, values_of}
+use Rattle.st_scope.specs.inside.Meanings.{values, values_of}
 use Rattle.st_scope.specs.Texts.{found}
-use Rattle.st_scope.specs.Findings.{Finds, texts_of}
-use Rattle.st_scope.specs.Lineages.{lineage_of}
-use Rattle.st_scope.specs.Sought.{is_among, shared_at, AreShared}
-use Rattle.st_scope.specs.Alike.{SeesAlike}
+use Rattle.st_scope.specs.inside.Findings.{Finds, texts_of}
+use Rattle.st_scope.specs.inside.Lineages.{lineage_of}
+use Rattle.st_scope.specs.inside.Sought.{is_among, shared_at, AreShared}
+use Rattle.st_scope.specs.inside.Alike.{SeesAlike}
 use Rattle.st_scope.proofs.Alike.{code_alike}
 use Rattle.st_scope.proofs.Finding.{then_finds}
-use Rattle.st_scope.specs.Seen.{AreSeen, FindsNames}
+use Rattle.st_scope.specs.inside.Seen.{AreSeen, FindsNames}
 
 -- POINTERS
 

@@ -4,7 +4,7 @@ use Rattle.std.specs.Prelude.{bytes_eq, if◌then◌else◌, OnOk, IfSome}
 use Rattle.std.specs.Borrow.{Bor}
 use Rattle.std.proofs.lemmas.List.{take_more, map-append}
 use Rattle.st_scan.specs.declared.tree.Name.{Name}
-use Rattle.st_scope.specs.Walks.{mentions_of}
+use Rattle.st_scope.specs.inside.Walks.{mentions_of}
 use Rattle.std.specs.Global.{Vec}
 use Rattle.std.specs.declared.cmp.Ordering.{Ordering}
 use Rattle.std.specs.declared.cmp.Ordering.TheVariants.{Less, Equal, Greater}
@@ -17,15 +17,15 @@ use Rattle.std.proofs.lemmas.Map.Text.{is_eq-slice_cmp}
 use Rattle.st_model.specs.declared.oop.Oop.{Oop}
 use Rattle.st_model.specs.Values.{value}
 use Rattle.st_model.specs.Table.{Table, table}
-use Rattle.st_model.specs.Calls.{Reads}
+use Rattle.st_model.specs.inside.Calls.{Reads}
 use Rattle.st_model.specs.View.{is_live}
 use Rattle.st_emit.specs.Names.{or_else}
 use Rattle.st_emit.proofs.Noting.{at_put}
 use Rattle.st_scope.specs.declared.sought.Search.{Search}
 use Rattle.st_scope.specs.Variables.{association_in}
-use Rattle.st_scope.specs.Meanings.{values}
+use Rattle.st_scope.specs.inside.Meanings.{values}
 use Rattle.st_scope.specs.Texts.{found}
-use Rattle.st_scope.specs.Sought.{is_among, shared_at, was_sought, NotesShared, NotesSought, Notes, AreSought}
+use Rattle.st_scope.specs.inside.Sought.{is_among, shared_at, was_sought, NotesShared, NotesSought, Notes, AreSought}
 use Rattle.st_emit.proofs.NamePlaces.{same_text, decides}
 
 -- NOTES

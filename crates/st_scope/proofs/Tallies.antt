@@ -7,7 +7,7 @@ use Rattle.st_model.specs.Values.{Value, Small, Ref, value_of, is_small}
 use Rattle.st_model.specs.Machine.{State, Went, Died, Step, answer, die, ◌>>=◌}
 use Rattle.st_model.specs.Primitives.{bits_or_die}
 use Rattle.st_model.specs.Table.{Table, table}
-use Rattle.st_model.specs.Calls.{Reads, itself}
+use Rattle.st_model.specs.inside.Calls.{Reads, itself}
 use Rattle.st_model.specs.View.{table_of}
 use Rattle.st_scope.specs.Shapes.{check_symbol_table, check_symbols}
 

@@ -11,7 +11,7 @@ use Rattle.st_model.specs.Objects.{Object, is_bytes}
 use Rattle.st_model.specs.Machine.{State, Went, answer, die, after, or_left, tried, ◌>>=◌, ◌>>◌}
 use Rattle.st_model.specs.Steps.{object, object_named, found, check}
 use Rattle.st_model.specs.Table.{Table, table, entry}
-use Rattle.st_model.specs.Calls.{Reads, itself}
+use Rattle.st_model.specs.inside.Calls.{Reads, itself}
 use Rattle.st_model.specs.View.{is_live, object_of, nothing}
 use Rattle.st_model.proofs.Runs.{run-then, after-went, after-died}
 use Rattle.st_scope.specs.Tables.{bytes_of, is_text, member_key, member_name, has_name}

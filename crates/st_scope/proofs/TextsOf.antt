@@ -12,15 +12,15 @@ use Rattle.st_model.specs.Machine.{State, Went, Died, answer, ◌>>=◌}
 use Rattle.st_model.specs.Steps.{object}
 use Rattle.st_model.specs.View.{object_of}
 use Rattle.st_model.specs.Table.{Table, table}
-use Rattle.st_model.specs.Calls.{Reads}
+use Rattle.st_model.specs.inside.Calls.{Reads}
 use Rattle.st_model.proofs.Runs.{run-then, run-next, run-passed, run-failed, after-went, after-died, run-answer}
-use Rattle.st_emit.specs.NameViews.{texts_view}
+use Rattle.st_emit.specs.inside.NameViews.{texts_view}
 use Rattle.st_scope.specs.Tables.{bytes_of}
 use Rattle.st_scope.specs.Variables.{name_of, names_of, own_names, field_names}
-use Rattle.st_scope.specs.Meanings.{values}
+use Rattle.st_scope.specs.inside.Meanings.{values}
 use Rattle.st_scope.specs.declared.unread.Unread.{Unread}
 use Rattle.st_scope.specs.declared.unread.Unread.TheVariants.{Dies, OutOfMemory}
-use Rattle.st_scope.specs.Findings.{Finds, text_of, texts_of}
+use Rattle.st_scope.specs.inside.Findings.{Finds, text_of, texts_of}
 use Rattle.st_scope.proofs.Finding.{finds_death, finds_nothing}
 use Rattle.st_scope.proofs.Passing.{Left, all_left, none_left, left_dies, passed_more}
 

@@ -5,9 +5,9 @@ use Rattle.std.specs.Prelude.{OnOk}
 use Rattle.std.proofs.lemmas.List.{append_assoc, append-nil}
 use Rattle.st_scan.specs.declared.chain.Link.{Link}
 use Rattle.st_scan.specs.Views.{ExpressionView}
-use Rattle.st_scan.specs.Chains.{LinkView, assigned, sent, with_link, linked, link_view, links_view}
+use Rattle.st_scan.specs.inside.Chains.{LinkView, assigned, sent, with_link, linked, link_view, links_view}
 use Rattle.st_scope.specs.Mentions.{mentioned, mentioned_by}
-use Rattle.st_scope.specs.Walks.{target_mentioned, targets_mentioned, all_sent_mentioned}
+use Rattle.st_scope.specs.inside.Walks.{target_mentioned, targets_mentioned, all_sent_mentioned}
 
 pub chain_mentioned : (e : ExpressionView) (ls : List LinkView) → mentioned (linked e ls) ≡ targets_mentioned ls ++ (mentioned e ++ all_sent_mentioned ls)
 chain_mentioned e [] = sym (append-nil (mentioned e))

@@ -5,11 +5,4 @@ pub mod Mentions
 pub mod Variables
 pub mod Shapes
 pub mod Calls
-pub mod Meanings
-pub mod Owners
-pub mod Findings
-pub mod Lineages
-pub mod Walks
-pub mod Alike
-pub mod Sought
-pub mod Seen
+pub mod inside

@@ -2,8 +2,8 @@
 
 ghost use Rattle.std.specs.Prelude.{◌≡◌, false};
 ghost use Rattle.st_model.specs.{Values.value, Steps.fetch_fields, Table.table};
-ghost use Rattle.st_scope.specs.{Variables.{fields_unless, fields_or_none}, Meanings.values_of};
-ghost use Rattle.st_scope.specs.Findings.{Finds};
+ghost use Rattle.st_scope.specs.{Variables.{fields_unless, fields_or_none}, inside.Meanings.values_of};
+ghost use Rattle.st_scope.specs.inside.Findings.{Finds};
 
 use crate::reading::{count_fields, fetch_field};
 use crate::unread::Unread;

@@ -1,8 +1,8 @@
 //! Superclass chains.
 
 ghost use Rattle.std.specs.Prelude.{◌≡◌};
-ghost use Rattle.st_model.specs.{Values.value, Table.table, Calls.Reads};
-ghost use Rattle.st_scope.specs.{Classes.{superclass, chain}, Meanings.values_of, Findings.Finds};
+ghost use Rattle.st_model.specs.{Values.value, Table.table, inside.Calls.Reads};
+ghost use Rattle.st_scope.specs.{Classes.{superclass, chain}, inside.Meanings.values_of, inside.Findings.Finds};
 
 use crate::reading::{check_fields, fetch_field};
 use crate::unread::Unread;

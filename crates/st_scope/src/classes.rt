@@ -1,9 +1,9 @@
 //! Classes by their names.
 
 ghost use Rattle.std.specs.Prelude.{◌≡◌, Ok, Err, IfOk, IfErr};
-ghost use Rattle.st_model.specs.{Values.value, Table.table, Calls.Reads, View.IsKnown};
+ghost use Rattle.st_model.specs.{Values.value, Table.table, inside.Calls.Reads, View.IsKnown};
 ghost use Rattle.st_scope.specs.Classes.{class_association, class_on_side, class_named};
-ghost use Rattle.st_scope.specs.{Calls.class_of_name, Meanings.class_found, Owners.{IsOwner, class_of_owner}};
+ghost use Rattle.st_scope.specs.{Calls.class_of_name, inside.Meanings.class_found, inside.Owners.{IsOwner, class_of_owner}};
 
 use crate::fault::InstallFault;
 use crate::reading::{check_fields, class_of, fetch_field};

@@ -3,7 +3,7 @@
 ghost use Rattle.std.specs.Prelude.{◌≡◌, IfOk, true, false};
 ghost use Rattle.st_model.specs.{Values.value, Objects.is_bytes, Table.table, View.{is_live, object_of}};
 ghost use Rattle.st_scope.specs.{Tables.bytes_of, Variables.{name_of, names_of, own_names, field_names}};
-ghost use Rattle.st_scope.specs.{Meanings.values, Findings.{Finds, text_of, texts_of}};
+ghost use Rattle.st_scope.specs.{inside.Meanings.values, inside.Findings.{Finds, text_of, texts_of}};
 
 use crate::arrays::fields_or_none;
 use crate::reading::{check_live, fetch_field, is_bytes};

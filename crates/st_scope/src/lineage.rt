@@ -2,8 +2,8 @@
 
 ghost use Rattle.std.specs.Prelude.{◌≡◌};
 ghost use Rattle.st_model.specs.{Values.value, Table.table};
-ghost use Rattle.st_scope.specs.{Classes.{instance_lineage, metaclass_lineage, lineage}, Findings.Finds};
-ghost use Rattle.st_scope.specs.Lineages.{lineage_of};
+ghost use Rattle.st_scope.specs.{Classes.{instance_lineage, metaclass_lineage, lineage}, inside.Findings.Finds};
+ghost use Rattle.st_scope.specs.inside.Lineages.{lineage_of};
 
 use crate::chains::chain;
 use crate::reading::fetch_field;

@@ -3,10 +3,10 @@
 
 ghost use Rattle.std.specs.Prelude.{◌≡◌, IfOk, OnOk};
 ghost use Rattle.st_scan.specs.Views.{method_view, expression_view, expressions_view, messages_view};
-ghost use Rattle.st_scan.specs.{Views.statements_view, Chains.{link_view, links_view, IsStart}};
+ghost use Rattle.st_scan.specs.{Views.statements_view, inside.Chains.{link_view, links_view, IsStart}};
 ghost use Rattle.st_scope.specs.Mentions.{mentioned, mentioned_in, mentioned_by, mentioned_among};
-ghost use Rattle.st_scope.specs.Walks.{Mentions, mentions_of, target_mentioned, targets_mentioned};
-ghost use Rattle.st_scope.specs.Walks.{all_sent_mentioned, chained};
+ghost use Rattle.st_scope.specs.inside.Walks.{Mentions, mentions_of, target_mentioned, targets_mentioned};
+ghost use Rattle.st_scope.specs.inside.Walks.{all_sent_mentioned, chained};
 
 use st_scan::{Expression, Link, Message, MethodTree, Name, Statement};
 use std::alloc::{AllocError, Global};

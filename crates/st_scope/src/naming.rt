@@ -3,8 +3,8 @@
 ghost use Rattle.std.specs.Prelude.{◌≡◌, ◌++◌, is_some, OnOk};
 ghost use Rattle.st_model.specs.{Values.value, Table.table};
 ghost use Rattle.st_scan.specs.Views.{method_view};
-ghost use Rattle.st_scope.specs.{Calls.{as_table, names_seen, names}, Meanings.values_of};
-ghost use Rattle.st_scope.specs.Seen.{FindsNames, AnswersNames};
+ghost use Rattle.st_scope.specs.{Calls.{as_table, names_seen, names}, inside.Meanings.values_of};
+ghost use Rattle.st_scope.specs.inside.Seen.{FindsNames, AnswersNames};
 
 use crate::fault::InstallFault;
 use crate::fields::field_names;

@@ -2,8 +2,8 @@
 
 ghost use Rattle.std.specs.Prelude.{◌≡◌};
 ghost use Rattle.st_model.specs.{Values.value, Table.table};
-ghost use Rattle.st_scope.specs.{Variables.{pool_or_none, own_pools, pools}, Meanings.{values, values_of}};
-ghost use Rattle.st_scope.specs.Findings.{Finds};
+ghost use Rattle.st_scope.specs.{Variables.{pool_or_none, own_pools, pools}, inside.Meanings.{values, values_of}};
+ghost use Rattle.st_scope.specs.inside.Findings.{Finds};
 
 use crate::arrays::fields_or_none;
 use crate::reading::{count_fields, fetch_field};

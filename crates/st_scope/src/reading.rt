@@ -2,7 +2,7 @@
 
 ghost use Rattle.std.specs.Prelude.{◌≡◌, ◌≢◌, ◌≤◌, ◌&&◌, true, false, IfOk};
 ghost use Rattle.st_model.specs.{Values.value, Objects.is_bytes, Table.table};
-ghost use Rattle.st_model.specs.{Steps.{object, fetch_field, count_fields, class_of}, Calls.{Reads, itself}};
+ghost use Rattle.st_model.specs.{Steps.{object, fetch_field, count_fields, class_of}, inside.Calls.{Reads, itself}};
 ghost use Rattle.st_model.specs.View.{IsKnown, is_live, object_of};
 ghost use Rattle.st_scope.specs.{Tables.{check_fields, is_text}, Texts.text_at};
 

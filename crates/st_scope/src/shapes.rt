@@ -3,7 +3,7 @@
 ghost use Rattle.std.specs.Prelude.{◌≡◌, ◌-◌};
 ghost use Rattle.st_model.specs.Values.{value};
 ghost use Rattle.st_model.specs.Table.{table};
-ghost use Rattle.st_model.specs.Calls.{Reads, itself};
+ghost use Rattle.st_model.specs.inside.Calls.{Reads, itself};
 ghost use Rattle.st_scope.specs.Shapes.{is_power_of_two, check_dictionary, check_symbol_table, check_symbols};
 
 use crate::reading::{check_fields, count_fields, fetch_field};

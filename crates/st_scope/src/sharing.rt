@@ -1,8 +1,8 @@
 //! Variables that tables share.
 
 ghost use Rattle.std.specs.Prelude.{◌≡◌, Ok, true, IfSome};
-ghost use Rattle.st_model.specs.{Values.value, Table.table, Calls.Reads, View.is_live};
-ghost use Rattle.st_scope.specs.{Variables.{member_if_any, association_in}, Meanings.values, Texts.found};
+ghost use Rattle.st_model.specs.{Values.value, Table.table, inside.Calls.Reads, View.is_live};
+ghost use Rattle.st_scope.specs.{Variables.{member_if_any, association_in}, inside.Meanings.values, Texts.found};
 
 use crate::tables::member_named;
 use st_memory::Memory;

@@ -1,8 +1,8 @@
 //! Names that pools and the table of globals share, each sought once.
 
 ghost use Rattle.std.specs.Prelude.{IfOk, OnOk};
-ghost use Rattle.st_scope.specs.Walks.{mentions_of};
-ghost use Rattle.st_scope.specs.Sought.{NotesShared, NotesSought, Seeks, AreShared};
+ghost use Rattle.st_scope.specs.inside.Walks.{mentions_of};
+ghost use Rattle.st_scope.specs.inside.Sought.{NotesShared, NotesSought, Seeks, AreShared};
 
 use crate::sharing::association_in;
 use st_emit::NamedOops;

@@ -1,7 +1,7 @@
 //! Tables of names: the first member of a name.
 
 ghost use Rattle.std.specs.Prelude.{◌≡◌, Ok, true, IfOk, IfSome};
-ghost use Rattle.st_model.specs.{Values.value, Table.table, Calls.{Reads, itself}, View.is_live};
+ghost use Rattle.st_model.specs.{Values.value, Table.table, inside.Calls.{Reads, itself}, View.is_live};
 ghost use Rattle.st_scope.specs.{Tables.{member_key, has_name, member_named}, Texts.found};
 
 use crate::reading::{check_fields, count_fields, fetch_field, is_text};

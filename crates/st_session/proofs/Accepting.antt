@@ -13,19 +13,19 @@ use Rattle.st_store.specs.Names.{IsNoFileOf}
 use Rattle.st_protocol.specs.declared.refusal.Refusal.{Refusal}
 use Rattle.st_protocol.specs.declared.status.Status.{Status}
 use Rattle.st_protocol.specs.Courses.{replies}
-use Rattle.st_protocol.specs.Obeying.{Obeys}
+use Rattle.st_protocol.specs.inside.Obeying.{Obeys}
 use Rattle.st_protocol.proofs.Joins.{obeys_then, obeys_err}
 use Rattle.st_protocol.specs.Installing.{Installed, Refused, Accepted}
-use Rattle.st_protocol.specs.Installations.{InstallsAs}
+use Rattle.st_protocol.specs.inside.Installations.{InstallsAs}
 use Rattle.st_protocol.specs.declared.installation.Installation.TheVariants as installation
-use Rattle.st_recover.specs.Archives.{ArchiveState, Holds}
+use Rattle.st_recover.specs.inside.Archives.{ArchiveState, Holds}
 use Rattle.st_recover.specs.Commits.{Commit, OpensAs, accepting}
 use Rattle.st_session.specs.Points.{Point, alive}
 use Rattle.st_session.specs.Keeping.{in_a_store}
 use Rattle.st_session.specs.Answers.{defined_course}
 use Rattle.st_call.specs.Replies.{accepted_line, accepted_text, refused_text}
-use Rattle.st_session.specs.Standing.{shown_by, IsAt}
-use Rattle.st_call.specs.Telling.{Tells}
+use Rattle.st_session.specs.inside.Standing.{shown_by, IsAt}
+use Rattle.st_call.specs.inside.Telling.{Tells}
 use Rattle.st_session.proofs.Holding.{holds_said, holds_rest}
 use Rattle.st_session.proofs.Points.{GoesAs}
 use Rattle.st_session.proofs.Responding.{line_said}

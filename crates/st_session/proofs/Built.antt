@@ -8,7 +8,8 @@ use Rattle.st_protocol.specs.Statuses.{StatusHasCause}
 use Rattle.st_install.specs.Defining.{installed}
 use Rattle.st_kernel.specs.declared.fault.KernelFault.{KernelFault}
 use Rattle.st_kernel.specs.declared.fault.KernelFault.TheVariants as kernel
-use Rattle.st_kernel.specs.Built.{Built, Fault, built, IsFaultOf}
+use Rattle.st_kernel.specs.Built.{Built, Fault, built}
+use Rattle.st_kernel.specs.inside.Answered.{IsFaultOf}
 use Rattle.st_call.specs.declared.file.FileRefusal.{FileRefusal}
 use Rattle.st_call.specs.declared.file.FileRefusal.TheVariants as file
 use Rattle.st_session.specs.Builds.{Builds, IsWrongAt, IsWrongKernel, kernel_status}

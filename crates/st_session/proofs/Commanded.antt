@@ -35,7 +35,8 @@ use Rattle.st_protocol.proofs.Underways.{nothing_of}
 use Rattle.st_install.specs.Defining.{installed}
 use Rattle.st_protocol.specs.Installing.{Install}
 use Rattle.st_recover.specs.Commits.{Commit, OpensAs, all_of, stored_of}
-use Rattle.st_recover.specs.Openings.{IsFaulty, IsReopenedAs, Reopens, RefusesOpening, IsOfReopening, IsOfNamed, OpeningHasCause}
+use Rattle.st_recover.specs.Openings.{IsFaulty, Reopens, RefusesOpening, IsOfReopening, IsOfNamed, OpeningHasCause}
+use Rattle.st_recover.specs.inside.Reopened.{IsReopenedAs}
 use Rattle.st_recover.specs.Replays.{Loss, Replayed, replay}
 use Rattle.st_store.proofs.Determined.{one_stored}
 use Rattle.st_recover.proofs.Determined.{opens_as_read, stands}
@@ -45,10 +46,11 @@ use Rattle.st_recover.specs.declared.fault.OpenFault.TheVariants as opening
 use Rattle.st_call.specs.LastLines.{last_line, SaysLastLine}
 use Rattle.st_session.specs.Commands.{opening_status}
 use Rattle.st_session.specs.Ends.{IsCalm, SessionEnds}
-use Rattle.st_call.specs.Telling.{IsOfServing}
+use Rattle.st_call.specs.inside.Telling.{IsOfServing}
 use Rattle.st_session.specs.Resting.{GateFailed, OpensFrom, RestsBroken, RestsAcknowledged}
 use Rattle.st_session.specs.StoreSessions.{course_over, IsOfSession, IsRefused, KeepsPromise}
-use Rattle.st_session.specs.Opening.{IsOpen, session_over, session_so_far_over}
+use Rattle.st_session.specs.inside.OpenSessions.{IsOpen}
+use Rattle.st_session.specs.Opening.{session_over, session_so_far_over}
 use Rattle.st_session.proofs.LastLines.{quiet_line}
 
 -- WHAT FILES OPEN AS

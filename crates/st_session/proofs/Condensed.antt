@@ -20,7 +20,7 @@ use Rattle.st_recover.proofs.Commits.{IsOpenable, broken_commit}
 use Rattle.st_recover.proofs.Condensing.{condensed_commit, is_condensed, makes_condensed}
 use Rattle.st_call.specs.LastLines.{last_line, SaysLastLine}
 use Rattle.st_call.specs.Replies.{condensed_text}
-use Rattle.st_call.specs.Telling.{Tells}
+use Rattle.st_call.specs.inside.Telling.{Tells}
 use Rattle.st_session.specs.Ends.{status_in}
 use Rattle.st_session.specs.Exports.{IsOfExporting}
 use Rattle.st_session.specs.Condensings.{IsKeptAs, ResultHas, DoesCondense, CondenseHas}

@@ -12,21 +12,21 @@ use Rattle.st_model.specs.Machine.{State, Transition, Died, Went}
 use Rattle.st_model.specs.Births.{Births, births, borne, object_born}
 use Rattle.st_model.specs.Table.{Table}
 use Rattle.st_model.specs.Cycles.{cycle, run, run_of, finished, finished_of, and_on, counted}
-use Rattle.st_model.specs.Foreseen.{EndsShown}
+use Rattle.st_model.specs.inside.Foreseen.{EndsShown}
 use Rattle.st_model.specs.Show.{Shows, IsKept, pointer_of}
 use Rattle.st_model.specs.Text.{ran_text, dead_text, space_text, quit_text, debugger_text, said_value}
 use Rattle.st_host.specs.declared.host.Host.{Ghosts}
 use Rattle.st_host.specs.declared.host.SayFault.{SayFault}
 use Rattle.st_host.proofs.Telling.{OnlyNow}
-use Rattle.st_call.specs.Saying.{Pushes, said_in}
+use Rattle.st_call.specs.inside.Saying.{Pushes, said_in}
 use Rattle.st_call.proofs.Pushing.{push_none, push_then, push_begun, push_as}
 use Rattle.st_machine.specs.declared.ending.RunEnd.{RunEnd}
 use Rattle.st_machine.specs.declared.ending.RunEnd.TheVariants as end
-use Rattle.st_machine.specs.Runs.{EndsAs, cycles_of, transition_at, death_of}
+use Rattle.st_machine.specs.inside.Runs.{EndsAs, cycles_of, transition_at, death_of}
 use Rattle.st_session.specs.Points.{Being, Alive, Gone}
-use Rattle.st_session.specs.Runs.{end_text}
-use Rattle.st_session.specs.Standing.{IsBeing}
-use Rattle.st_session.specs.Stretches.{Stretch, words_of, saying, over, asking, cycle_stretch, stretch, StopsAs, went, PushesStretch}
+use Rattle.st_session.specs.inside.Runs.{end_text}
+use Rattle.st_session.specs.inside.Standing.{IsBeing}
+use Rattle.st_session.specs.inside.Stretches.{Stretch, words_of, saying, over, asking, cycle_stretch, stretch, StopsAs, went, PushesStretch}
 use Rattle.st_model.proofs.BirthLemmas.{pointer_of-borne}
 
 -- what follows where so many cycles are finished, so many are left, and the machine has come to this

@@ -13,23 +13,24 @@ use Rattle.st_model.specs.Show.{Shows, raised}
 use Rattle.st_model.specs.View.{View, IsWhole}
 use Rattle.st_model.specs.Contexts.{fetch_scheduled_registers}
 use Rattle.st_model.specs.Start.{idle_registers, idle_state}
-use Rattle.st_model.specs.Foreseen.{ShownAgain}
+use Rattle.st_model.specs.inside.Foreseen.{ShownAgain}
 use Rattle.st_simulation.proofs.Again.{fetched_shown}
 use Rattle.st_frames.specs.declared.frame.Frame.{Frame}
-use Rattle.st_frames.specs.Shown.{FetchesFrame, shown}
+use Rattle.st_frames.specs.inside.Shown.{FetchesFrame, shown}
 use Rattle.st_frames.proofs.Closed.{closed_idle}
 use Rattle.st_protocol.specs.declared.status.Status.{Status}
 use Rattle.st_protocol.specs.declared.status.Status.TheVariants as status
 use Rattle.st_install.specs.Defining.{installed}
 use Rattle.st_kernel.specs.declared.fault.KernelFault.{KernelFault}
 use Rattle.st_kernel.specs.declared.fault.KernelFault.TheVariants as kernel
-use Rattle.st_kernel.specs.Built.{Fault, built, IsBuilt, IsBegun, IsFaultOf}
+use Rattle.st_kernel.specs.Built.{Fault, built}
+use Rattle.st_kernel.specs.inside.Answered.{IsBuilt, IsBegun, IsFaultOf}
 use Rattle.st_kernel.specs.Drills.{drill_text}
 use Rattle.st_call.specs.LastLines.{SaysLastLine}
 use Rattle.st_session.specs.Builds.{Builds, IsWrongAt, kernel_status}
 use Rattle.st_session.specs.Drills.{BeginsDrill, IsDrill, IsNoDrill, DrillEnds, idle_over, drill_said}
 use Rattle.st_session.specs.Makings.{Contents, contents_in}
-use Rattle.st_session.specs.Reports.{Reports}
+use Rattle.st_session.specs.inside.Reporting.{Reports}
 
 -- THE MACHINE
 

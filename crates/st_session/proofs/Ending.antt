@@ -10,7 +10,7 @@ use Rattle.st_store.specs.Faults.{GateFails, RestsUnlessGate}
 use Rattle.st_protocol.specs.Acknowledged.{AcknowledgesEach}
 use Rattle.st_protocol.specs.Courses.{Deed, Reply, Keep, Course, Goes, Ends, deeds_of, said_of, commits_of, last_of, preceded, ended, IsEnd}
 use Rattle.st_protocol.specs.Done.{Did, RestsBetween, RestsWithin, Rests}
-use Rattle.st_protocol.specs.Obeying.{Obeys}
+use Rattle.st_protocol.specs.inside.Obeying.{Obeys}
 use Rattle.st_protocol.specs.Statuses.{IsFault, StatusHasCause}
 use Rattle.st_protocol.proofs.Courses.{deeds_preceded}
 use Rattle.st_protocol.proofs.Joins.{says_did, says_began, did_join, obeys_begun, obeys_says, obeys_spares}
@@ -23,7 +23,7 @@ use Rattle.st_session.specs.Points.{Point}
 use Rattle.st_session.specs.Keeping.{Keeping}
 use Rattle.st_session.specs.FirstLines.{opening_text}
 use Rattle.st_session.specs.Sessions.{follow, follow_rest, follow_script, longest, session}
-use Rattle.st_call.specs.Telling.{Tells}
+use Rattle.st_call.specs.inside.Telling.{Tells}
 use Rattle.st_session.specs.Ends.{status_in, IsCalm, DidTold, SessionEnds}
 use Rattle.st_session.specs.Resting.{RestsBroken, RestsAcknowledged}
 

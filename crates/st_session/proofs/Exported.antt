@@ -5,7 +5,7 @@ use Rattle.std.specs.Option.{option_or}
 use Rattle.st_host.specs.Files.{Files}
 use Rattle.st_host.specs.Runs.{LeavesOnly, NarrowsBut, ReadsAlike, ReadsAndSays, Changes, WritesAbove, Spares, IsAtRest}
 use Rattle.st_host.specs.Stops.{SaidPart, WhileSaying}
-use Rattle.st_host.specs.Telling.{Says}
+use Rattle.st_host.specs.inside.Telling.{Says}
 use Rattle.st_host.specs.declared.host.Host.{Ghosts}
 use Rattle.st_host.proofs.Joining.{weaker, moments_join}
 use Rattle.st_host.proofs.Rising.{rose_second}
@@ -17,7 +17,7 @@ use Rattle.st_model.specs.Births.{Births}
 use Rattle.st_model.specs.Table.{Table}
 use Rattle.st_model.specs.Show.{Shows, show}
 use Rattle.st_model.specs.Text.{dead_text}
-use Rattle.st_machine.specs.Asked.{SavedAs}
+use Rattle.st_machine.specs.inside.Asked.{SavedAs}
 use Rattle.st_store.specs.Names.{roots_file, changes_file, image_file, IsNoFileOf}
 use Rattle.st_store.specs.Stored.{StoreState, IsKept, IsOpening}
 use Rattle.st_store.specs.declared.fault.StoreFault.TheVariants as unmade
@@ -33,7 +33,7 @@ use Rattle.st_recover.proofs.Determined.{same_commit}
 use Rattle.st_call.specs.LastLines.{last_line, SaysLastLine}
 use Rattle.st_session.specs.Commands.{opening_status}
 use Rattle.st_session.specs.Ends.{IsCalm, status_in}
-use Rattle.st_call.specs.Telling.{Tells}
+use Rattle.st_call.specs.inside.Telling.{Tells}
 use Rattle.st_session.specs.Exports.{Export, ExportsImage, ExportsSaved, IsOfExporting, IsOfExport, LeavesOthers, HasExported, HasImage, ExportHas, Stays, DoesExport}
 use Rattle.st_session.specs.declared.extent.Extent.{Extent}
 use Rattle.st_session.specs.Resting.{OpensFrom}

@@ -13,7 +13,7 @@ use Rattle.st_chunk.specs.Scripts.{Asked, asked_by, asked_from, asked_at_end, to
 use Rattle.st_protocol.specs.declared.status.Status.{Status}
 use Rattle.st_protocol.specs.declared.status.Status.TheVariants as status
 use Rattle.st_protocol.specs.Courses.{Course, Ends, and_then}
-use Rattle.st_protocol.specs.Obeying.{Obeys}
+use Rattle.st_protocol.specs.inside.Obeying.{Obeys}
 use Rattle.st_protocol.proofs.Courses.{preceded_none, then_then, then_goes}
 use Rattle.st_protocol.proofs.Joins.{obeys_as, obeys_then, obeys_err, obeys_end}
 use Rattle.st_protocol.specs.Installing.{Install}

@@ -13,7 +13,7 @@ use Rattle.st_chunk.specs.Groups.{trimmed, Header, header_of}
 use Rattle.st_chunk.specs.Definitions.{group_definitions}
 use Rattle.st_chunk.specs.Reading.{Place, InLine, Opened, InHeader, InMethods, Defined, Reading, Told, begun, start_with, method_told, method_byte, method_ended, line_byte, byte_in, line_from, line_behind, read}
 use Rattle.st_chunk.specs.Scripts.{Asked, Defines, asked_by, asked_from}
-use Rattle.st_session.specs.ScriptGroups.{IsChunk, IsMethod, line_after, GroupsByBytes}
+use Rattle.st_session.specs.inside.ScriptGroups.{IsChunk, IsMethod, line_after, GroupsByBytes}
 use Rattle.st_chunk.proofs.Cases.{by_test}
 
 abbrev within : List ℕ → State

@@ -2,12 +2,12 @@
 use Rattle.std.proofs.Common.{ℕ, List, IsTrue}
 use Rattle.std.specs.Prelude.{Option}
 use Rattle.st_host.specs.Runs.{IsAtRest}
-use Rattle.st_host.specs.Telling.{Says}
+use Rattle.st_host.specs.inside.Telling.{Says}
 use Rattle.st_host.specs.declared.host.Host.{Ghosts}
 use Rattle.st_store.specs.Names.{roots_file, changes_file, image_file}
 use Rattle.st_store.specs.Stored.{Stored, StoreState, IsKept}
 use Rattle.st_store.proofs.Turning.{rests}
-use Rattle.st_recover.specs.Archives.{ArchiveState, Holds, store_of}
+use Rattle.st_recover.specs.inside.Archives.{ArchiveState, Holds, store_of}
 use Rattle.st_recover.specs.Commits.{Commit, OpensAs, stored_of}
 
 module _ {D : Type 0} (host : Ghosts D) where

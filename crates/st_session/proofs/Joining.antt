@@ -15,7 +15,7 @@ use Rattle.st_protocol.specs.declared.status.Status.{Status}
 use Rattle.st_session.specs.declared.making.Origin.{Origin}
 use Rattle.st_session.specs.Condensings.{IsWhole}
 use Rattle.st_session.specs.Makings.{Contents, commit_of, IsBeingMade}
-use Rattle.st_session.specs.Joining.{BeginsWith, MayBegin, RestJoins, ReadyJoins, SessionJoins, FollowedJoins, RefusedJoins, ExportJoins, CondenseJoins, MakingJoins, BegunJoins}
+use Rattle.st_session.specs.inside.Joining.{BeginsWith, MayBegin, RestJoins, ReadyJoins, SessionJoins, FollowedJoins, RefusedJoins, ExportJoins, CondenseJoins, MakingJoins, BegunJoins}
 use Rattle.st_session.proofs.Commanded.{opens_still}
 use Rattle.st_session.proofs.Readied.{rest_ready}
 

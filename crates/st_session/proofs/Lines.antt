@@ -13,8 +13,8 @@ use Rattle.st_model.specs.Text.{dead_text}
 use Rattle.st_model.specs.View.{View}
 use Rattle.st_host.specs.declared.host.Host.{Ghosts}
 use Rattle.st_host.specs.declared.host.SayFault.{SayFault}
-use Rattle.st_call.specs.Saying.{Pushes}
-use Rattle.st_machine.specs.Asked.{TakenAs}
+use Rattle.st_call.specs.inside.Saying.{Pushes}
+use Rattle.st_machine.specs.inside.Asked.{TakenAs}
 use Rattle.st_chunk.specs.declared.request.Request.{Request}
 use Rattle.st_chunk.specs.declared.request.Request.TheVariants as request
 use Rattle.st_chunk.specs.Asks.{Side, Ask, ask_of}
@@ -30,8 +30,8 @@ use Rattle.st_session.specs.Keeping.{Keeping}
 use Rattle.st_call.specs.Replies.{ok_text, full_text}
 use Rattle.st_session.specs.Answers.{dead_line, event_course, named_course, living_line, answer}
 use Rattle.st_session.specs.Browsing.{asked_text, memory_of}
-use Rattle.st_session.specs.Asking.{IsSaying}
-use Rattle.st_session.specs.Pushing.{PushesCourse}
+use Rattle.st_session.specs.inside.Asking.{IsSaying}
+use Rattle.st_session.specs.inside.Pushing.{PushesCourse}
 use Rattle.st_session.proofs.Saying.{KeepsNone}
 use Rattle.st_session.proofs.Stretches.{all_ok, course_replies}
 

@@ -15,15 +15,15 @@ use Rattle.st_host.specs.declared.host.Host.{Ghosts}
 use Rattle.st_host.specs.declared.host.SayFault.{SayFault}
 use Rattle.st_host.specs.Counts.{HasCause, Rose}
 use Rattle.st_host.specs.Runs.{SaysAll}
-use Rattle.st_host.specs.Telling.{Says}
+use Rattle.st_host.specs.inside.Telling.{Says}
 use Rattle.st_host.proofs.Telling.{says_begun}
 use Rattle.st_frames.specs.declared.frame.Frame.{Frame}
-use Rattle.st_frames.specs.Shown.{IsReady, shown}
+use Rattle.st_frames.specs.inside.Shown.{IsReady, shown}
 use Rattle.st_protocol.specs.declared.status.Status.{Status}
 use Rattle.st_protocol.specs.declared.status.Status.TheVariants as status
 use Rattle.st_session.specs.Browsing.{memory_of}
-use Rattle.st_session.specs.Standing.{shown_by}
-use Rattle.st_call.specs.Telling.{Tells}
+use Rattle.st_session.specs.inside.Standing.{shown_by}
+use Rattle.st_call.specs.inside.Telling.{Tells}
 use Rattle.st_call.proofs.Saying.{tells_all, tells_part}
 use Rattle.st_session.proofs.Saying.{tells_behind}
 

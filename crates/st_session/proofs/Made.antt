@@ -5,7 +5,7 @@ use Rattle.st_host.specs.Counts.{Rose}
 use Rattle.st_host.specs.Files.{Files, bytes_of}
 use Rattle.st_host.specs.Runs.{LeavesOnly, OnlyReads, Narrows, ReadsAlike, ReadsAndSays, SaysAll, Spares, IsAtRest}
 use Rattle.st_host.specs.Stops.{Here, SaidPart, WhileSaying}
-use Rattle.st_host.specs.Telling.{Says}
+use Rattle.st_host.specs.inside.Telling.{Says}
 use Rattle.st_host.specs.declared.host.Host.{Ghosts}
 use Rattle.st_host.proofs.Joining.{weaker, moments_join}
 use Rattle.st_host.proofs.Rising.{rose_second}

@@ -24,7 +24,7 @@ use Rattle.st_recover.specs.Replays.{Replayed, replay}
 use Rattle.st_recover.specs.declared.fault.OpenFault.{OpenFault}
 use Rattle.st_recover.specs.declared.fault.OpenFault.TheVariants as opening
 use Rattle.st_recover.proofs.Determined.{same_commit}
-use Rattle.st_session.specs.OneOpening.{Opening, Gives, Refused, IsOfFiles, OpensWith, OneAnswer, OpensGives, RefusedIs, FollowedIs, StaysIs}
+use Rattle.st_session.specs.inside.OneOpening.{Opening, Gives, Refused, IsOfFiles, OpensWith, OneAnswer, OpensGives, RefusedIs, FollowedIs, StaysIs}
 use Rattle.st_session.proofs.Commanded.{one_opening, changes_whole}
 
 module _ (name : List ℕ) (f : Files) where

@@ -9,7 +9,7 @@ use Rattle.st_model.specs.Show.{Shows, raised}
 use Rattle.st_model.specs.View.{View, IsWhole, no_devices}
 use Rattle.st_model.proofs.Raised.{raised_shown}
 use Rattle.st_frames.specs.declared.frame.Frame.{Frame}
-use Rattle.st_frames.specs.Shown.{IsFrame, IsReady, filled}
+use Rattle.st_frames.specs.inside.Shown.{IsFrame, IsReady, filled}
 use Rattle.st_frames.proofs.Closed.{is_closed}
 use Rattle.st_machine.specs.declared.machine.Machine.{Machine}
 use Rattle.st_host.specs.Runs.{IsAtRest}
@@ -17,11 +17,11 @@ use Rattle.st_host.specs.declared.host.Host.{Ghosts}
 use Rattle.st_store.specs.Names.{IsNoFileOf}
 use Rattle.st_protocol.specs.declared.status.Status.{Status}
 use Rattle.st_protocol.specs.Courses.{Course}
-use Rattle.st_protocol.specs.Obeying.{Obeys}
-use Rattle.st_recover.specs.Archives.{ArchiveState, Holds}
+use Rattle.st_protocol.specs.inside.Obeying.{Obeys}
+use Rattle.st_recover.specs.inside.Archives.{ArchiveState, Holds}
 use Rattle.st_recover.specs.Commits.{Commit, OpensAs}
 use Rattle.st_session.specs.Points.{Being, Alive, Gone, Point}
-use Rattle.st_session.specs.Standing.{IsBeing, shown_by, IsAt}
+use Rattle.st_session.specs.inside.Standing.{IsBeing, shown_by, IsAt}
 use Rattle.st_session.proofs.Holding.{holds_rest}
 use Rattle.st_recover.proofs.Restoring.{filled_empty}
 

@@ -1,7 +1,7 @@
 -- Where a store is at rest, each root that a stop may leave chosen names what is firm.
 use Rattle.std.proofs.Common.{◌≡◌, ◌≢◌, ◌⊎◌, inl, inr, ⊎_elim, ℕ, List, Option, IsTrue, refl, sym, ap, subst, ◌∙◌}
 use Rattle.st_host.specs.Files.{Files, bytes_of}
-use Rattle.st_host.specs.Names.{same_or_other}
+use Rattle.st_host.specs.inside.Names.{same_or_other}
 use Rattle.st_host.specs.Runs.{IsAtRest}
 use Rattle.st_host.specs.declared.host.Host.{Ghosts}
 use Rattle.st_store.specs.Names.{roots_file, changes_file, image_file}

@@ -17,16 +17,17 @@ use Rattle.st_host.specs.declared.host.Host.{Ghosts}
 use Rattle.st_host.specs.declared.host.SayFault.{SayFault}
 use Rattle.st_host.specs.Counts.{HasCause}
 use Rattle.st_host.specs.Runs.{SaysAll}
-use Rattle.st_host.specs.Telling.{Says}
+use Rattle.st_host.specs.inside.Telling.{Says}
 use Rattle.st_host.proofs.Rising.{cause_after}
-use Rattle.st_call.specs.Saying.{Pushes}
+use Rattle.st_call.specs.inside.Saying.{Pushes}
 use Rattle.st_call.proofs.Pushing.{push_then, push_begun, push_as, pushed_all, pushed_part, pushed_says}
 use Rattle.st_session.specs.Points.{Being, Alive, Gone, Point}
 use Rattle.st_session.specs.Keeping.{keeps_nothing}
 use Rattle.st_session.specs.Answers.{cycle_course, run_course}
-use Rattle.st_session.specs.Reports.{Line, cycles, text_of, being_text, shown_text, line_text, run_text, text_at, Reports}
-use Rattle.st_session.specs.Pushing.{LeadsTo, PushesCourse}
-use Rattle.st_session.specs.Standing.{IsBeing}
+use Rattle.st_session.specs.Reports.{Line, cycles, text_of, being_text, shown_text, line_text, run_text, text_at}
+use Rattle.st_session.specs.inside.Reporting.{Reports}
+use Rattle.st_session.specs.inside.Pushing.{LeadsTo, PushesCourse}
+use Rattle.st_session.specs.inside.Standing.{IsBeing}
 use Rattle.st_session.proofs.Stretches.{Deeds}
 use Rattle.st_session.proofs.Unseen.{run_ends, run_begins}
 

@@ -14,12 +14,12 @@ use Rattle.st_protocol.specs.Statuses.{StatusHasCause}
 use Rattle.st_protocol.proofs.Joins.{obeys_as, obeys_then, obeys_err, counts_behind}
 use Rattle.st_install.specs.Defining.{installed}
 use Rattle.st_recover.specs.Commits.{Commit, OpensAs}
-use Rattle.st_call.specs.Telling.{IsOfServing}
+use Rattle.st_call.specs.inside.Telling.{IsOfServing}
 use Rattle.st_session.specs.declared.kept.Kept.{Kept}
 use Rattle.st_session.specs.Keeping.{in_a_store}
 use Rattle.st_session.specs.Points.{Point}
 use Rattle.st_session.specs.Sessions.{follow}
-use Rattle.st_session.specs.Standing.{MayGoOn, IsAt, FollowsSome, Serves}
+use Rattle.st_session.specs.inside.Standing.{MayGoOn, IsAt, FollowsSome, Serves}
 use Rattle.st_session.proofs.Following.{follow_both, told_both, ends_then, ends_err}
 use Rattle.st_session.proofs.Points.{named_so, at_rest}
 use Rattle.st_session.proofs.Responding.{stays_now}

@@ -12,12 +12,12 @@ use Rattle.st_protocol.specs.declared.status.Status.TheVariants as status
 use Rattle.st_protocol.specs.Courses.{Course, Goes, Ends, deeds_of, said_of, replies}
 use Rattle.st_protocol.proofs.Joins.{obeys_none, obeys_end, obeys_fault}
 use Rattle.st_protocol.specs.Statuses.{IsFault}
-use Rattle.st_recover.specs.Archives.{ArchiveState, Holds}
+use Rattle.st_recover.specs.inside.Archives.{ArchiveState, Holds}
 use Rattle.st_recover.specs.Commits.{Commit, OpensAs}
 use Rattle.st_session.specs.Points.{Point}
-use Rattle.st_session.specs.Pushing.{PushesCourse}
-use Rattle.st_session.specs.Standing.{IsAt, StandsAt}
-use Rattle.st_call.specs.Telling.{Tells}
+use Rattle.st_session.specs.inside.Pushing.{PushesCourse}
+use Rattle.st_session.specs.inside.Standing.{IsAt, StandsAt}
+use Rattle.st_call.specs.inside.Telling.{Tells}
 use Rattle.st_session.proofs.Holding.{holds_said, holds_rest}
 use Rattle.st_session.proofs.Points.{GoesAs}
 use Rattle.st_session.proofs.Saying.{KeepsNone, tells_pushed, tells_cut, obeys_said, obeys_tells, when_ok}

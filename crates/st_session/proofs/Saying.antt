@@ -8,22 +8,22 @@ use Rattle.st_host.specs.declared.host.Host.{Ghosts}
 use Rattle.st_host.specs.declared.host.SayFault.{SayFault}
 use Rattle.st_host.specs.Files.{Files}
 use Rattle.st_host.specs.Runs.{SaysAll, IsAtRest}
-use Rattle.st_host.specs.Telling.{Says}
+use Rattle.st_host.specs.inside.Telling.{Says}
 use Rattle.st_host.proofs.Joining.{all_join}
 use Rattle.st_host.proofs.Rising.{rose_second}
 use Rattle.st_host.proofs.Telling.{says_then}
-use Rattle.st_call.specs.Saying.{Pushes}
+use Rattle.st_call.specs.inside.Saying.{Pushes}
 use Rattle.st_call.proofs.Pushing.{pushed_all, pushed_says, pushed_part}
 use Rattle.st_protocol.specs.declared.status.Status.{Status}
 use Rattle.st_protocol.specs.declared.status.Status.TheVariants as status
 use Rattle.st_protocol.specs.Courses.{Course, Goes, Ends, deeds_of, said_of, commits_of, replies}
 use Rattle.st_protocol.specs.Statuses.{StatusHasCause, EndHasCause}
-use Rattle.st_protocol.specs.Obeying.{Obeys}
+use Rattle.st_protocol.specs.inside.Obeying.{Obeys}
 use Rattle.st_protocol.proofs.Courses.{last_unkept}
 use Rattle.st_protocol.proofs.Joins.{said_did, said_began, obeys_reply, obeys_unsaid, obeys_began}
-use Rattle.st_call.specs.Telling.{IsSayFault, Tells}
-use Rattle.st_session.specs.Pushing.{LeadsTo, PushesCourse}
-use Rattle.st_session.specs.Stretches.{Stretch, words_of, PushesStretch, SaysStretch}
+use Rattle.st_call.specs.inside.Telling.{IsSayFault, Tells}
+use Rattle.st_session.specs.inside.Pushing.{LeadsTo, PushesCourse}
+use Rattle.st_session.specs.inside.Stretches.{Stretch, words_of, PushesStretch, SaysStretch}
 
 -- a course that keeps nothing, and leads to what was kept before
 abbrev pub KeepsNone : {C X : Type 0} → (X → C) → C → Course C X → Type 0

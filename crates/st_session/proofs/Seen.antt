@@ -11,28 +11,28 @@ use Rattle.st_model.specs.Machine.{State, Transition, Died, Went}
 use Rattle.st_model.specs.Births.{Births, births}
 use Rattle.st_model.specs.Table.{Table}
 use Rattle.st_model.specs.Cycles.{cycle, run, run_of, finished, finished_of, and_on, counted}
-use Rattle.st_model.specs.Foreseen.{EndsShown}
+use Rattle.st_model.specs.inside.Foreseen.{EndsShown}
 use Rattle.st_model.specs.Show.{Shows, IsKept, pointer_of, show}
 use Rattle.st_model.specs.Text.{ran_text, dead_text, space_text, quit_text, debugger_text, said_value}
 use Rattle.st_host.specs.declared.host.Host.{Ghosts}
 use Rattle.st_host.specs.declared.host.SayFault.{SayFault}
 use Rattle.st_host.proofs.Telling.{OnlyNow}
-use Rattle.st_call.specs.Saying.{Pushes, said_in}
+use Rattle.st_call.specs.inside.Saying.{Pushes, said_in}
 use Rattle.st_call.proofs.Pushing.{push_none, push_then, push_begun, push_as}
 use Rattle.st_machine.specs.declared.ending.RunEnd.{RunEnd}
 use Rattle.st_machine.specs.declared.ending.RunEnd.TheVariants as end
 use Rattle.st_machine.specs.Prepared.{prepared, PreparedAs}
 use Rattle.st_machine.proofs.Once.{cycle_goes_on, cycle_dies}
-use Rattle.st_machine.specs.Runs.{EndsAs, cycles_of, transition_at, death_of}
+use Rattle.st_machine.specs.inside.Runs.{EndsAs, cycles_of, transition_at, death_of}
 use Rattle.st_session.specs.declared.watching.Cycled.{Cycled}
 use Rattle.st_session.specs.declared.watching.Cycled.TheVariants as cycled
 use Rattle.st_session.specs.Points.{Being, Alive, Gone}
-use Rattle.st_session.specs.Runs.{end_text}
-use Rattle.st_session.specs.Standing.{IsBeing}
-use Rattle.st_session.specs.Stretches.{Over, Asked, Stretch, words_of, saying, over, cycle_stretch, StopsAs, went, PushesStretch}
+use Rattle.st_session.specs.inside.Runs.{end_text}
+use Rattle.st_session.specs.inside.Standing.{IsBeing}
+use Rattle.st_session.specs.inside.Stretches.{Over, Asked, Stretch, words_of, saying, over, cycle_stretch, StopsAs, went, PushesStretch}
 use Rattle.st_session.specs.Watching.{Look, Says, Stops, entry_seen, stopped_text}
 use Rattle.st_debug.specs.Watched.{is_entered}
-use Rattle.st_session.specs.Watched.{looked_stretch, look_stretch, seen_cycle, watched_cycle, watched_stretch, texts_seen, is_stop, Next, Onward, Halts, after_next, StandsNext, PushesCycle}
+use Rattle.st_session.specs.inside.Watched.{looked_stretch, look_stretch, seen_cycle, watched_cycle, watched_stretch, texts_seen, is_stop, Next, Onward, Halts, after_next, StandsNext, PushesCycle}
 use Rattle.st_session.proofs.Cycles.{back, value_said, words_both, saying_both}
 
 -- ONE CYCLE

@@ -10,14 +10,14 @@ use Rattle.st_protocol.specs.declared.status.Status.{Status}
 use Rattle.st_protocol.specs.declared.status.Status.TheVariants as status
 use Rattle.st_protocol.specs.Courses.{Course}
 use Rattle.st_protocol.specs.Statuses.{StatusHasCause}
-use Rattle.st_recover.specs.Archives.{IsOfKeeping}
+use Rattle.st_recover.specs.inside.Archives.{IsOfKeeping}
 use Rattle.st_recover.specs.Commits.{Commit}
-use Rattle.st_call.specs.Telling.{IsOfServing, Tells}
+use Rattle.st_call.specs.inside.Telling.{IsOfServing, Tells}
 use Rattle.st_session.specs.declared.kept.Kept.{Kept}
 use Rattle.st_session.specs.Keeping.{in_a_store}
 use Rattle.st_session.specs.Points.{Point}
 use Rattle.st_session.specs.Sessions.{follow}
-use Rattle.st_session.specs.Standing.{MayGoOn, Follows, Serves}
+use Rattle.st_session.specs.inside.Standing.{MayGoOn, Follows, Serves}
 use Rattle.st_session.proofs.Saying.{when_ok}
 use Rattle.st_session.proofs.Starving.{never_starved}
 

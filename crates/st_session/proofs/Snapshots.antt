@@ -13,30 +13,30 @@ use Rattle.st_host.specs.Files.{Files}
 use Rattle.st_host.specs.Runs.{IsAtRest, Makes, Spares}
 use Rattle.st_host.specs.declared.host.Host.{Ghosts}
 use Rattle.st_host.proofs.Telling.{OnlyNow}
-use Rattle.st_image.specs.Back.{CanStart}
+use Rattle.st_image.specs.inside.Back.{CanStart}
 use Rattle.st_image.proofs.Saved.{saved_starts}
 use Rattle.st_machine.specs.declared.machine.Machine.{Machine}
-use Rattle.st_machine.specs.Asked.{SavedAs}
+use Rattle.st_machine.specs.inside.Asked.{SavedAs}
 use Rattle.st_store.specs.Faults.{RestsUnlessGate}
 use Rattle.st_store.specs.Names.{IsNoFileOf}
 use Rattle.st_protocol.specs.declared.status.Status.{Status}
 use Rattle.st_protocol.specs.declared.status.Status.TheVariants as status
 use Rattle.st_protocol.specs.Courses.{Deed, Course, Goes, Ends, said_of, last_of, preceded, and_then, replies}
 use Rattle.st_protocol.specs.Done.{Did}
-use Rattle.st_protocol.specs.Obeying.{Obeys}
+use Rattle.st_protocol.specs.inside.Obeying.{Obeys}
 use Rattle.st_protocol.proofs.Courses.{preceded_none, preceded_both, last_of_both, last_unkept}
 use Rattle.st_protocol.proofs.Joins.{did_none, did_join, said_did, said_began, kept_and_said, kept_unsaid, unkept as image_lost, obeys_none, obeys_as, obeys_behind, obeys_begun, obeys_then, obeys_err}
-use Rattle.st_recover.specs.Archives.{ArchiveState, Holds}
+use Rattle.st_recover.specs.inside.Archives.{ArchiveState, Holds}
 use Rattle.st_recover.specs.Commits.{Commit, OpensAs, imaged, image_with}
 use Rattle.st_session.specs.Points.{Being, Alive, Gone, Point, alive, gone}
 use Rattle.st_session.specs.Keeping.{in_a_store, imaging, image_of, saved}
 use Rattle.st_session.specs.Answers.{going_on, watched_course}
 use Rattle.st_call.specs.Replies.{snapshot_text}
-use Rattle.st_session.specs.Standing.{IsBeing, shown_by, IsAt}
-use Rattle.st_session.specs.Stretches.{Stretch, words_of, SaysStretch}
-use Rattle.st_session.specs.Watched.{watched_stretch}
+use Rattle.st_session.specs.inside.Standing.{IsBeing, shown_by, IsAt}
+use Rattle.st_session.specs.inside.Stretches.{Stretch, words_of, SaysStretch}
+use Rattle.st_session.specs.inside.Watched.{watched_stretch}
 use Rattle.st_session.specs.Watching.{Look}
-use Rattle.st_call.specs.Telling.{Tells}
+use Rattle.st_call.specs.inside.Telling.{Tells}
 use Rattle.st_session.proofs.Holding.{holds_said, holds_rest}
 use Rattle.st_session.proofs.Points.{GoesAs}
 use Rattle.st_session.proofs.Saying.{obeys_tells, when_ok}

@@ -9,12 +9,12 @@ use Rattle.st_protocol.specs.declared.status.Status.{Status}
 use Rattle.st_protocol.specs.declared.status.Status.TheVariants as status
 use Rattle.st_protocol.specs.Courses.{replies}
 use Rattle.st_protocol.specs.Statuses.{Counts}
-use Rattle.st_recover.specs.Archives.{ArchiveState, Holds}
+use Rattle.st_recover.specs.inside.Archives.{ArchiveState, Holds}
 use Rattle.st_recover.specs.Commits.{Commit}
-use Rattle.st_call.specs.Telling.{IsOfServing}
-use Rattle.st_session.specs.Browsing.{TellsOrStarves}
+use Rattle.st_call.specs.inside.Telling.{IsOfServing}
+use Rattle.st_session.specs.inside.Starving.{TellsOrStarves}
 use Rattle.st_session.specs.Points.{Point}
-use Rattle.st_session.specs.Standing.{StandsAt}
+use Rattle.st_session.specs.inside.Standing.{StandsAt}
 use Rattle.st_session.proofs.Points.{GoesAs}
 use Rattle.st_session.proofs.Responding.{line_said, fails_now}
 use Rattle.st_session.proofs.Starving.{never_starved}

@@ -13,7 +13,7 @@ use Rattle.st_chunk.specs.Asks.{Side, Ask, Object, Display, Classes, Methods, So
 use Rattle.st_changes.specs.Last.{HasSelector, IsOf, IsNowhere, IsLastText}
 use Rattle.st_model.specs.View.{View}
 use Rattle.st_browse.specs.Asked.{IsTextFor}
-use Rattle.st_browse.specs.Decompiling.{IsKeptOrMade, IsShown}
+use Rattle.st_browse.specs.inside.MadeTexts.{IsKeptOrMade, IsShown}
 use Rattle.st_session.specs.Decompiled.{made_text}
 use Rattle.st_session.proofs.Written.{made_is}
 use Rattle.st_grammar.specs.Syntax.{syntax}

@@ -15,12 +15,12 @@ use Rattle.st_protocol.specs.declared.status.Status.TheVariants as status
 use Rattle.st_protocol.specs.Acknowledged.{acknowledged, acknowledged_from, AcknowledgesEach}
 use Rattle.st_protocol.specs.Courses.{Deed, Reply, Keep, Course, Goes, Ends, deeds_of, said_of, commits_of, last_of, and_then, ended}
 use Rattle.st_protocol.specs.Done.{Did}
-use Rattle.st_protocol.specs.Obeying.{Obeys}
+use Rattle.st_protocol.specs.inside.Obeying.{Obeys}
 use Rattle.st_protocol.proofs.Counting.{acknowledged_both}
 use Rattle.st_protocol.proofs.Courses.{deeds_preceded}
 use Rattle.st_protocol.proofs.Joins.{did_join, obeys_did}
 use Rattle.st_protocol.specs.Installing.{Install}
-use Rattle.st_call.specs.Telling.{IsSayFault}
+use Rattle.st_call.specs.inside.Telling.{IsSayFault}
 use Rattle.st_install.specs.Defining.{installed}
 use Rattle.st_recover.specs.Commits.{Commit, OpensAs}
 use Rattle.st_recover.specs.Replays.{Loss}

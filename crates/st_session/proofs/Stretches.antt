@@ -13,17 +13,17 @@ use Rattle.st_model.specs.Text.{said_value}
 use Rattle.st_host.specs.declared.host.Host.{Ghosts}
 use Rattle.st_host.specs.declared.host.SayFault.{SayFault}
 use Rattle.st_host.proofs.Telling.{OnlyNow}
-use Rattle.st_call.specs.Saying.{Pushes}
+use Rattle.st_call.specs.inside.Saying.{Pushes}
 use Rattle.st_call.proofs.Pushing.{push_none, push_then, push_begun, push_as}
 use Rattle.st_protocol.specs.Courses.{Deed, Reply, Course, Goes, Ends, deeds_of, said_of, commits_of, preceded, and_then, replies}
 use Rattle.st_protocol.proofs.Courses.{said_of_both, preceded_none, preceded_both, deeds_preceded}
 use Rattle.st_session.specs.Points.{Being, Point}
 use Rattle.st_session.specs.Keeping.{Keeping, keeps_nothing}
 use Rattle.st_session.specs.Answers.{going_on, cycle_course, run_course}
-use Rattle.st_session.specs.Standing.{IsBeing}
-use Rattle.st_session.specs.Stretches.{Stop, Over, Asked, Stretch, words_of, cycle_stretch, stretch, StopsAs, PushesStretch}
+use Rattle.st_session.specs.inside.Standing.{IsBeing}
+use Rattle.st_session.specs.inside.Stretches.{Stop, Over, Asked, Stretch, words_of, cycle_stretch, stretch, StopsAs, PushesStretch}
 use Rattle.st_session.specs.Reports.{Line, cycles}
-use Rattle.st_session.specs.Pushing.{LeadsTo, PushesCourse}
+use Rattle.st_session.specs.inside.Pushing.{LeadsTo, PushesCourse}
 use Rattle.st_session.proofs.Unseen.{run_ends, run_begins}
 
 -- texts that are said in turn, as deeds

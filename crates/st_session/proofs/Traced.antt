@@ -14,8 +14,8 @@ use Rattle.st_session.specs.Points.{Being, Alive, Gone, Point, gone}
 use Rattle.st_session.specs.Keeping.{Keeping}
 use Rattle.st_session.specs.Watching.{bytecode_texts, bytecode_seen}
 use Rattle.st_session.specs.Answers.{going_on, cycle_course, run_course, look_at, watched_course}
-use Rattle.st_session.specs.Traces.{states_from, states_behind, states_after, states_of, texts_at, texts_of, Laid, Traces}
-use Rattle.st_session.specs.Traces as laid
+use Rattle.st_session.specs.inside.Traces.{states_from, states_behind, states_after, states_of, texts_at, texts_of, Laid, Traces}
+use Rattle.st_session.specs.inside.Traces as laid
 use Rattle.st_session.proofs.Unseen.{run_begins}
 
 laid_itself : {C : Type 0} (ds : List (Deed C)) → Laid [] ds ds

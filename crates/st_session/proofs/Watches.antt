@@ -11,9 +11,9 @@ use Rattle.st_protocol.proofs.Courses.{preceded_both}
 use Rattle.st_session.specs.Points.{Point}
 use Rattle.st_session.specs.Keeping.{Keeping}
 use Rattle.st_session.specs.Answers.{cycle_course, looked, look_at, watched_course}
-use Rattle.st_session.specs.Stretches.{Stretch, cycle_stretch, stretch}
+use Rattle.st_session.specs.inside.Stretches.{Stretch, cycle_stretch, stretch}
 use Rattle.st_session.specs.Watching.{Look, Says, Stops, nothing_seen}
-use Rattle.st_session.specs.Watched.{looked_stretch, look_stretch, watched_stretch}
+use Rattle.st_session.specs.inside.Watched.{looked_stretch, look_stretch, watched_stretch}
 use Rattle.st_session.proofs.Stretches.{replies_of, onward, StartsWith, cycle_is}
 
 replies_both : (C : Type 0) (a b : List (List ℕ)) → replies_of {C = C} (a ++ b) ≡ replies_of a ++ replies_of b

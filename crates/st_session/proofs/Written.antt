@@ -11,13 +11,15 @@ use Rattle.st_code.specs.Methods.{PartsView, code}
 use Rattle.st_parts.specs.Parts.{Place, parts_at}
 use Rattle.st_expression_stack.specs.Names.{calling_of, name_in}
 use Rattle.st_decompile.specs.Whole.{candidate}
-use Rattle.st_decompile.specs.Answers.{IsSource, IsSourceOf}
+use Rattle.st_decompile.specs.inside.Answers.{IsSource, IsSourceOf}
 use Rattle.st_decompile.proofs.Finding.{none_found, back_is}
 use Rattle.st_decompile.proofs.Sameness.{parts_are, parts_same}
 use Rattle.st_chunk.specs.Asks.{Side}
-use Rattle.st_grammar.specs.Syntax.{IsSyntax, syntax}
+use Rattle.st_grammar.specs.inside.SyntaxMeant.{IsSyntax}
+use Rattle.st_grammar.specs.Syntax.{syntax}
 use Rattle.st_grammar.proofs.Syntaxes.{is, only}
-use Rattle.st_browse.specs.Decompiling.{method_place, names_at, IsTextOf, IsTextOfParts, IsTextUnder, IsTextAt, IsMade}
+use Rattle.st_browse.specs.Decompiling.{method_place, names_at}
+use Rattle.st_browse.specs.inside.MadeTexts.{IsTextOf, IsTextOfParts, IsTextUnder, IsTextAt, IsMade}
 use Rattle.st_session.specs.Decompiled.{is_code, has_code, if_has_code, text_written, written_under, written_at, made_text}
 
 module _ (names : NamesView) (p : PartsView) where

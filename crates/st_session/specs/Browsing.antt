@@ -1,5 +1,5 @@
 -- What a session says of what it is asked to look at.
-use Rattle.std.specs.Prelude.{◌≡◌, ◌⊎◌, ℕ, List, Option, unwrap_or, Result, Err}
+use Rattle.std.specs.Prelude.{ℕ, List, Option, unwrap_or}
 use Rattle.st_model.specs.Machine.{State}
 use Rattle.st_model.specs.Table.{Table}
 use Rattle.st_model.specs.View.{Held, View}
@@ -7,10 +7,6 @@ use Rattle.st_frames.specs.Naming.{filled}
 use Rattle.st_chunk.specs.Asks.{Side, Ask}
 use Rattle.st_browse.specs.Asked.{reply}
 use Rattle.st_call.specs.Replies.{missing_text}
-use Rattle.st_call.specs.Telling.{Tells}
-use Rattle.st_host.specs.declared.host.Host.{Ghosts}
-use Rattle.st_protocol.specs.declared.status.Status.{Status}
-use Rattle.st_protocol.specs.declared.status.Status.TheVariants.{OutOfMemory}
 use Rattle.st_session.specs.Sources.{text_for}
 
 -- what a memory shows of it, and such texts of a method, or that it is missing
@@ -29,7 +25,3 @@ held_by s = record {
 
 abbrev pub memory_of : State Table → View
 memory_of s = record { objects = s.memory; held = held_by s; head = s.head }
-
--- a call that says a text and takes memory: without this it says nothing
-abbrev pub TellsOrStarves : {D : Type 0} → Ghosts D → List ℕ → (old new : D) → Result Unit Status → Type 0
-TellsOrStarves host text old new result = Tells host text old new result ⊎ ((result ≡ Err OutOfMemory) × (new ≡ old))

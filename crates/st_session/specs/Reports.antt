@@ -1,10 +1,5 @@
 -- What is said of a run of which nothing is kept: the lines of its cycles, its end, and what a machine that isn't dead shows then.
-use Rattle.std.specs.Prelude.{◌≡◌, ℕ, ◌+◌, ◌-◌, List, [], ◌++◌, Option, Some, None, Result, OnOk}
-use Rattle.st_host.specs.Counts.{HasCause}
-use Rattle.st_host.specs.Runs.{SaysAll}
-use Rattle.st_host.specs.Telling.{Says}
-use Rattle.st_host.specs.declared.host.Host.{Ghosts}
-use Rattle.st_host.specs.declared.host.SayFault.{SayFault}
+use Rattle.std.specs.Prelude.{◌≡◌, ℕ, ◌+◌, ◌-◌, List, [], ◌++◌, Option, Some, None}
 use Rattle.st_model.specs.declared.dead.Dead.{Dead}
 use Rattle.st_model.specs.Outcomes.{Ending, With, Space}
 use Rattle.st_model.specs.Outcomes as outcome
@@ -12,7 +7,7 @@ use Rattle.st_model.specs.Machine.{State, Transition, Died, Went}
 use Rattle.st_model.specs.Births.{Births, births}
 use Rattle.st_model.specs.Cycles.{run, finished}
 use Rattle.st_model.specs.Table.{Table}
-use Rattle.st_model.specs.Show.{Shows, show}
+use Rattle.st_model.specs.Show.{show}
 use Rattle.st_model.specs.Text.{ran_text, dead_text, space_text, quit_text, debugger_text, said_value}
 use Rattle.st_protocol.specs.Courses.{Course, Goes, Ends, deeds_of, said_of}
 use Rattle.st_session.specs.Points.{Being, Alive, Gone, Point}
@@ -64,10 +59,3 @@ module _ (shows : State Table → List ℕ) where
 abbrev pub RunIsSaid : Type 0
 RunIsSaid = (shows : State Table → List ℕ) (k n : ℕ) (s : State Births)
     → line_text shows (cycles n k s) ≡ text_at shows (n + finished births k s) (k - finished births k s) (run births k s)
-
--- What a call does that says this text of what a machine shows at first: where it ends well all of it is said, else a part, for a fault
--- of the output.
-pub record Reports {D : Type 0} (host : Ghosts D) (text : State Births → List ℕ) (first : State Table) (old new : D) (result : Result Unit SayFault) : Type 0 where
-  pub all : (s : State Births) → Shows first s → OnOk result (SaysAll host (text s) old new)
-  pub says : (s : State Births) → Shows first s → Says host (text s) old new
-  pub cause : HasCause (host.say_faults old) (host.say_faults new) result

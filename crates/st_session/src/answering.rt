@@ -1,15 +1,15 @@
 ghost use Rattle.std.specs.Prelude.{◌≡◌, None, Some};
-ghost use Rattle.st_host.specs.Telling.{Says};
+ghost use Rattle.st_host.specs.inside.Telling.{Says};
 ghost use Rattle.st_model.specs.{Machine.State, Births.{Births, births}, Events.event, Show.Shows};
-ghost use Rattle.st_frames.specs.Shown.{IsReady};
-ghost use Rattle.st_input.specs.Coming.{HasPlace};
-ghost use Rattle.st_call.specs.{Saying.Pushes, Replies.machine_text};
+ghost use Rattle.st_frames.specs.inside.Shown.{IsReady};
+ghost use Rattle.st_input.specs.inside.Coming.{HasPlace};
+ghost use Rattle.st_call.specs.{inside.Saying.Pushes, Replies.machine_text};
 ghost use Rattle.st_chunk.specs.{Lines.IsInRange, Reading.Place, Scripts.asked_at};
 ghost use Rattle.st_install.specs.Defining.{installed};
 ghost use Rattle.st_recover.specs.Commits.{Commit};
-ghost use Rattle.st_session.specs.{Answers.{answer, event_course, line_course, living_line}, Asking.IsSaying};
-ghost use Rattle.st_session.specs.{Keeping.in_a_store, Pushing.PushesCourse};
-ghost use Rattle.st_session.specs.Standing.{MayRun, MayGoOn, Serves, StandsAt, shown_by};
+ghost use Rattle.st_session.specs.{Answers.{answer, event_course, line_course, living_line}, inside.Asking.IsSaying};
+ghost use Rattle.st_session.specs.{Keeping.in_a_store, inside.Pushing.PushesCourse};
+ghost use Rattle.st_session.specs.inside.Standing.{MayRun, MayGoOn, Serves, StandsAt, shown_by};
 
 use crate::debugging::say_stack;
 use crate::kept::Kept;

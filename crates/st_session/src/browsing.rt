@@ -1,9 +1,9 @@
 ghost use Rattle.std.specs.Prelude.{◌≡◌, None};
 ghost use Rattle.st_chunk.specs.Asks.{Source, ask_of, side_of};
-ghost use Rattle.st_session.specs.{Answers.browse_course, Browsing.{asked_text, TellsOrStarves}};
+ghost use Rattle.st_session.specs.{Answers.browse_course, Browsing.asked_text, inside.Starving.TellsOrStarves};
 ghost use Rattle.st_session.specs.{Sources.{last_text, shown_text}, Keeping.in_a_store};
-ghost use Rattle.st_session.specs.Standing.{MayGoOn, Serves};
-ghost use Rattle.st_call.specs.Telling.{Tells};
+ghost use Rattle.st_session.specs.inside.Standing.{MayGoOn, Serves};
+ghost use Rattle.st_call.specs.inside.Telling.{Tells};
 
 use crate::debugging::run_until;
 use crate::kept::Kept;

@@ -2,7 +2,7 @@
 
 ghost use Rattle.std.specs.Prelude.{◌≡◌, IsTrue, IfOk, IfErr, OnOk};
 ghost use Rattle.st_host.specs.{Files.bytes_of, Runs.{OnlyReads, ReadsAlike}};
-ghost use Rattle.st_image.specs.Back.{CanStart};
+ghost use Rattle.st_image.specs.inside.Back.{CanStart};
 ghost use Rattle.st_protocol.specs.Statuses.{StatusHasCause};
 ghost use Rattle.st_session.specs.Makings.{contents_in, IsUnread};
 ghost use Rattle.st_session.specs.Builds.{Builds, IsWrongKernel, BuildEnds, kernel_status};

@@ -1,9 +1,9 @@
 ghost use Rattle.std.specs.Prelude.{◌≡◌, ℕ, List, IsTrue, None};
 ghost use Rattle.st_host.specs.{Counts.Rose, Files.bytes_of, Runs.ReadsAndSays};
 ghost use Rattle.st_model.specs.Text.{state_text};
-ghost use Rattle.st_frames.specs.Shown.{IsReady};
+ghost use Rattle.st_frames.specs.inside.Shown.{IsReady};
 ghost use Rattle.st_protocol.specs.Statuses.{StatusHasCause};
-ghost use Rattle.st_session.specs.{Commands.OnceEnds, Reports.{Reports, run_text}, Standing.shown_by};
+ghost use Rattle.st_session.specs.{Commands.OnceEnds, inside.Reporting.Reports, Reports.run_text, inside.Standing.shown_by};
 ghost use Rattle.st_session.specs.StoreSessions.{SessionCommandEnds};
 
 use crate::opening_refusal::refuse_opening;

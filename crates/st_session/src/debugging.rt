@@ -4,9 +4,9 @@ ghost use Rattle.st_model.specs.{Show.show, Values.value};
 ghost use Rattle.st_browse.specs.Asked.{method_of_side};
 ghost use Rattle.st_chunk.specs.Asks.{side_of};
 ghost use Rattle.st_debug.specs.Stack.{stack_text};
-ghost use Rattle.st_call.specs.Telling.{Tells};
+ghost use Rattle.st_call.specs.inside.Telling.{Tells};
 ghost use Rattle.st_session.specs.{Answers.{going_on, until_course}, Browsing.memory_of, Keeping.in_a_store};
-ghost use Rattle.st_session.specs.Standing.{MayGoOn, Serves};
+ghost use Rattle.st_session.specs.inside.Standing.{MayGoOn, Serves};
 
 use crate::kept::Kept;
 use crate::saving::run;

@@ -3,11 +3,11 @@
 ghost use Rattle.std.specs.Prelude.{◌≡◌, ℕ, List, IfOk, IfErr, None};
 ghost use Rattle.st_host.specs.Runs.{ReadsAndSays};
 ghost use Rattle.st_model.specs.{Machine.State, Births.Births, Show.Shows};
-ghost use Rattle.st_frames.specs.Shown.{IsReady};
-ghost use Rattle.st_call.specs.Saying.{Pushes};
+ghost use Rattle.st_frames.specs.inside.Shown.{IsReady};
+ghost use Rattle.st_call.specs.inside.Saying.{Pushes};
 ghost use Rattle.st_protocol.specs.Statuses.{StatusHasCause};
 ghost use Rattle.st_session.specs.Drills.{BeginsDrill, IsNoDrill, DrillEnds, drill_said, use_text};
-ghost use Rattle.st_session.specs.{Makings.contents_in, Reports.{Reports, text_of}, Standing.shown_by};
+ghost use Rattle.st_session.specs.{Makings.contents_in, inside.Reporting.Reports, Reports.text_of, inside.Standing.shown_by};
 
 use crate::building::kernel_status;
 use crate::making::{Origin, push_made};

@@ -3,12 +3,12 @@
 ghost use Rattle.std.specs.Prelude.{◌≡◌, List, IsTrue, IfErr, None};
 ghost use Rattle.st_model.specs.{Births.Births, Machine.{State, empty_world}, Objects.nil, Show.Shows};
 ghost use Rattle.st_model.specs.View.{no_devices};
-ghost use Rattle.st_frames.specs.Shown.{IsFrame, IsReady, shown};
+ghost use Rattle.st_frames.specs.inside.Shown.{IsFrame, IsReady, shown};
 ghost use Rattle.st_protocol.specs.Statuses.{Counts, StatusHasCause};
 ghost use Rattle.st_session.specs.Ends.{status_in};
 ghost use Rattle.st_session.specs.Exports.{DoesExport, ExportsImage, ExportsState, HasExported, LeavesOthers};
 ghost use Rattle.st_session.specs.Exports.{IsOfExporting, ExportEnds};
-ghost use Rattle.st_session.specs.{declared.extent.Extent.TheVariants.{Kept, Reachable}, Standing.shown_by};
+ghost use Rattle.st_session.specs.{declared.extent.Extent.TheVariants.{Kept, Reachable}, inside.Standing.shown_by};
 
 use crate::extent::Extent;
 use crate::opening_refusal::refuse_opening;

@@ -1,8 +1,8 @@
 //! What a session says first: how many definitions were replayed, and which were lost.
 
 ghost use Rattle.std.specs.{Prelude.{◌<◌, ◌^◌, length}, List.flat_map};
-ghost use Rattle.st_call.specs.{Saying.Pushes, Telling.Tells};
-ghost use Rattle.st_recover.specs.Replays.{loss_of, losses_of};
+ghost use Rattle.st_call.specs.{inside.Saying.Pushes, inside.Telling.Tells};
+ghost use Rattle.st_recover.specs.inside.Replayings.{loss_of, losses_of};
 ghost use Rattle.st_session.specs.FirstLines.{lost_text, opening_text};
 
 use st_call::{Output, Pushed, finish, push_line, push_number, push_why};

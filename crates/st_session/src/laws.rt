@@ -7,15 +7,15 @@ ghost use Rattle.st_chunk.specs.{Asks.Side, Definitions.Definition};
 ghost use Rattle.st_install.specs.Defining.{installed};
 ghost use Rattle.st_protocol.specs.{Acknowledged.AcknowledgesEach, Courses.deeds_of};
 ghost use Rattle.st_recover.specs.{Commits.{Commit, all_of}, Condensed.IsCondensed, Replays.Loss};
-ghost use Rattle.st_browse.specs.Decompiling.{IsShown};
+ghost use Rattle.st_browse.specs.inside.MadeTexts.{IsShown};
 ghost use Rattle.st_session.specs.declared.making.Origin.TheVariants.{Image as FromImage, Kernel as FromKernel};
 ghost use Rattle.st_session.specs.{Builds.{Builds, IsWrongKernel}, Imports.{ReadsAs, IsWrongImage}};
-ghost use Rattle.st_session.specs.Joining.{RestJoins, ReadyJoins, SessionJoins, FollowedJoins, RefusedJoins};
-ghost use Rattle.st_session.specs.Joining.{ExportJoins, CondenseJoins, MakingJoins, BegunJoins};
-ghost use Rattle.st_session.specs.OneOpening.{OneAnswer, OpensGives, RefusedIs, FollowedIs, StaysIs};
-ghost use Rattle.st_session.specs.{Keeping.in_a_store, Points.Point, ScriptGroups.GroupsByBytes};
+ghost use Rattle.st_session.specs.inside.Joining.{RestJoins, ReadyJoins, SessionJoins, FollowedJoins, RefusedJoins};
+ghost use Rattle.st_session.specs.inside.Joining.{ExportJoins, CondenseJoins, MakingJoins, BegunJoins};
+ghost use Rattle.st_session.specs.inside.OneOpening.{OneAnswer, OpensGives, RefusedIs, FollowedIs, StaysIs};
+ghost use Rattle.st_session.specs.{Keeping.in_a_store, Points.Point, inside.ScriptGroups.GroupsByBytes};
 ghost use Rattle.st_session.specs.Sessions.{session as session_over};
-ghost use Rattle.st_session.specs.{Reports.RunIsSaid, Sources.shown_text, Traces.TraceIsRun};
+ghost use Rattle.st_session.specs.{Reports.RunIsSaid, Sources.shown_text, inside.Traces.TraceIsRun};
 
 use st_host::Host;
 

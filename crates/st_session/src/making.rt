@@ -1,9 +1,9 @@
 //! The making of a store of an image, whatever the image comes from.
 
 ghost use Rattle.std.specs.Prelude.{◌≡◌, OnOk};
-ghost use Rattle.st_host.specs.{Counts.HasCause, Runs.SaysAll, Telling.Says};
-ghost use Rattle.st_image.specs.Back.{CanStart};
-ghost use Rattle.st_call.specs.Saying.{Pushes};
+ghost use Rattle.st_host.specs.{Counts.HasCause, Runs.SaysAll, inside.Telling.Says};
+ghost use Rattle.st_image.specs.inside.Back.{CanStart};
+ghost use Rattle.st_call.specs.inside.Saying.{Pushes};
 ghost use Rattle.st_protocol.specs.Statuses.{StatusHasCause};
 ghost use Rattle.st_session.specs.Makings.{contents_in, made_word, made_text, MakingEnds};
 

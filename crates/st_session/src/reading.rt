@@ -1,21 +1,22 @@
 ghost use Rattle.std.specs.Prelude.{◌≡◌, ◌⊎◌, ◌<◌, ◌^◌, length, nat_lt, IsTrue, OnOk, Err};
 ghost use Rattle.st_host.specs.Counts.{Rose};
 ghost use Rattle.st_model.specs.{Machine.State, Births.Births, View.no_devices};
-ghost use Rattle.st_frames.specs.Shown.{IsFrame};
+ghost use Rattle.st_frames.specs.inside.Shown.{IsFrame};
 ghost use Rattle.st_chunk.specs.{Definitions.entries, Reading.{line_from, read, end_read}};
 ghost use Rattle.st_chunk.specs.Scripts.{told_from, read_through, asked_by, asked_at_end};
 ghost use Rattle.st_store.specs.Names.{IsNoFileOf};
 ghost use Rattle.st_protocol.specs.declared.status.Status.TheVariants.{Done, ReadFault as Unread, TooLarge};
 ghost use Rattle.st_protocol.specs.{declared.status.Status.TheVariants.OutOfMemory, Courses.{ended, IsEnd}};
 ghost use Rattle.st_protocol.specs.Statuses.{Counts, StatusHasCause};
-ghost use Rattle.st_recover.specs.{Commits.{Commit, OpensAs}, Replays.losses_of};
+ghost use Rattle.st_recover.specs.{Commits.{Commit, OpensAs}, inside.Replayings.losses_of};
 ghost use Rattle.st_install.specs.Defining.{installed};
 ghost use Rattle.st_session.specs.{Ends.{IsCalm, NoCountFell, SessionEnds, status_in}, Keeping.in_a_store};
 ghost use Rattle.st_session.specs.Sessions.{follow, follow_script, follow_told, asked_in};
 ghost use Rattle.st_session.specs.Sessions.{session, session_so_far, session_of};
-ghost use Rattle.st_session.specs.Standing.{MayGoOn, Follows, FollowsTold, FollowsSome, Serves};
-ghost use Rattle.st_session.specs.Opening.{IsOpen, session_over, session_so_far_over};
-ghost use Rattle.st_call.specs.Telling.{IsOfServing};
+ghost use Rattle.st_session.specs.inside.Standing.{MayGoOn, Follows, FollowsTold, FollowsSome, Serves};
+ghost use Rattle.st_session.specs.inside.OpenSessions.{IsOpen};
+ghost use Rattle.st_session.specs.Opening.{session_over, session_so_far_over};
+ghost use Rattle.st_call.specs.inside.Telling.{IsOfServing};
 
 use crate::first_lines::say_opening;
 use crate::kept::Kept;

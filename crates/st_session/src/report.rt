@@ -1,8 +1,8 @@
 ghost use Rattle.std.specs.Prelude.{◌≡◌, None};
 ghost use Rattle.st_model.specs.{Machine.State, Births.Births, Show.Shows, Text.state_text};
-ghost use Rattle.st_frames.specs.Shown.{IsReady};
-ghost use Rattle.st_call.specs.Saying.{Pushes};
-ghost use Rattle.st_session.specs.{Standing.{MayRun, shown_by}, Reports.{text_of, run_text}};
+ghost use Rattle.st_frames.specs.inside.Shown.{IsReady};
+ghost use Rattle.st_call.specs.inside.Saying.{Pushes};
+ghost use Rattle.st_session.specs.{inside.Standing.{MayRun, shown_by}, Reports.{text_of, run_text}};
 
 use crate::running::push_run;
 use st_call::{Output, Pushed, push_state};

@@ -1,10 +1,10 @@
 ghost use Rattle.std.specs.Prelude.{◌≡◌, ◌-◌, ◌≤◌, ◌<◌, None, IfOk, IfSome};
 ghost use Rattle.st_model.specs.{Machine.State, Births.Births, Show.Shows};
-ghost use Rattle.st_frames.specs.Shown.{IsReady};
-ghost use Rattle.st_call.specs.Saying.{Pushes};
-ghost use Rattle.st_session.specs.{Answers.run_course, Keeping.keeps_nothing, Pushing.PushesCourse};
-ghost use Rattle.st_session.specs.{Runs.end_text, Standing.{MayRun, StandsAt, shown_by}};
-ghost use Rattle.st_session.specs.Stretches.{PushesStretch, stretch};
+ghost use Rattle.st_frames.specs.inside.Shown.{IsReady};
+ghost use Rattle.st_call.specs.inside.Saying.{Pushes};
+ghost use Rattle.st_session.specs.{Answers.run_course, Keeping.keeps_nothing, inside.Pushing.PushesCourse};
+ghost use Rattle.st_session.specs.{inside.Runs.end_text, inside.Standing.{MayRun, StandsAt, shown_by}};
+ghost use Rattle.st_session.specs.inside.Stretches.{PushesStretch, stretch};
 
 use st_call::{Output, Pushed, push_line, say_at_once};
 use st_host::{Host, SayFault};

@@ -1,16 +1,16 @@
 // Runs and snapshots of a session, which keep images in the store.
 ghost use Rattle.std.specs.Prelude.{◌≡◌, ◌-◌, ◌≤◌, ◌<◌, IfErr, IfOk, IfSome, IsErrOf, IsSome, None, OnOk};
 ghost use Rattle.st_model.specs.{Machine.State, Births.Births, Show.Shows};
-ghost use Rattle.st_frames.specs.Shown.{IsReady};
-ghost use Rattle.st_image.specs.Back.{CanStart};
+ghost use Rattle.st_frames.specs.inside.Shown.{IsReady};
+ghost use Rattle.st_image.specs.inside.Back.{CanStart};
 ghost use Rattle.st_store.specs.Names.{IsNoFileOf};
-ghost use Rattle.st_protocol.specs.{Obeying.Obeys, Statuses.Counts};
+ghost use Rattle.st_protocol.specs.{inside.Obeying.Obeys, Statuses.Counts};
 ghost use Rattle.st_protocol.specs.declared.status.Status.TheVariants.{OutOfMemory};
-ghost use Rattle.st_recover.specs.{Archives.Holds, Commits.{Commit, OpensAs, image_with}};
+ghost use Rattle.st_recover.specs.{inside.Archives.Holds, Commits.{Commit, OpensAs, image_with}};
 ghost use Rattle.st_session.specs.{Answers.{watched_course, going_on}, Keeping.{in_a_store, imaging}};
-ghost use Rattle.st_session.specs.Standing.{MayRun, MayGoOn, Serves, shown_by};
-ghost use Rattle.st_session.specs.{Stretches.{SaysStretch, went}, Watched.watched_stretch, Watching.look_of};
-ghost use Rattle.st_call.specs.Telling.{IsOfServing};
+ghost use Rattle.st_session.specs.inside.Standing.{MayRun, MayGoOn, Serves, shown_by};
+ghost use Rattle.st_session.specs.{inside.Stretches.{SaysStretch, went}, inside.Watched.watched_stretch, Watching.look_of};
+ghost use Rattle.st_call.specs.inside.Telling.{IsOfServing};
 
 use crate::kept::Kept;
 use crate::watch::Watch;

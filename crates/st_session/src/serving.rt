@@ -1,11 +1,11 @@
 ghost use Rattle.std.specs.Prelude.{◌≡◌, None, Some, IfSome};
 ghost use Rattle.st_chunk.specs.Definitions.{IsDefinition};
 ghost use Rattle.st_chunk.specs.declared.request.Request.TheVariants.{Browse as Browsing, Define as Defining};
-ghost use Rattle.st_chunk.specs.{ScriptDefinitions.definition_of, Lines.IsInRange};
+ghost use Rattle.st_chunk.specs.{inside.ScriptDefinitions.definition_of, Lines.IsInRange};
 ghost use Rattle.st_chunk.specs.Scripts.{IsBrowsed, IsDefined, asked_at, asked_by};
-ghost use Rattle.st_install.specs.{Defining.installed, Prepareds.IsPrepared};
+ghost use Rattle.st_install.specs.{Defining.installed, inside.Prepareds.IsPrepared};
 ghost use Rattle.st_session.specs.{Answers.{answer, definition_course}, Keeping.in_a_store, Sessions.follow};
-ghost use Rattle.st_session.specs.Standing.{MayGoOn, Serves};
+ghost use Rattle.st_session.specs.inside.Standing.{MayGoOn, Serves};
 
 use crate::answering::{answer_dead, answer_living};
 use crate::browsing::answer_named;

@@ -1,8 +1,8 @@
 ghost use Rattle.std.specs.Prelude.{◌≡◌, IsTrue, IfOk, IfErr, None};
 ghost use Rattle.st_host.specs.{Files.bytes_of, Runs.OnlyReads};
 ghost use Rattle.st_model.specs.{Objects.nil, Machine.empty_world, Image.image_head};
-ghost use Rattle.st_frames.specs.Shown.{IsReady};
-ghost use Rattle.st_image.specs.Reading.{IsStart};
+ghost use Rattle.st_frames.specs.inside.Shown.{IsReady};
+ghost use Rattle.st_image.specs.inside.Reading.{IsStart};
 ghost use Rattle.st_recover.specs.Openings.{IsReadable, IsFaulty};
 ghost use Rattle.st_call.specs.Refusals.{IsImageRefusal, RefusalHasCause};
 

@@ -2,11 +2,11 @@
 ghost use Rattle.std.specs.Prelude.{◌≡◌, ◌-◌, ◌≤◌, ◌<◌, None, IfOk, IfSome};
 ghost use Rattle.st_model.specs.{Values.value, Machine.State, Births.{Births, births}, Cycles.cycle};
 ghost use Rattle.st_model.specs.{Show.Shows, Text.dead_text};
-ghost use Rattle.st_frames.specs.Shown.{IsReady};
-ghost use Rattle.st_call.specs.Saying.{Pushes};
-ghost use Rattle.st_session.specs.{declared.watching.Cycled.TheVariants.Over, Standing.{MayRun, shown_by}};
-ghost use Rattle.st_session.specs.Stretches.{PushesStretch, cycle_stretch, went};
-ghost use Rattle.st_session.specs.Watched.{PushesLook, PushesCycle, is_stop, seen_cycle, watched_cycle, watched_stretch};
+ghost use Rattle.st_frames.specs.inside.Shown.{IsReady};
+ghost use Rattle.st_call.specs.inside.Saying.{Pushes};
+ghost use Rattle.st_session.specs.{declared.watching.Cycled.TheVariants.Over, inside.Standing.{MayRun, shown_by}};
+ghost use Rattle.st_session.specs.inside.Stretches.{PushesStretch, cycle_stretch, went};
+ghost use Rattle.st_session.specs.inside.Watched.{PushesLook, PushesCycle, is_stop, seen_cycle, watched_cycle, watched_stretch};
 ghost use Rattle.st_session.specs.Watching.{bytecode_seen, entry_seen, look_of};
 
 use crate::running::{push_end, push_stretch};

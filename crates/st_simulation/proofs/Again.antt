@@ -7,12 +7,12 @@ use Rattle.st_model.specs.Machine.{State, Transition, Died, Went, roots_of}
 use Rattle.st_model.specs.Births.{Births, births, object_born, bearer, borne}
 use Rattle.st_model.specs.Table.{Table, table, entry}
 use Rattle.st_model.specs.Contexts.{fetch_scheduled_registers}
-use Rattle.st_model.specs.Calls.{itself}
+use Rattle.st_model.specs.inside.Calls.{itself}
 use Rattle.st_model.specs.Births.{pointer_of}
 use Rattle.st_model.specs.Show.{IsKept, IsUsed, Shows, IsClosed, raised}
 use Rattle.st_model.specs.declared.head.ImageHead.{ImageHead}
 use Rattle.st_model.specs.Start.{idle_state, start_view, start, begin}
-use Rattle.st_model.specs.Foreseen.{ShownAgain}
+use Rattle.st_model.specs.inside.Foreseen.{ShownAgain}
 use Rattle.st_simulation.proofs.Same.{StateSame, TransitionSame, Anything}
 use Rattle.st_simulation.proofs.ContextsSame.{fetch_scheduled_registers-same}
 use Rattle.st_model.proofs.BirthLemmas.{pointer_of-borne}

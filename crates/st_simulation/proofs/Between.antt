@@ -5,9 +5,9 @@ use Rattle.st_model.specs.Outcomes as outcome
 use Rattle.st_model.specs.Machine.{ObjectMemory, Head, State, Transition, Died, Went, Step}
 use Rattle.st_model.specs.Births.{Births, births}
 use Rattle.st_model.specs.Table.{Table, table, bounded_table}
-use Rattle.st_model.specs.Calls.{itself}
+use Rattle.st_model.specs.inside.Calls.{itself}
 use Rattle.st_model.specs.Show.{Shows}
-use Rattle.st_model.specs.Foreseen.{IsSound, ShownAgain}
+use Rattle.st_model.specs.inside.Foreseen.{IsSound, ShownAgain}
 use Rattle.st_model.specs.Saving.{settled_after}
 use Rattle.st_model.specs.Values.{Value}
 use Rattle.st_model.specs.Processes.{switch_to_process}

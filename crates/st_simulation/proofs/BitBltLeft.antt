@@ -8,7 +8,7 @@ use Rattle.st_model.specs.declared.deed.Deed.TheVariants.{CopyBits}
 use Rattle.st_model.specs.Values.{Value, Ref, word}
 use Rattle.st_model.specs.Machine.{ObjectMemory, World, State, Transition, Died, Went, is_there, answer, after, tried, ◌>>=◌, ◌>>◌}
 use Rattle.st_model.specs.Table.{Table, table, IsTabular}
-use Rattle.st_model.specs.Calls.{Reads, itself}
+use Rattle.st_model.specs.inside.Calls.{Reads, itself}
 use Rattle.st_model.specs.Steps.{top}
 use Rattle.st_model.specs.Primitives.{answer_with, succeed, primitive}
 use Rattle.st_model.specs.Deeds.{changed_by, over_both, with_deed}

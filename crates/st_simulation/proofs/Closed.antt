@@ -9,7 +9,7 @@ use Rattle.st_model.specs.Machine.{ObjectMemory, Head, State, Transition, Died, 
 use Rattle.st_model.specs.Table.{Table, table, bounded_table, entry, changed, exchanged, placed, first_none, filled_first, first_free, total_used}
 use Rattle.st_model.specs.Bytecodes.{step}
 use Rattle.st_model.specs.Show.{IsUsed, IsClosed, renamed_head}
-use Rattle.st_model.specs.Foreseen.{IsSound}
+use Rattle.st_model.specs.inside.Foreseen.{IsSound}
 use Rattle.st_simulation.proofs.Same.{never_beyond, Simulation, StateSame, TransitionSame, Same}
 use Rattle.st_simulation.proofs.BytecodesSame.{step-same}
 use Rattle.st_simulation.proofs.ContextsSame.{fetch_scheduled_registers-same}

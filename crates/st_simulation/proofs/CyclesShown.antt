@@ -12,7 +12,7 @@ use Rattle.st_model.specs.Show.{Shows, IsUsed, IsKept}
 use Rattle.st_model.specs.Settled.{reclaim}
 use Rattle.st_model.specs.Machine.{less, capacity_of, free_space}
 use Rattle.st_model.specs.Cycles.{made_between, check_process_switch, warned, ended, done_or_not, cycle_from, cycle, and_on, run_of, run, counted, finished_of, finished}
-use Rattle.st_model.specs.Foreseen.{done, done_if_room, foreseen, foreseen_from, foreseen_cycle, IsSound, ShownAgain, EndsShown, Foretells, DoesAsBirths}
+use Rattle.st_model.specs.inside.Foreseen.{done, done_if_room, foreseen, foreseen_from, foreseen_cycle, IsSound, ShownAgain, EndsShown, Foretells, DoesAsBirths}
 use Rattle.st_simulation.proofs.Same.{TransitionSame}
 use Rattle.st_simulation.proofs.BytecodesSame.{step-same}
 use Rattle.st_simulation.proofs.HeapsSame.{cycle_simulation, same_used}

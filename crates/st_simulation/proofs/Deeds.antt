@@ -18,7 +18,7 @@ use Rattle.st_model.specs.Steps.{get_active, get_sp, set_sp, found, object_named
 use Rattle.st_model.specs.Primitives.{bytes_of_number, pop_words, answer_with}
 use Rattle.st_model.specs.Deeds.{changed_object, changed_by, word_stored, byte_stored, bytes_stored, bytes_replaced, bytes_from, counts_literals, header_stored, literal_stored, deed_done, world_done, changed_twice, over_both, copies_pixels, table_after}
 use Rattle.st_model.specs.BitBlt.{Copy, painted, read_copy, copy_bits}
-use Rattle.st_model.specs.Calls.{Reads, itself}
+use Rattle.st_model.specs.inside.Calls.{Reads, itself}
 use Rattle.st_model.specs.declared.device.Device.TheVariants as device
 use Rattle.st_model.specs.Surroundings.{changed_world}
 use Rattle.st_model.specs.Surroundings as surroundings

@@ -14,7 +14,7 @@ use Rattle.st_model.specs.Storage.{primitive_say}
 use Rattle.st_model.specs.Sends.{Call}
 use Rattle.st_model.specs.Executing.{goes_on, or_activate, say_or_activate, asks, respond_last, respond, respond_by_extension, execute_by, execute_performed, execute_found, perform_if, perform, primitive_perform, perform_with, primitive_perform_with, perform_or_activate, respond_or_perform, execute, executed, execute_if_any, executed_if_any}
 use Rattle.st_model.specs.Bytecodes.{or_send, arithmetic_by, arithmetic_send, primitive_send, bytecode, step}
-use Rattle.st_model.specs.Foreseen.{NamesTop}
+use Rattle.st_model.specs.inside.Foreseen.{NamesTop}
 use Rattle.st_simulation.proofs.OnTop.{said}
 
 -- a step whose outcome names nothing but the word at the top of the stack that it leaves

@@ -21,7 +21,7 @@ use Rattle.st_model.specs.Births.{pointer_of}
 use Rattle.st_model.specs.Surroundings.{Hold, AddSignal, AddWord, MoveMouse, SetSecondClock, SetMillisecondClock, held_by, changed_world}
 use Rattle.st_model.specs.Events.{is_held, signalled_once, has_signal_room, word_comes, is_due, time_comes, comes, in_world, event}
 use Rattle.st_model.specs.Cycles.{is_low, warned_if_low, warned}
-use Rattle.st_model.specs.Foreseen.{IsSound, ShownIfTaken}
+use Rattle.st_model.specs.inside.Foreseen.{IsSound, ShownIfTaken}
 use Rattle.st_simulation.proofs.Same.{length-renamed}
 use Rattle.st_simulation.proofs.Surrounding.{held_live, held-renamed, changed_live, changed-renamed}
 use Rattle.st_model.proofs.Names.{device_part, with_devices}

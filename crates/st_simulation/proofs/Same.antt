@@ -16,7 +16,7 @@ use Rattle.st_model.specs.Outcomes as outcome
 use Rattle.st_model.specs.Steps.{code_byte, same_value}
 use Rattle.st_model.specs.declared.device.Device.{Device}
 use Rattle.st_model.specs.Surroundings.{Change, Hold, AddSignal, TakeSignal, SetDue, SetLow, MoveMouse, AddWord, TakeWord, SetSecondClock, SetMillisecondClock, named_by, renamed_change}
-use Rattle.st_model.specs.Calls.{itself}
+use Rattle.st_model.specs.inside.Calls.{itself}
 use Rattle.st_model.specs.Show.{renamed_registers, renamed_world, renamed_head, renamed_option}
 use Rattle.st_model.specs.Machine.{ObjectMemory, Registers, Head, State, Transition, Died, Went, Step, is_there, all_there, has_room, used, roots_of, answer, die, after, ◌>>=◌, ◌>>◌, or_left, tried}
 use Rattle.std.proofs.lemmas.Bool.{and_parts}

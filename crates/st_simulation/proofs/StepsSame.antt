@@ -17,7 +17,7 @@ use Rattle.st_model.specs.Show.{renamed_registers, renamed_option}
 use Rattle.std.specs.Option.{option_map}
 use Rattle.std.proofs.lemmas.Bool.Decides.{nat_tests}
 use Rattle.st_model.specs.Steps.{get_active, get_home, get_method, get_receiver, get_ip, get_sp, set_ip, set_sp, found, object_named, object, stored_at, store_at, set_field, exchanged_there, exchange_named, exchange, fit_units, units_set, set_units_at, set_units, get_device, newest_signal, count_signals, oldest_word, count_words, get_mouse_x, get_mouse_y, get_second_clock, get_millisecond_clock, world_changed, change_world, get_free, named_or_not, object_at, next_instance, fetch_kind, fetch_size, fetch_bytes, store_bytes, fetch_word, store_word, fetch_byte, store_byte, made, make_named, make, registers_set, set_registers, new_of, are_there, of_page, new_object, class_of, or_die, check, fetch_field, store_field, integer_or_die, fetch_integer, count_fields, fetch_fields, store_fields, transfer, put, push, under, look_at_words, drop_words, top, pop, literal, fetch_method_field, store_method_field, byte_at, next_byte, jump}
-use Rattle.st_model.specs.Calls.{itself}
+use Rattle.st_model.specs.inside.Calls.{itself}
 use Rattle.st_simulation.proofs.Same.{length-renamed, then_object-same, answer_itself-same, OptionSame, Simulation, StateSame, TransitionSame, StaysOver, Anything, IsLiveOption, IsLiveRegisters, ValueSame, ValuesSame, OptionalSame, RegistersSame, ChangeSame, SameValue, SameValues, SameOption, SameObject, SameAnswer, is_there-renamed, all_there-renamed, value_there, values_there, some_object, same_value-same, steps_same, then_unit-same, over_value, over_values, get_is_live, over_object, with_field-renamed, stored_is_live}
 use Rattle.st_model.proofs.Names.{map_all, device_part, with_devices}
 use Rattle.st_simulation.proofs.Surrounding.{held_live, held-renamed, newest-renamed, changed_live, changed-renamed, named-renamed}

@@ -4,8 +4,8 @@
 
 ghost use Rattle.st_model.specs.Table.{bounded_table};
 ghost use Rattle.st_model.specs.Bytecodes.{step};
-ghost use Rattle.st_model.specs.Foreseen.{KeepsClosed};
-ghost use Rattle.st_simulation.specs.Laws.{ApartForetells, BoundedDoes, StepMissesNothing, SwitchMissesNothing, StoreMissesNothing, RunsShow, RunsCount, StartShows, EventShows, SaveShows};
+ghost use Rattle.st_model.specs.inside.Foreseen.{KeepsClosed};
+ghost use Rattle.st_simulation.specs.inside.Laws.{ApartForetells, BoundedDoes, StepMissesNothing, SwitchMissesNothing, StoreMissesNothing, RunsShow, RunsCount, StartShows, EventShows, SaveShows};
 
 /// The first law that joins the book's machine to the code's: a step that is foreseen over a table of 32768 places, where
 /// new objects stand apart, ends as the step over the births that the table shows: it dies of the same cause, or goes on with

@@ -13,7 +13,7 @@ use Rattle.st_model.specs.Sends.{Call}
 use Rattle.st_model.specs.Storage.{primitive_say}
 use Rattle.st_model.specs.Executing.{goes_on, or_activate, say_or_activate, respond_last, respond, takes, execute_found, drop_selector, spread_array, perform_if, perform, primitive_perform, spreading, perform_with, primitive_perform_with, perform_or_activate, respond_or_perform}
 use Rattle.st_frames.proofs.Doing.{rows}
-use Rattle.st_step.specs.Trying.{went_if, if_done, succeeds, said_if, says, perform_if_fits, performs, performs_first, performs_selector, performs_spread, performs_with, last_number, number_on_objects, number_behind, number_that_responds, by_number, or_activated, TriesByNumber}
+use Rattle.st_step.specs.inside.Trying.{went_if, if_done, succeeds, said_if, says, perform_if_fits, performs, performs_first, performs_selector, performs_spread, performs_with, last_number, number_on_objects, number_behind, number_that_responds, by_number, or_activated, TriesByNumber}
 
 module _ (m : ObjectMemory Table) (c : Call) (v : Value) where
   -- a method is executed so as what is tried ends

@@ -19,7 +19,7 @@ use Rattle.st_model.specs.Blocks.{primitive_block_copy, value_with_words, value_
 use Rattle.st_model.specs.Processes.{primitive_signal, primitive_wait, primitive_resume, primitive_suspend, processes}
 use Rattle.st_model.specs.Input.{primitive_mouse_point, primitive_move_mouse, primitive_link_cursor, primitive_input_semaphore, primitive_sample_interval, primitive_input_word, primitive_second_clock, primitive_millisecond_clock, primitive_timer, primitive_be_cursor, primitive_be_display, primitive_low_space, input}
 use Rattle.st_model.specs.Executing.{takes, spreading}
-use Rattle.st_step.specs.Trying.{went_if, if_done, succeeds, said_if, says, perform_if_fits, performs, performs_first, performs_selector, performs_spread, performs_with, last_number, number_on_objects, number_behind, number_that_responds, by_number, tried_number}
+use Rattle.st_step.specs.inside.Trying.{went_if, if_done, succeeds, said_if, says, perform_if_fits, performs, performs_first, performs_selector, performs_spread, performs_with, last_number, number_on_objects, number_behind, number_that_responds, by_number, tried_number}
 
 -- a step that only reads
 record Reads {A : Type 0} (n : Step Table A) : Type 0 where

@@ -8,14 +8,14 @@ use Rattle.st_model.specs.Births.{Births, births}
 use Rattle.st_model.specs.Table.{Table, apart, bounded_table}
 use Rattle.st_model.specs.Bytecodes.{step}
 use Rattle.st_model.specs.Show.{Shows, raised}
-use Rattle.st_model.specs.Foreseen.{Foretells}
+use Rattle.st_model.specs.inside.Foreseen.{Foretells}
 use Rattle.st_model.specs.View.{View, IsWhole}
 use Rattle.st_model.proofs.Raised.{raised_shown}
 use Rattle.st_simulation.proofs.CyclesShown.{foretells, does_as_births}
 use Rattle.st_frames.specs.declared.frame.Frame.{Frame}
-use Rattle.st_frames.specs.Shown.{shown, IsReady}
+use Rattle.st_frames.specs.inside.Shown.{shown, IsReady}
 use Rattle.st_frames.proofs.Closed.{is_closed}
-use Rattle.st_control.specs.Foreseen.{IsForeseen}
+use Rattle.st_control.specs.inside.Foreseen.{IsForeseen}
 
 abbrev pub Goes : State Table → Type 0
 Goes c = (o : Outcome) × (d : State Table) × ((step bounded_table).run c ≡ Went o d)

@@ -8,9 +8,9 @@ use Rattle.st_model.specs.Machine.{State, Went, Step, answer, after, ◌>>=◌}
 use Rattle.st_model.specs.Table.{Table}
 use Rattle.st_model.specs.Deeds.{is_done, deed_of_trial}
 use Rattle.st_memory.specs.declared.objects.Objects.{Ghosts}
-use Rattle.st_frames.specs.Rows.{Takes, with_left, tried_changes, storage_changes, response_changes, execution_changes}
+use Rattle.st_frames.specs.inside.Rows.{Takes, with_left, tried_changes, storage_changes, response_changes, execution_changes}
 use Rattle.st_frames.proofs.Doing.{rows}
-use Rattle.st_step.specs.Trying.{if_done, end_of_trial, end_if_any, deed_if_any, number_changes}
+use Rattle.st_step.specs.inside.Trying.{if_done, end_of_trial, end_if_any, deed_if_any, number_changes}
 
 -- one that performs nothing makes no more than one that may
 pub responds_within : {M : Type 0} (o : Ghosts M) (x : Result (Option StepEnd) Dead) (old new : M) → Takes o (number_changes response_changes x) old new → Takes o (number_changes execution_changes x) old new

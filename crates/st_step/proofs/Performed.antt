@@ -11,10 +11,10 @@ use Rattle.st_model.specs.Steps.{count_fields, top, under}
 use Rattle.st_model.specs.Primitives.{check_class}
 use Rattle.st_model.specs.Executing.{spread_array, spreading}
 use Rattle.st_model.specs.Table.{Table}
-use Rattle.st_step.specs.Trying.{performs, performs_first, performs_selector, performs_spread, performs_with}
+use Rattle.st_step.specs.inside.Trying.{performs, performs_first, performs_selector, performs_spread, performs_with}
 use Rattle.st_model.proofs.Runs.{check-below, check-not_below, run-tried_went, run-tried_died}
 use Rattle.st_frames.specs.declared.registers.Registers.{Registers as Words}
-use Rattle.st_frames.specs.Rows.{row_state}
+use Rattle.st_frames.specs.inside.Rows.{row_state}
 use Rattle.st_frames.proofs.Doing.{rows, row-memory, row-active, row-sp}
 
 -- 83 that is tried

@@ -14,11 +14,11 @@ use Rattle.st_model.specs.Machine.{World, Head, State, Step, Transition, Died, W
 use Rattle.st_model.specs.Births.{Births, births}
 use Rattle.st_model.specs.Steps.{are_there}
 use Rattle.st_model.specs.Table.{Table, table, apart, bounded_table, total_used}
-use Rattle.st_model.specs.Calls.{transition_of}
+use Rattle.st_model.specs.inside.Calls.{transition_of}
 use Rattle.st_model.specs.Deeds.{deed_of_end, deed_done, world_done}
 use Rattle.st_model.specs.Bytecodes.{step}
 use Rattle.st_model.specs.Show.{IsUsed}
-use Rattle.st_model.specs.Foreseen.{Foretells}
+use Rattle.st_model.specs.inside.Foreseen.{Foretells}
 use Rattle.st_model.specs.View.{View, IsWhole}
 use Rattle.st_simulation.proofs.HeapsSame.{same_used}
 use Rattle.st_simulation.proofs.Started.{naming, heaps_start}
@@ -27,12 +27,12 @@ use Rattle.st_simulation.proofs.Closed.{step_closed}
 use Rattle.st_simulation.proofs.Deeds.{deed_uses, deed_leaves_there}
 use Rattle.st_frames.specs.declared.frame.Frame.{Frame}
 use Rattle.st_frames.specs.declared.registers.Registers.{Registers as Words}
-use Rattle.st_frames.specs.Narrow.{IsNarrow}
-use Rattle.st_frames.specs.Rows.{row_state, registers_in, with_left}
-use Rattle.st_frames.specs.Shown.{shown, registers_of, IsReady}
+use Rattle.st_frames.specs.inside.Narrow.{IsNarrow}
+use Rattle.st_frames.specs.inside.Rows.{row_state, registers_in, with_left}
+use Rattle.st_frames.specs.inside.Shown.{shown, registers_of, IsReady}
 use Rattle.st_frames.proofs.Closed.{is_closed}
 use Rattle.st_frames.proofs.Stored.{loaded}
-use Rattle.st_step.specs.Planned.{PlansOver, Plans, PlansBirths, plus}
+use Rattle.st_step.specs.inside.Planned.{PlansOver, Plans, PlansBirths, plus}
 use Rattle.st_frames.proofs.There.{word_there, all_four}
 
 -- a row that begins with what a memory shows

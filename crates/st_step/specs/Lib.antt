@@ -1,4 +1,1 @@
-pub mod Jumping
-pub mod Planned
-pub mod Responding
-pub mod Trying
+pub mod inside

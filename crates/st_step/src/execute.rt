@@ -1,7 +1,7 @@
 ghost use Rattle.std.specs.Prelude.{◌≤◌};
 ghost use Rattle.st_model.specs.{Outcomes.end_of, Deeds.deed_of_end, Sends.{call_of, call_if_any}};
 ghost use Rattle.st_model.specs.Executing.{execute, execute_if_any};
-ghost use Rattle.st_frames.specs.Rows.{RowLeaves, Takes, execution_changes};
+ghost use Rattle.st_frames.specs.inside.Rows.{RowLeaves, Takes, execution_changes};
 
 use crate::flags::{activated, by_flag};
 use crate::numbers::by_number;
@@ -12,7 +12,7 @@ use st_method::Header;
 use st_model::{Call, Dead, Deed, StepEnd};
 
 /// Executes the method that was called.
-#[tactic(auto, using(crate::proofs::Executes::responses), unfolding(st_model::specs::Executing::execute, st_model::specs::Executing::execute_by, st_model::specs::Executing::respond_by_extension, crate::specs::Responding::by_flag, crate::specs::Trying::or_activated))]
+#[tactic(auto, using(crate::proofs::Executes::responses), unfolding(st_model::specs::Executing::execute, st_model::specs::Executing::execute_by, st_model::specs::Executing::respond_by_extension, crate::specs::inside::Responding::by_flag, crate::specs::inside::Trying::or_activated))]
 pub fn execute<O: Objects>(m: &mut O, r: &mut Registers, call: Call) -> Result<StepEnd, Dead>
     requires room { execution_changes ≤ O.room m.old }
     ensures does { RowLeaves O.Objects.own (execute O.names (call_of call))

@@ -1,8 +1,8 @@
 ghost use Rattle.std.specs.Prelude.{◌<◌, ◌≤◌};
 ghost use Rattle.st_model.specs.{Outcomes.end_of, Deeds.deed_of_end, Executing.executed_if_any};
 ghost use Rattle.st_model.specs.Bytecodes.{short_jump_on_false};
-ghost use Rattle.st_step.specs.Jumping.{long_conditional_jump};
-ghost use Rattle.st_frames.specs.Rows.{RowLeaves, Takes, executed_jump_changes};
+ghost use Rattle.st_step.specs.inside.Jumping.{long_conditional_jump};
+ghost use Rattle.st_frames.specs.inside.Rows.{RowLeaves, Takes, executed_jump_changes};
 
 use crate::execute::execute_if_any;
 use st_control::jump_on;
@@ -31,7 +31,7 @@ pub fn short_jump_on_false<O: Objects>(m: &mut O, r: &mut Registers, i: u8) -> R
 }
 
 /// Pops, and jumps on the wanted boolean by i times 256 plus the next byte.
-#[tactic(auto, using(st_frames::proofs::Doing::rows), unfolding(crate::specs::Jumping::long_conditional_jump, st_model::specs::Executing::executed_if_any))]
+#[tactic(auto, using(st_frames::proofs::Doing::rows), unfolding(crate::specs::inside::Jumping::long_conditional_jump, st_model::specs::Executing::executed_if_any))]
 pub fn long_conditional_jump<O: Objects>(
     m: &mut O,
     r: &mut Registers,

@@ -2,8 +2,8 @@ ghost use Rattle.std.specs.Prelude.{◌≡◌, ◌<◌, ◌≤◌, ◌==◌, ◌
 ghost use Rattle.st_model.specs.{declared.deed.Deed.TheVariants.Nothing, Outcomes.end_of, Deeds.deed_of_end};
 ghost use Rattle.st_model.specs.{Arithmetic.arithmetic, Executing.{asks, is_from}, Storage.is_storage};
 ghost use Rattle.st_model.specs.{Blocks.is_block, Processes.is_process, Input.is_input};
-ghost use Rattle.st_step.specs.Trying.{if_done, succeeds, says, last_number, number_on_objects, number_behind, number_that_responds, by_number, tried_number, end_of_trial, end_if_any, deed_if_any, number_changes};
-ghost use Rattle.st_frames.specs.Rows.{RowLeaves, Takes, response_changes, execution_changes};
+ghost use Rattle.st_step.specs.inside.Trying.{if_done, succeeds, says, last_number, number_on_objects, number_behind, number_that_responds, by_number, tried_number, end_of_trial, end_if_any, deed_if_any, number_changes};
+ghost use Rattle.st_frames.specs.inside.Rows.{RowLeaves, Takes, response_changes, execution_changes};
 
 use crate::perform::{performs_selector, performs_with};
 use st_control::{
@@ -76,7 +76,7 @@ fn end_of_trial(tried: Tried) -> Option<StepEnd>
 }
 
 /// Tries a primitive on two SmallIntegers.
-#[tactic(auto, using(crate::proofs::Tries::tries), unfolding(crate::specs::Trying::if_done))]
+#[tactic(auto, using(crate::proofs::Tries::tries), unfolding(crate::specs::inside::Trying::if_done))]
 fn try_arithmetic<O: Objects>(
     m: &mut O,
     r: &mut Registers,
@@ -99,7 +99,7 @@ fn try_arithmetic<O: Objects>(
 }
 
 /// Says the receiver's bytes (primitive 128), or fails.
-#[tactic(auto, using(st_frames::proofs::Doing::rows), unfolding(crate::specs::Trying::says))]
+#[tactic(auto, using(st_frames::proofs::Doing::rows), unfolding(crate::specs::inside::Trying::says))]
 fn says<O: Objects>(m: &mut O, r: &mut Registers) -> Result<Option<StepEnd>, Dead>
     requires room { response_changes ≤ O.room m.old }
     ensures does { RowLeaves O.Objects.own (says O.names)
@@ -115,7 +115,7 @@ fn says<O: Objects>(m: &mut O, r: &mut Registers) -> Result<Option<StepEnd>, Dea
 }
 
 /// Something is asked for (primitives 97, 113 and 114), and the receiver stays as the answer.
-#[tactic(auto, using(st_frames::proofs::Doing::rows), unfolding(crate::specs::Trying::succeeds, st_model::specs::Executing::asks))]
+#[tactic(auto, using(st_frames::proofs::Doing::rows), unfolding(crate::specs::inside::Trying::succeeds, st_model::specs::Executing::asks))]
 fn asks<O: Objects>(m: &mut O, r: &mut Registers, end: StepEnd) -> Result<Option<StepEnd>, Dead>
     requires asked { deed_of_end end ≡ Nothing }
     requires room { response_changes ≤ O.room m.old }
@@ -129,7 +129,7 @@ fn asks<O: Objects>(m: &mut O, r: &mut Registers, end: StepEnd) -> Result<Option
 }
 
 /// Tries a primitive that asks for something; a number that no primitive has fails.
-#[tactic(auto, using(st_frames::proofs::Doing::rows), unfolding(crate::specs::Trying::last_number))]
+#[tactic(auto, using(st_frames::proofs::Doing::rows), unfolding(crate::specs::inside::Trying::last_number))]
 fn last_number<O: Objects>(
     m: &mut O,
     r: &mut Registers,
@@ -158,7 +158,7 @@ fn last_number<O: Objects>(
 
 /// Tries a primitive on objects, blocks, processes, devices or clocks, or one that asks for something.
 #[inline(always)]
-#[tactic(auto, using(crate::proofs::NumberChanges::trials), unfolding(crate::specs::Trying::number_on_objects, crate::specs::Trying::if_done))]
+#[tactic(auto, using(crate::proofs::NumberChanges::trials), unfolding(crate::specs::inside::Trying::number_on_objects, crate::specs::inside::Trying::if_done))]
 fn number_on_objects<O: Objects>(
     m: &mut O,
     r: &mut Registers,
@@ -188,7 +188,7 @@ fn number_on_objects<O: Objects>(
 
 /// Tries a primitive that any receiver has, or one of a family.
 #[inline(always)]
-#[tactic(auto, using(st_frames::proofs::Doing::rows), unfolding(crate::specs::Trying::number_behind, crate::specs::Trying::succeeds, st_model::specs::Executing::goes_on))]
+#[tactic(auto, using(st_frames::proofs::Doing::rows), unfolding(crate::specs::inside::Trying::number_behind, crate::specs::inside::Trying::succeeds, st_model::specs::Executing::goes_on))]
 fn number_behind<O: Objects>(
     m: &mut O,
     r: &mut Registers,
@@ -218,7 +218,7 @@ fn number_behind<O: Objects>(
 
 /// Tries a primitive that performs nothing.
 #[inline(always)]
-#[tactic(auto, using(crate::proofs::NumberChanges::trials), unfolding(crate::specs::Trying::number_that_responds, crate::specs::Trying::if_done))]
+#[tactic(auto, using(crate::proofs::NumberChanges::trials), unfolding(crate::specs::inside::Trying::number_that_responds, crate::specs::inside::Trying::if_done))]
 pub fn number_that_responds<O: Objects>(
     m: &mut O,
     r: &mut Registers,
@@ -245,7 +245,7 @@ pub fn number_that_responds<O: Objects>(
 
 /// Tries the primitive of this number.
 #[inline(always)]
-#[tactic(auto, using(st_frames::proofs::Doing::rows), unfolding(crate::specs::Trying::by_number))]
+#[tactic(auto, using(st_frames::proofs::Doing::rows), unfolding(crate::specs::inside::Trying::by_number))]
 pub fn by_number<O: Objects>(
     m: &mut O,
     r: &mut Registers,
@@ -268,7 +268,7 @@ pub fn by_number<O: Objects>(
 }
 
 /// Looks at receiver and arguments, and tries the primitive of this number. None says that it failed.
-#[tactic(auto, using(st_frames::proofs::Doing::rows), unfolding(crate::specs::Trying::tried_number))]
+#[tactic(auto, using(st_frames::proofs::Doing::rows), unfolding(crate::specs::inside::Trying::tried_number))]
 pub fn tried_number<O: Objects>(
     m: &mut O,
     r: &mut Registers,

@@ -1,11 +1,11 @@
 ghost use Rattle.std.specs.Prelude.{◌<◌, ◌≤◌, ◌+◌, IfOk};
 ghost use Rattle.st_model.specs.{Values.word, Outcomes.end_of, Deeds.deed_of_end, Sends.call_of};
 ghost use Rattle.st_model.specs.Executing.{takes, execute_performed, drop_selector, spread_array, spreading};
-ghost use Rattle.st_model.specs.Calls.{itself};
-ghost use Rattle.st_step.specs.Responding.{execute_sent};
-ghost use Rattle.st_step.specs.Trying.{performs_above, performs_selector, performs_fields, performs_with, end_if_any, deed_if_any, number_changes};
-ghost use Rattle.st_lookup.specs.Places.{found_word};
-ghost use Rattle.st_frames.specs.Rows.{RowReads, RowDoes, RowLeaves, Takes, send_changes, response_changes, execution_changes};
+ghost use Rattle.st_model.specs.inside.Calls.{itself};
+ghost use Rattle.st_step.specs.inside.Responding.{execute_sent};
+ghost use Rattle.st_step.specs.inside.Trying.{performs_above, performs_selector, performs_fields, performs_with, end_if_any, deed_if_any, number_changes};
+ghost use Rattle.st_lookup.specs.inside.Places.{found_word};
+ghost use Rattle.st_frames.specs.inside.Rows.{RowReads, RowDoes, RowLeaves, Takes, send_changes, response_changes, execution_changes};
 
 use crate::flags::{activated, by_flag};
 use crate::numbers::number_that_responds;
@@ -30,7 +30,7 @@ fn takes<O: Objects>(m: &O, r: &Registers, n: u32, found: Option<Word>) -> Resul
 }
 
 /// Executes the method that primitive 83 or 84 performs: of its primitives these two fail.
-#[tactic(auto, using(crate::proofs::Executes::responses), unfolding(st_model::specs::Executing::execute_performed, st_model::specs::Executing::execute_by, st_model::specs::Executing::respond_by_extension, crate::specs::Responding::by_flag, crate::specs::Trying::or_activated))]
+#[tactic(auto, using(crate::proofs::Executes::responses), unfolding(st_model::specs::Executing::execute_performed, st_model::specs::Executing::execute_by, st_model::specs::Executing::respond_by_extension, crate::specs::inside::Responding::by_flag, crate::specs::inside::Trying::or_activated))]
 fn execute_performed<O: Objects>(m: &mut O, r: &mut Registers, call: Call) -> Result<StepEnd, Dead>
     requires room { response_changes ≤ O.room m.old }
     ensures does { RowLeaves O.Objects.own (execute_performed O.names (call_of call))
@@ -128,7 +128,7 @@ fn spread_array<O: Objects>(m: &mut O, r: &mut Registers, array: Word, n: u32) -
 
 /// The selector is performed with the n arguments above it; none says that its method doesn't take as many, so that the
 /// primitive fails.
-#[tactic(auto, using(st_frames::proofs::Doing::rows), unfolding(crate::specs::Trying::performs, crate::specs::Trying::perform_if_fits, crate::specs::Trying::succeeds))]
+#[tactic(auto, using(st_frames::proofs::Doing::rows), unfolding(crate::specs::inside::Trying::performs, crate::specs::inside::Trying::perform_if_fits, crate::specs::inside::Trying::succeeds))]
 fn performs_above<O: Objects>(
     m: &mut O,
     r: &mut Registers,
@@ -158,7 +158,7 @@ fn performs_above<O: Objects>(
 }
 
 /// Tries primitive 83, as the first of 83 and 84 in its bytecode.
-#[tactic(auto, using(crate::proofs::Performed::selectors), unfolding(crate::specs::Trying::performs_first))]
+#[tactic(auto, using(crate::proofs::Performed::selectors), unfolding(crate::specs::inside::Trying::performs_first))]
 pub fn performs_selector<O: Objects>(
     m: &mut O,
     r: &mut Registers,
@@ -181,7 +181,7 @@ pub fn performs_selector<O: Objects>(
 
 /// The selector is performed with the n fields of an Array, which stands above it; none says that its method doesn't take as
 /// many.
-#[tactic(auto, using(st_frames::proofs::Doing::rows), unfolding(crate::specs::Trying::performs, crate::specs::Trying::perform_if_fits, crate::specs::Trying::succeeds))]
+#[tactic(auto, using(st_frames::proofs::Doing::rows), unfolding(crate::specs::inside::Trying::performs, crate::specs::inside::Trying::perform_if_fits, crate::specs::inside::Trying::succeeds))]
 fn performs_fields<O: Objects>(
     m: &mut O,
     r: &mut Registers,
@@ -214,7 +214,7 @@ fn performs_fields<O: Objects>(
 }
 
 /// Tries primitive 84, as the first of 83 and 84 in its bytecode.
-#[tactic(auto, using(st_frames::proofs::Doing::rows), unfolding(crate::specs::Trying::performs_with))]
+#[tactic(auto, using(st_frames::proofs::Doing::rows), unfolding(crate::specs::inside::Trying::performs_with))]
 pub fn performs_with<O: Objects>(m: &mut O, r: &mut Registers) -> Result<Option<StepEnd>, Dead>
     requires room { execution_changes ≤ O.room m.old }
     ensures does { RowLeaves O.Objects.own (performs_with O.names)

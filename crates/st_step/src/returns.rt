@@ -1,7 +1,7 @@
 ghost use Rattle.std.specs.Prelude.{◌≤◌};
 ghost use Rattle.st_model.specs.{Values.word, Outcomes.end_of, Deeds.deed_of_end, Executing.executed_if_any};
 ghost use Rattle.st_model.specs.{Bytecodes.{return_top_to_sender, return_top_to_caller}, Returns.return_to_sender};
-ghost use Rattle.st_frames.specs.Rows.{RowLeaves, Takes, executed_return_changes};
+ghost use Rattle.st_frames.specs.inside.Rows.{RowLeaves, Takes, executed_return_changes};
 
 use crate::execute::execute_if_any;
 use st_control::return_past;

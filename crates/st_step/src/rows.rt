@@ -1,7 +1,7 @@
 ghost use Rattle.std.specs.Prelude.{◌≤◌};
 ghost use Rattle.st_model.specs.{Outcomes.end_of, Deeds.deed_of_end, Decoded.IsNumbered};
 ghost use Rattle.st_model.specs.{Executing.executed_if_any, Bytecodes.{return_constant, bytecode, step}};
-ghost use Rattle.st_frames.specs.Rows.{RowLeaves, Takes, executed_return_changes, bytecode_changes};
+ghost use Rattle.st_frames.specs.inside.Rows.{RowLeaves, Takes, executed_return_changes, bytecode_changes};
 
 use crate::jump::{long_conditional_jump, short_jump_on_false};
 use crate::returns::{return_top_to_caller, return_top_to_sender, return_word};
@@ -31,7 +31,7 @@ fn return_constant<O: Objects>(m: &mut O, r: &mut Registers, c: Constant) -> Res
 }
 
 /// Does the row of a bytecode.
-#[tactic(auto, using(st_frames::proofs::Doing::rows), unfolding(st_model::specs::Bytecodes::bytecode, st_model::specs::Bytecodes::long_jump_on_true, st_model::specs::Bytecodes::long_jump_on_false, crate::specs::Jumping::long_conditional_jump, st_model::specs::Executing::goes_on, st_model::specs::Bytecodes::return_receiver, st_model::specs::Executing::executed_if_any))]
+#[tactic(auto, using(st_frames::proofs::Doing::rows), unfolding(st_model::specs::Bytecodes::bytecode, st_model::specs::Bytecodes::long_jump_on_true, st_model::specs::Bytecodes::long_jump_on_false, crate::specs::inside::Jumping::long_conditional_jump, st_model::specs::Executing::goes_on, st_model::specs::Bytecodes::return_receiver, st_model::specs::Executing::executed_if_any))]
 fn bytecode<O: Objects>(m: &mut O, r: &mut Registers, code: Bytecode) -> Result<StepEnd, Dead>
     requires numbered { IsNumbered code }
     requires room { bytecode_changes ≤ O.room m.old }

@@ -3,7 +3,7 @@ ghost use Rattle.st_model.specs.{Values.word, Outcomes.end_of, Deeds.deed_of_end
 ghost use Rattle.st_model.specs.{Sends.{call_of, special_send}, Executing.executed};
 ghost use Rattle.st_model.specs.Bytecodes.{send_literal, extended_send, double_extended_send, extended_super_send, double_extended_super_send, or_send, arithmetic_by, arithmetic_send, primitive_send};
 ghost use Rattle.st_model.specs.{Arithmetic.arithmetic, Blocks.{primitive_block_copy, primitive_value}};
-ghost use Rattle.st_frames.specs.Rows.{RowDoes, RowLeaves, Takes, send_changes, executed_send_changes};
+ghost use Rattle.st_frames.specs.inside.Rows.{RowDoes, RowLeaves, Takes, send_changes, executed_send_changes};
 
 use crate::execute::execute;
 use st_control::{

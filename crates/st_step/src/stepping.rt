@@ -1,9 +1,9 @@
 ghost use Rattle.std.specs.Prelude.{◌≡◌, IfOk};
 ghost use Rattle.st_model.specs.{Outcomes.{end_of, outcome_of}, Deeds.deed_of_end, Machine.{used, Went}};
-ghost use Rattle.st_model.specs.{Table.{table, apart, bounded_table}, Bytecodes.step, Calls.Does};
-ghost use Rattle.st_frames.specs.Shown.{IsFrame, IsReady, shown};
-ghost use Rattle.st_control.specs.Foreseen.{IsForeseen};
-ghost use Rattle.st_step.specs.Planned.{HasTop, Plans, PlansBirths, TopSaid};
+ghost use Rattle.st_model.specs.{Table.{table, apart, bounded_table}, Bytecodes.step, inside.Calls.Does};
+ghost use Rattle.st_frames.specs.inside.Shown.{IsFrame, IsReady, shown};
+ghost use Rattle.st_control.specs.inside.Foreseen.{IsForeseen};
+ghost use Rattle.st_step.specs.inside.Planned.{HasTop, Plans, PlansBirths, TopSaid};
 
 use crate::rows::step_row;
 use st_draft::Draft;

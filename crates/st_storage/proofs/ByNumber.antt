@@ -10,7 +10,7 @@ use Rattle.st_model.specs.Storage.{storage, primitive_say}
 use Rattle.st_model.specs.Storage as step
 use Rattle.st_model.specs.Table.{Table}
 use Rattle.st_frames.proofs.Doing.{rows}
-use Rattle.st_storage.specs.Numbers.{takes_arguments}
+use Rattle.st_storage.specs.inside.Numbers.{takes_arguments}
 use Rattle.st_frames.proofs.Numbered.{fails, none, taken}
 
 module _ (m : ObjectMemory Table) where

@@ -8,14 +8,14 @@ use Rattle.st_model.specs.declared.word.Word.{Word}
 use Rattle.st_model.specs.Values.{word}
 use Rattle.st_model.specs.Machine.{ObjectMemory, State, Died, Went, after, ◌>>=◌}
 use Rattle.st_model.specs.Table.{Table, IsTabular}
-use Rattle.st_model.specs.Calls.{Reads}
+use Rattle.st_model.specs.inside.Calls.{Reads}
 use Rattle.st_model.specs.Steps.{top}
 use Rattle.st_model.specs.BitBlt.{Copy, read_copy, primitive_copy_bits}
 use Rattle.st_model.specs.Deeds.{is_done, deed_of_trial}
 use Rattle.st_simulation.proofs.BitBltLeft.{bits-copied, bits-failed}
 use Rattle.st_memory.specs.declared.objects.Objects.{Ghosts}
 use Rattle.st_frames.specs.declared.registers.Registers.{Registers as Words}
-use Rattle.st_frames.specs.Rows.{row_state, state_of, RowLeaves}
+use Rattle.st_frames.specs.inside.Rows.{row_state, state_of, RowLeaves}
 
 pub bits-unseen : (m : ObjectMemory Table) (cause : Dead) (s : State Table) → (top m).run s ≡ Died cause → (primitive_copy_bits m).run s ≡ Died cause
 unfolding primitive_copy_bits ◌>>=◌ after

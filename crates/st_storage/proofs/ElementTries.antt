@@ -8,8 +8,8 @@ use Rattle.st_model.specs.Table.{Table}
 use Rattle.st_model.specs.Steps.{top, under}
 use Rattle.st_model.specs.Primitives.{primitive, number_of}
 use Rattle.st_model.specs.Storage.{count_elements, fetch_element, place_at, place_behind_fixed, store_and_answer, storing_behind_fixed, storing_by_index, storing_character, primitive_at, primitive_at_put, primitive_instance_variable_at, primitive_instance_variable_at_put, primitive_size, primitive_string_at_put, Storing}
-use Rattle.st_frames.specs.Answering.{succeed_by}
-use Rattle.st_storage.specs.Storing.{put_operands}
+use Rattle.st_frames.specs.inside.Answering.{succeed_by}
+use Rattle.st_storage.specs.inside.Storing.{put_operands}
 use Rattle.st_storage.proofs.PutTries.{ungiven}
 use Rattle.st_frames.proofs.Tries.{primitive-done}
 

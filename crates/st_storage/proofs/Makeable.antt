@@ -9,7 +9,7 @@ use Rattle.st_model.specs.Objects.{is_method, nil}
 use Rattle.st_model.specs.Formed.{IsMakeable}
 use Rattle.st_model.specs.Steps.{same_value}
 use Rattle.st_model.specs.Storage.{body_words, method_words}
-use Rattle.st_memory.specs.Making.{CanMake}
+use Rattle.st_memory.specs.inside.Making.{CanMake}
 use Rattle.st_model.proofs.SameValues.{other_value}
 
 replicated : {A : Type 0} (n : ℕ) (a : A) → length (replicate n a) ≡ n

@@ -10,8 +10,8 @@ use Rattle.st_model.specs.Steps.{of_page, same_value, check, top, under}
 use Rattle.st_model.specs.declared.page.PageObject.TheVariants.{MethodClass}
 use Rattle.st_model.specs.Primitives.{primitive, positive_small, bits_or_die}
 use Rattle.st_model.specs.Storage.{method_shape, new_method, place_to_store, store_in_method, method_words, primitive_new_method, primitive_object_at_put, MethodShape}
-use Rattle.st_frames.specs.Answering.{succeed_by, succeed_with}
-use Rattle.st_storage.specs.Storing.{put_operands}
+use Rattle.st_frames.specs.inside.Answering.{succeed_by, succeed_with}
+use Rattle.st_storage.specs.inside.Storing.{put_operands}
 use Rattle.st_storage.proofs.PutTries.{ungiven}
 use Rattle.st_frames.proofs.Tries.{primitive-died, primitive-held, primitive-done}
 

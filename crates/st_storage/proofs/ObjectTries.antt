@@ -8,11 +8,11 @@ use Rattle.st_model.specs.Table.{Table}
 use Rattle.st_model.specs.Steps.{get_free, make, top, under}
 use Rattle.st_model.specs.Primitives.{number, fixed_count}
 use Rattle.st_model.specs.Storage.{check_objects, exchange_and_answer, fixed_specification, indexed_shape, kind_of_fixed, primitive_become, primitive_new, primitive_new_with, half_pointer, primitive_as_oop, primitive_core_left, primitive_oops_left, replacing, replace_and_answer, primitive_replace, Shape, Replacing}
-use Rattle.st_model.specs.Calls.{Changes, itself}
+use Rattle.st_model.specs.inside.Calls.{Changes, itself}
 use Rattle.st_frames.specs.declared.registers.Registers.{Registers as Words}
-use Rattle.st_frames.specs.Rows.{row_state}
+use Rattle.st_frames.specs.inside.Rows.{row_state}
 use Rattle.st_frames.proofs.Doing.{row-memory, row-head, row-stored}
-use Rattle.st_frames.specs.Answering.{succeed_by, succeed_with}
+use Rattle.st_frames.specs.inside.Answering.{succeed_by, succeed_with}
 use Rattle.st_frames.proofs.Tries.{primitive-failed, primitive-died, primitive-done, primitive-held, primitive-small}
 
 pub tried-new : (m : ObjectMemory Table) (v : Value) (a : ℕ) (s : State Table) (y : Transition (State Table) Bool) → (top m).run s ≡ Went v s

@@ -10,8 +10,8 @@ use Rattle.st_model.specs.declared.tried.Tried.{Tried}
 use Rattle.st_model.specs.Deeds.{is_done, deed_of_trial}
 use Rattle.st_memory.specs.declared.objects.Objects.{Ghosts}
 use Rattle.st_frames.specs.declared.registers.Registers.{Registers as Words}
-use Rattle.st_frames.specs.Rows.{state_of, RowLeaves}
-use Rattle.st_storage.specs.Storing.{Operands, put_operands}
+use Rattle.st_frames.specs.inside.Rows.{state_of, RowLeaves}
+use Rattle.st_storage.specs.inside.Storing.{Operands, put_operands}
 
 died : {A B : Type 0} (a k : Dead) → (let x : Transition (State Table) A = Died a in x ≡ Died k) → (let x : Transition (State Table) B = Died a in x ≡ Died k)
 died a k e = let q : a ≡ k = cc in ap (λ c. Died c) q

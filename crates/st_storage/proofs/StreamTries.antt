@@ -6,7 +6,7 @@ use Rattle.st_model.specs.Machine.{ObjectMemory, State, Transition, Died, Went, 
 use Rattle.st_model.specs.Table.{Table}
 use Rattle.st_model.specs.Steps.{top, under}
 use Rattle.st_model.specs.Storage.{put_next, stream_putting, stream_standing, take_next, primitive_next, primitive_next_put, Standing, Putting}
-use Rattle.st_frames.specs.Answering.{succeed_by, succeed_with}
+use Rattle.st_frames.specs.inside.Answering.{succeed_by, succeed_with}
 use Rattle.st_frames.proofs.Tries.{primitive-died, primitive-done, primitive-held}
 
 pub tried-next : (m : ObjectMemory Table) (v z : Value) (a : Standing) (s t : State Table) (y : Transition (State Table) Bool) → (top m).run s ≡ Went v s

@@ -2,13 +2,13 @@
 
 ghost use Rattle.std.specs.Prelude.{◌≡◌, ◌<◌, ◌≤◌, ◌+◌, ◌-◌, ◌^◌, Ok, IfOk, false};
 ghost use Rattle.st_model.specs.Values.{word};
-ghost use Rattle.st_model.specs.Calls.{itself};
+ghost use Rattle.st_model.specs.inside.Calls.{itself};
 ghost use Rattle.st_model.specs.Storage.{place_in_method, header_or_literal, primitive_object_at, check_header, place_to_store, store_in_method, primitive_object_at_put, method_words, method_shape, new_method, primitive_new_method};
 ghost use Rattle.st_model.specs.Steps.{store_method_field};
-ghost use Rattle.st_frames.specs.Answering.{succeed_by, answer_word, answer_deed, no_word};
-ghost use Rattle.st_storage.specs.Storing.{method_shape_in};
+ghost use Rattle.st_frames.specs.inside.Answering.{succeed_by, answer_word, answer_deed, no_word};
+ghost use Rattle.st_storage.specs.inside.Storing.{method_shape_in};
 ghost use Rattle.st_model.specs.Deeds.{is_done, deed_of_trial, copies_pixels};
-ghost use Rattle.st_frames.specs.Rows.{RowReads, RowLeaves, Takes};
+ghost use Rattle.st_frames.specs.inside.Rows.{RowReads, RowLeaves, Takes};
 
 use crate::elements::count_literals;
 use crate::numbers::small_word;
@@ -151,7 +151,7 @@ fn store_in_method<O: Objects>(m: &O, r: &Registers, put: Put, i: u32) -> Result
 }
 
 /// Stores a value in a Method, and answers it.
-#[tactic(auto, using(st_frames::proofs::Doing::rows), unfolding(st_frames::specs::Answering::succeed_by))]
+#[tactic(auto, using(st_frames::proofs::Doing::rows), unfolding(st_frames::specs::inside::Answering::succeed_by))]
 fn answer_in_method<O: Objects>(
     m: &mut O,
     r: &mut Registers,

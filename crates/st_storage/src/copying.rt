@@ -1,7 +1,7 @@
 ghost use Rattle.std.specs.Prelude.{◌≡◌};
 ghost use Rattle.st_model.specs.BitBlt.{primitive_copy_bits};
 ghost use Rattle.st_model.specs.Deeds.{is_done, deed_of_trial};
-ghost use Rattle.st_frames.specs.Rows.{RowLeaves};
+ghost use Rattle.st_frames.specs.inside.Rows.{RowLeaves};
 
 use st_bitblt::read_bit_blt;
 use st_frames::{Registers, top};

@@ -1,8 +1,8 @@
 ghost use Rattle.std.specs.Prelude.{◌≡◌, ◌≤◌, ◌+◌};
 ghost use Rattle.st_model.specs.Storage.{storage};
 ghost use Rattle.st_model.specs.Deeds.{is_done, deed_of_trial};
-ghost use Rattle.st_storage.specs.Numbers.{takes_arguments};
-ghost use Rattle.st_frames.specs.Rows.{RowLeaves, Takes, storage_changes};
+ghost use Rattle.st_storage.specs.inside.Numbers.{takes_arguments};
+ghost use Rattle.st_frames.specs.inside.Rows.{RowLeaves, Takes, storage_changes};
 
 use crate::compiled_methods::{primitive_new_method, primitive_object_at, primitive_object_at_put};
 use crate::copying::primitive_copy_bits;

@@ -1,8 +1,8 @@
 ghost use Rattle.std.specs.Prelude.{◌≡◌, ◌<◌, ◌≤◌, ◌+◌, ◌-◌, ◌≤ℤ◌, pos, negsuc, IfOk};
 ghost use Rattle.st_model.specs.Values.{word};
-ghost use Rattle.st_model.specs.Calls.{itself};
+ghost use Rattle.st_model.specs.inside.Calls.{itself};
 ghost use Rattle.st_model.specs.Storage.{count_literals, first_place, place_of_element, place_at, place_behind_fixed, count_elements};
-ghost use Rattle.st_frames.specs.Rows.{RowReads};
+ghost use Rattle.st_frames.specs.inside.Rows.{RowReads};
 
 use crate::numbers::fixed_fields;
 use crate::shapes::Indexed;

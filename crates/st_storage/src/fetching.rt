@@ -2,8 +2,8 @@ ghost use Rattle.std.specs.Prelude.{◌≡◌, ◌<◌, ◌≤◌, ◌+◌, true
 ghost use Rattle.st_model.specs.Values.{word};
 ghost use Rattle.st_model.specs.Storage.{fetch_element, primitive_at, primitive_size, primitive_instance_variable_at};
 ghost use Rattle.st_model.specs.Deeds.{is_done, deed_of_trial, copies_pixels};
-ghost use Rattle.st_frames.specs.Answering.{succeed_by, answer_word, answer_deed};
-ghost use Rattle.st_frames.specs.Rows.{RowLeaves, Takes};
+ghost use Rattle.st_frames.specs.inside.Answering.{succeed_by, answer_word, answer_deed};
+ghost use Rattle.st_frames.specs.inside.Rows.{RowLeaves, Takes};
 
 use crate::elements::{count_elements, place_at, place_behind_fixed};
 use crate::large::answer_integer;
@@ -45,7 +45,7 @@ pub fn fetch_element<O: Objects>(
 }
 
 /// Answers the element at a place.
-#[tactic(auto, using(st_frames::proofs::Doing::rows), unfolding(st_frames::specs::Answering::succeed_by))]
+#[tactic(auto, using(st_frames::proofs::Doing::rows), unfolding(st_frames::specs::inside::Answering::succeed_by))]
 fn answer_element<O: Objects>(
     m: &mut O,
     r: &mut Registers,

@@ -1,10 +1,10 @@
 ghost use Rattle.std.specs.Prelude.{◌≡◌, ◌<◌, ◌≤◌, ◌+◌, ◌^◌, IfOk};
 ghost use Rattle.st_model.specs.Values.{word};
-ghost use Rattle.st_model.specs.Calls.{itself};
+ghost use Rattle.st_model.specs.inside.Calls.{itself};
 ghost use Rattle.st_model.specs.Storage.{check_objects, exchange_and_answer, primitive_become, half_pointer, primitive_as_oop, kept_object_at, primitive_as_object, first_kept_instance, primitive_some_instance, instance_after, primitive_next_instance};
-ghost use Rattle.st_frames.specs.Answering.{succeed_by};
+ghost use Rattle.st_frames.specs.inside.Answering.{succeed_by};
 ghost use Rattle.st_model.specs.Deeds.{is_done, deed_of_trial};
-ghost use Rattle.st_frames.specs.Rows.{RowReads, RowLeaves, Takes};
+ghost use Rattle.st_frames.specs.inside.Rows.{RowReads, RowLeaves, Takes};
 
 use crate::numbers::small_word;
 use st_frames::{Registers, bits_or_die, succeed_with, top, under};
@@ -23,7 +23,7 @@ fn check_objects<O: Objects>(m: &O, r: &Registers, v: Word, w: Word) -> Result<(
 }
 
 /// Exchanges what two words name, and answers the first.
-#[tactic(auto, using(st_frames::proofs::Doing::rows), unfolding(st_frames::specs::Answering::succeed_by, st_model::specs::Storage::exchange_and_answer))]
+#[tactic(auto, using(st_frames::proofs::Doing::rows), unfolding(st_frames::specs::inside::Answering::succeed_by, st_model::specs::Storage::exchange_and_answer))]
 fn exchange_and_answer<O: Objects>(
     m: &mut O,
     r: &mut Registers,

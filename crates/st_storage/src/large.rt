@@ -1,8 +1,8 @@
 ghost use Rattle.std.specs.Prelude.{◌≡◌, ◌<◌, ◌≤◌, ◌+◌, ◌≤ℤ◌, pos, negsuc, false, IfOk};
 ghost use Rattle.st_model.specs.Primitives.{number, number_of};
 ghost use Rattle.st_model.specs.Deeds.{is_done, deed_of_trial, copies_pixels};
-ghost use Rattle.st_frames.specs.Answering.{succeed_by, answer_word, answer_deed};
-ghost use Rattle.st_frames.specs.Rows.{RowLeaves, Takes};
+ghost use Rattle.st_frames.specs.inside.Answering.{succeed_by, answer_word, answer_deed};
+ghost use Rattle.st_frames.specs.inside.Rows.{RowLeaves, Takes};
 
 use st_frames::{Answer, Registers, number, small_integer, succeed_leaving};
 use st_memory::Objects;
@@ -30,7 +30,7 @@ fn number_of<O: Objects>(m: &mut O, r: &Registers, n: i32) -> Result<Answer, Dea
 }
 
 /// Answers a number to a primitive without arguments.
-#[tactic(auto, using(st_frames::proofs::Doing::rows), unfolding(st_frames::specs::Answering::succeed_by))]
+#[tactic(auto, using(st_frames::proofs::Doing::rows), unfolding(st_frames::specs::inside::Answering::succeed_by))]
 pub fn answer_number<O: Objects>(m: &mut O, r: &mut Registers, n: u32) -> Result<Tried, Dead>
     requires room { 2 ≤ O.room m.old }
     ensures does { RowLeaves O.Objects.own (succeed_by O.names 0 (number O.names n))
@@ -42,7 +42,7 @@ pub fn answer_number<O: Objects>(m: &mut O, r: &mut Registers, n: u32) -> Result
 }
 
 /// Answers an integer to a primitive without arguments.
-#[tactic(auto, using(st_frames::proofs::Doing::rows), unfolding(st_frames::specs::Answering::succeed_by))]
+#[tactic(auto, using(st_frames::proofs::Doing::rows), unfolding(st_frames::specs::inside::Answering::succeed_by))]
 pub fn answer_integer<O: Objects>(m: &mut O, r: &mut Registers, n: i32) -> Result<Tried, Dead>
     requires low { negsuc 2047 ≤ℤ n }
     requires high { n ≤ℤ pos 131066 }

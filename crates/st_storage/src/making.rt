@@ -2,14 +2,14 @@ ghost use Rattle.std.specs.Prelude.{◌≡◌, ◌≢◌, ◌<◌, ◌≤◌, �
 ghost use Rattle.st_model.specs.Values.{Ref, word};
 ghost use Rattle.st_model.specs.Objects.{place_of, is_method};
 ghost use Rattle.st_model.specs.declared.page.PageObject.TheVariants.{MethodClass};
-ghost use Rattle.st_model.specs.Calls.{itself};
+ghost use Rattle.st_model.specs.inside.Calls.{itself};
 ghost use Rattle.st_model.specs.Storage.{check_not_method_class, kind_of_fixed, fixed_specification, primitive_new, kind_of_indexed, body_words, checked_shape, indexed_shape, primitive_new_with};
 ghost use Rattle.st_model.specs.Steps.{make};
 ghost use Rattle.st_model.specs.Primitives.{fixed_count};
-ghost use Rattle.st_frames.specs.Answering.{succeed_by};
-ghost use Rattle.st_storage.specs.Storing.{shape_in};
+ghost use Rattle.st_frames.specs.inside.Answering.{succeed_by};
+ghost use Rattle.st_storage.specs.inside.Storing.{shape_in};
 ghost use Rattle.st_model.specs.Deeds.{is_done, deed_of_trial};
-ghost use Rattle.st_frames.specs.Rows.{RowReads, RowLeaves, Takes};
+ghost use Rattle.st_frames.specs.inside.Rows.{RowReads, RowLeaves, Takes};
 
 use crate::numbers::{fixed_count, has_pointers, has_words, is_indexable, specification};
 use crate::shapes::Shape;
@@ -61,7 +61,7 @@ fn fixed_specification<O: Objects>(m: &O, r: &Registers, class: Word) -> Result<
 }
 
 /// Answers a new instance of a class, by its specification.
-#[tactic(auto, using(st_frames::proofs::Doing::rows, crate::proofs::Makeable::makeable), unfolding(st_frames::specs::Answering::succeed_by))]
+#[tactic(auto, using(st_frames::proofs::Doing::rows, crate::proofs::Makeable::makeable), unfolding(st_frames::specs::inside::Answering::succeed_by))]
 fn answer_fixed<O: Objects>(
     m: &mut O,
     r: &mut Registers,
@@ -152,7 +152,7 @@ fn indexed_shape<O: Objects>(m: &O, r: &Registers, class: Word, count: Word) -> 
 }
 
 /// Answers a new instance of a class, by its shape.
-#[tactic(auto, using(st_frames::proofs::Doing::rows, crate::proofs::Makeable::makeable), unfolding(st_frames::specs::Answering::succeed_by))]
+#[tactic(auto, using(st_frames::proofs::Doing::rows, crate::proofs::Makeable::makeable), unfolding(st_frames::specs::inside::Answering::succeed_by))]
 fn answer_shaped<O: Objects>(
     m: &mut O,
     r: &mut Registers,

@@ -1,8 +1,8 @@
 ghost use Rattle.std.specs.Prelude.{◌≡◌, ◌<◌, ◌^◌, IfOk};
 ghost use Rattle.st_model.specs.Values.{Small, word};
-ghost use Rattle.st_model.specs.Calls.{itself};
+ghost use Rattle.st_model.specs.inside.Calls.{itself};
 ghost use Rattle.st_model.specs.Primitives.{byte_or_die, has_pointers, has_words, is_indexable, fixed_count, specification, fixed_fields};
-ghost use Rattle.st_frames.specs.Rows.{RowReads};
+ghost use Rattle.st_frames.specs.inside.Rows.{RowReads};
 
 use st_frames::{Registers, bits_or_die};
 use st_memory::Objects;

@@ -2,11 +2,11 @@ ghost use Rattle.std.specs.Prelude.{◌≡◌, ◌<◌, ◌≤◌, ◌+◌, true
 ghost use Rattle.st_model.specs.Values.{word};
 ghost use Rattle.st_model.specs.Storage.{store_element, store_and_answer, primitive_at_put, primitive_string_at_put, primitive_instance_variable_at_put};
 ghost use Rattle.st_model.specs.Steps.{store_word, store_byte};
-ghost use Rattle.st_model.specs.Calls.{itself};
+ghost use Rattle.st_model.specs.inside.Calls.{itself};
 ghost use Rattle.st_model.specs.Deeds.{is_done, deed_of_trial, copies_pixels};
-ghost use Rattle.st_frames.specs.Answering.{IsOfKind, succeed_by, answer_word, answer_deed, no_word};
-ghost use Rattle.st_storage.specs.Storing.{storing_in};
-ghost use Rattle.st_frames.specs.Rows.{RowLeaves, Takes};
+ghost use Rattle.st_frames.specs.inside.Answering.{IsOfKind, succeed_by, answer_word, answer_deed, no_word};
+ghost use Rattle.st_storage.specs.inside.Storing.{storing_in};
+ghost use Rattle.st_frames.specs.inside.Rows.{RowLeaves, Takes};
 
 use crate::shapes::Storing;
 use crate::storing::{put_operands, storing_behind_fixed, storing_by_index};
@@ -87,7 +87,7 @@ fn store_and_answer<O: Objects>(m: &mut O, r: &Registers, s: Storing) -> Result<
 }
 
 /// Stores a value as an element, and answers it to a primitive of two arguments.
-#[tactic(auto, using(st_frames::proofs::Doing::rows), unfolding(st_frames::specs::Answering::succeed_by))]
+#[tactic(auto, using(st_frames::proofs::Doing::rows), unfolding(st_frames::specs::inside::Answering::succeed_by))]
 fn answer_stored<O: Objects>(m: &mut O, r: &mut Registers, s: Storing) -> Result<Tried, Dead>
     requires kind { IsOfKind O.Objects.own m.old s.object s.kind }
     requires room { 2 ≤ O.room m.old }

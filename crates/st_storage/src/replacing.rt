@@ -4,9 +4,9 @@ ghost use Rattle.st_model.specs.Values.{word};
 ghost use Rattle.st_model.specs.Storage.{checked_replacing, replacing, replace_and_answer, primitive_replace};
 ghost use Rattle.st_model.specs.Steps.{fetch_bytes};
 ghost use Rattle.st_model.specs.Deeds.{bytes_from, is_done, deed_of_trial, copies_pixels};
-ghost use Rattle.st_frames.specs.Answering.{IsOfKind, answer_word, answer_deed};
-ghost use Rattle.st_storage.specs.Storing.{replacing_in, IsFewBytes};
-ghost use Rattle.st_frames.specs.Rows.{RowReads, RowLeaves, Takes};
+ghost use Rattle.st_frames.specs.inside.Answering.{IsOfKind, answer_word, answer_deed};
+ghost use Rattle.st_storage.specs.inside.Storing.{replacing_in, IsFewBytes};
+ghost use Rattle.st_frames.specs.inside.Rows.{RowReads, RowLeaves, Takes};
 
 use crate::shapes::Replacing;
 use st_frames::{

@@ -1,8 +1,8 @@
 ghost use Rattle.std.specs.Prelude.{◌≡◌, ◌≤◌, ◌+◌};
 ghost use Rattle.st_model.specs.Values.{word};
-ghost use Rattle.st_model.specs.Calls.{itself};
+ghost use Rattle.st_model.specs.inside.Calls.{itself};
 ghost use Rattle.st_model.specs.Storage.{primitive_say};
-ghost use Rattle.st_frames.specs.Rows.{RowDoes, Takes};
+ghost use Rattle.st_frames.specs.inside.Rows.{RowDoes, Takes};
 
 use st_frames::{Registers, answer_with, check_bytes};
 use st_memory::Objects;

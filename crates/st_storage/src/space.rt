@@ -1,7 +1,7 @@
 ghost use Rattle.std.specs.Prelude.{◌≡◌, ◌≤◌, ◌+◌};
 ghost use Rattle.st_model.specs.Storage.{primitive_core_left, primitive_oops_left};
 ghost use Rattle.st_model.specs.Deeds.{is_done, deed_of_trial};
-ghost use Rattle.st_frames.specs.Rows.{RowLeaves, Takes};
+ghost use Rattle.st_frames.specs.inside.Rows.{RowLeaves, Takes};
 
 use crate::large::answer_number;
 use st_frames::Registers;

@@ -1,12 +1,12 @@
 ghost use Rattle.std.specs.Prelude.{◌≡◌, ◌<◌, IfOk, Ok};
 ghost use Rattle.st_model.specs.Values.{word};
 ghost use Rattle.st_model.specs.Formed.{unit_limit};
-ghost use Rattle.st_model.specs.Calls.{itself};
+ghost use Rattle.st_model.specs.inside.Calls.{itself};
 ghost use Rattle.st_model.specs.Storage.{word_of_value, unit_by, unit_of_element, storing_at, storing_by_index, storing_behind_fixed};
-ghost use Rattle.st_frames.specs.Answering.{IsOfKind};
-ghost use Rattle.st_storage.specs.Storing.{element_unit, storing_in, IsStoringOf, put_in, put_operands};
+ghost use Rattle.st_frames.specs.inside.Answering.{IsOfKind};
+ghost use Rattle.st_storage.specs.inside.Storing.{element_unit, storing_in, IsStoringOf, put_in, put_operands};
 ghost use Rattle.st_model.specs.Steps.{top, under};
-ghost use Rattle.st_frames.specs.Rows.{RowReads};
+ghost use Rattle.st_frames.specs.inside.Rows.{RowReads};
 
 use crate::elements::{place_at, place_behind_fixed};
 use crate::numbers::byte_or_die;
@@ -17,7 +17,7 @@ use st_model::{Dead, Kind, Word};
 
 /// What a primitive is given that puts a value: the object, the index and the value.
 #[inline(always)]
-#[tactic(auto, using(st_frames::proofs::Doing::rows), unfolding(crate::specs::Storing::put_operands))]
+#[tactic(auto, using(st_frames::proofs::Doing::rows), unfolding(crate::specs::inside::Storing::put_operands))]
 pub fn put_operands<O: Objects>(m: &O, r: &Registers) -> Result<Put, Dead>
     ensures does { RowReads O.Objects.own (put_operands O.names) put_in m.now r.now result }
     ensures object { IfOk result (λ p. RowReads O.Objects.own

@@ -1,14 +1,14 @@
 ghost use Rattle.std.specs.Prelude.{◌≡◌, ◌<◌, ◌≤◌, ◌+◌, ◌-◌, IfOk, Ok, true, false};
 ghost use Rattle.st_model.specs.declared.kind.Kind.TheVariants.{Bytes};
 ghost use Rattle.st_model.specs.Values.{Small, word};
-ghost use Rattle.st_model.specs.Calls.{itself};
+ghost use Rattle.st_model.specs.inside.Calls.{itself};
 ghost use Rattle.st_model.specs.Primitives.{truth};
 ghost use Rattle.st_model.specs.Storage.{has_characters, is_at_end, primitive_at_end, stream_place, position_below, stream_standing, stream_element, take_next, primitive_next, stream_unit, stream_putting, put_next, primitive_next_put};
 ghost use Rattle.st_model.specs.Steps.{store_field};
 ghost use Rattle.st_model.specs.Deeds.{is_done, deed_of_trial, copies_pixels};
-ghost use Rattle.st_frames.specs.Answering.{IsOfKind, succeed_by, answer_word, answer_deed};
-ghost use Rattle.st_storage.specs.Storing.{element_unit, are_characters, standing_in, StandsIn, putting_in};
-ghost use Rattle.st_frames.specs.Rows.{RowReads, RowDoes, RowLeaves, Takes};
+ghost use Rattle.st_frames.specs.inside.Answering.{IsOfKind, succeed_by, answer_word, answer_deed};
+ghost use Rattle.st_storage.specs.inside.Storing.{element_unit, are_characters, standing_in, StandsIn, putting_in};
+ghost use Rattle.st_frames.specs.inside.Rows.{RowReads, RowDoes, RowLeaves, Takes};
 
 use crate::elements::place_of_element;
 use crate::fetching::fetch_element;
@@ -297,7 +297,7 @@ fn put_next<O: Objects>(m: &mut O, r: &Registers, p: Putting) -> Result<Answer, 
 }
 
 /// Stores the next element of a stream, and answers it.
-#[tactic(auto, using(st_frames::proofs::Doing::rows), unfolding(st_frames::specs::Answering::succeed_by))]
+#[tactic(auto, using(st_frames::proofs::Doing::rows), unfolding(st_frames::specs::inside::Answering::succeed_by))]
 fn answer_put<O: Objects>(m: &mut O, r: &mut Registers, p: Putting) -> Result<Tried, Dead>
     requires stands { StandsIn O.Objects.own m.old p.standing }
     requires kind { IsOfKind O.Objects.own m.old p.standing.collection p.kind }

@@ -1,12 +1,12 @@
 ghost use Rattle.std.specs.Prelude.{◌≡◌, ◌<◌, ◌≤◌, ◌+◌, IfOk};
 ghost use Rattle.st_model.specs.declared.kind.Kind.TheVariants.{Bytes};
 ghost use Rattle.st_model.specs.Values.{word};
-ghost use Rattle.st_model.specs.Calls.{itself};
+ghost use Rattle.st_model.specs.inside.Calls.{itself};
 ghost use Rattle.st_model.specs.Storage.{fetch_character, place_in_bytes, character_at, primitive_string_at, character_byte, storing_character};
-ghost use Rattle.st_frames.specs.Answering.{IsOfKind};
-ghost use Rattle.st_storage.specs.Storing.{storing_in, IsStoringOf};
+ghost use Rattle.st_frames.specs.inside.Answering.{IsOfKind};
+ghost use Rattle.st_storage.specs.inside.Storing.{storing_in, IsStoringOf};
 ghost use Rattle.st_model.specs.Deeds.{is_done, deed_of_trial};
-ghost use Rattle.st_frames.specs.Rows.{RowReads, RowLeaves, Takes};
+ghost use Rattle.st_frames.specs.inside.Rows.{RowReads, RowLeaves, Takes};
 
 use crate::elements::place_at;
 use crate::numbers::byte_or_die;

@@ -1,2 +1,1 @@
-pub mod Untold
-pub mod Refusing
+pub mod inside

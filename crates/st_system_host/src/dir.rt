@@ -1,7 +1,7 @@
 // The host of the real program. It tells nothing of what files and output hold.
 ghost use Rattle.std.specs.Prelude.{◌≡◌, ◌≤◌, false, None, [], length, IfOk};
 ghost use Rattle.st_host.specs.Counts.{HasCause};
-ghost use Rattle.st_system_host.specs.{Refusing.StaysRefused, Untold.{untold, CountsOnce}};
+ghost use Rattle.st_system_host.specs.{inside.Refusing.StaysRefused, inside.Untold.{untold, CountsOnce}};
 
 use crate::guard::{Guard, Place, Refusal};
 use st_host::{Host, HostFault, SayFault};
@@ -25,7 +25,7 @@ pub struct DirHost<R: Files<File = File> + Print + Drop> {
 }
 
 impl<R: Files<File = File> + Print + Drop> DirHost<R> {
-    ghost use Rattle.st_system_host.specs.Untold.{KeepsCounts};
+    ghost use Rattle.st_system_host.specs.inside.Untold.{KeepsCounts};
 
     /// A host over this runtime, of which no call has failed.
     pub fn new(rt: R) -> DirHost<R>

@@ -1,6 +1,6 @@
 // That no store is lost by a mistake: one process at a time has its files, and none is written over that is there.
 ghost use Rattle.std.specs.Prelude.{◌≡◌};
-ghost use Rattle.st_system_host.specs.Refusing.{StaysRefused};
+ghost use Rattle.st_system_host.specs.inside.Refusing.{StaysRefused};
 
 use arrayvec::ArrayString;
 use std::fmt::{self, Display, Formatter};

@@ -3,9 +3,9 @@ use Rattle.std.specs.Prelude.{◌==◌, nat_lt}
 use Rattle.std.proofs.lemmas.List.{get_or-set_same, get_or-set_other, get_or-replicate, length-replicate, get_or_past}
 use Rattle.st_model.specs.declared.oop.Oop.{Oop}
 use Rattle.st_table.specs.declared.entry.Entry.{Entry}
-use Rattle.st_table.specs.Bits.{bit, IsLeast}
-use Rattle.st_table.specs.Entries.{HasEntry, IsFree, IsLeastFree}
-use Rattle.st_table.specs.Mapped.{IsMapped}
+use Rattle.st_table.specs.inside.Bits.{bit, IsLeast}
+use Rattle.st_table.specs.inside.Entries.{HasEntry, IsFree, IsLeastFree}
+use Rattle.st_table.specs.inside.Mapped.{IsMapped}
 
 -- a place gets an entry or loses it, and its bit goes with it
 pub mapped_set : (ws ws' : List ℕ) (es : List (Option Entry)) (k : ℕ) (x : Option Entry) → IsMapped ws es → 0 < k → k < length es → bit ws' k ≡ cond (is_some x) 1 0 → ((i : ℕ) → i ≢ k → bit ws' i ≡ bit ws i) → IsMapped ws' (set es k x)

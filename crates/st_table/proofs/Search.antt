@@ -3,7 +3,7 @@ use Rattle.std.specs.Prelude.{◌==◌}
 use Rattle.std.specs.Int.{bit_at, trailing_ones}
 use Rattle.std.proofs.lemmas.List.{get_or-set_same, get_or-set_other, get_or-replicate, length-replicate}
 use Rattle.std.proofs.lemmas.Nat.Bits.{bit_at_ones, bit_at-trailing_ones}
-use Rattle.st_table.specs.Bits.{bit, IsSummary, IsLeast}
+use Rattle.st_table.specs.inside.Bits.{bit, IsSummary, IsLeast}
 
 -- bits of a full word are set
 pub full_bits : (ws : List ℕ) (i : ℕ) → get_or ws (i / 64) 0 ≡ 2 ^ 64 - 1 → bit ws i ≡ 1

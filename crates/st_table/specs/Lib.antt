@@ -1,3 +1,1 @@
-pub mod Bits
-pub mod Entries
-pub mod Mapped
+pub mod inside

@@ -1,5 +1,5 @@
 ghost use Rattle.std.specs.Prelude.{◌≡◌, ◌≢◌, ◌<◌, ◌≤◌, ◌*◌, ◌/◌, ◌+◌, ◌^◌, ◌-◌, ℕ, length, replicate, IfOk, IfSome, IfNone, slice_index};
-ghost use Rattle.st_table.specs.Bits.{bit, IsSummary, IsLeast, SameOtherBits};
+ghost use Rattle.st_table.specs.inside.Bits.{bit, IsSummary, IsLeast, SameOtherBits};
 
 use std::alloc::{AllocError, Global};
 

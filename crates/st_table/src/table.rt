@@ -1,5 +1,5 @@
 ghost use Rattle.std.specs.Prelude.{◌≡◌, ℕ, ◌+◌, ◌≤◌, ◌↔◌, Some, None, replicate, slice_set, IfOk, IfSome, IfNone, IsSome, IsTrue};
-ghost use Rattle.st_table.specs.Entries.{place, entry_of, with_next, with_before, HasEntry, IsFree, IsLeastFree};
+ghost use Rattle.st_table.specs.inside.Entries.{place, entry_of, with_next, with_before, HasEntry, IsFree, IsLeastFree};
 ghost use Rattle.st_model.specs.declared.oop.Oop.{Oop as Pointer};
 
 use crate::entry::Entry;
@@ -19,7 +19,7 @@ pub struct Table {
 impl Model for Table {
     ghost use Rattle.std.specs.Prelude.{List, Option};
     ghost use Rattle.st_table.specs.declared.entry.Entry.{Entry as Kept};
-    ghost use Rattle.st_table.specs.Mapped.{IsMapped};
+    ghost use Rattle.st_table.specs.inside.Mapped.{IsMapped};
 
     ghost Value = { List (Option Kept) };
 

@@ -2,7 +2,7 @@
 
 ghost use Rattle.std.specs.Prelude.{◌≡◌, IfOk, nat_lt, length};
 ghost use Rattle.st_chunk.specs.Definitions.{IsDefinition, entries};
-ghost use Rattle.st_changes.specs.Views.{definition_of};
+ghost use Rattle.st_changes.specs.inside.Views.{definition_of};
 
 use crate::hosts::{check_file, host_with};
 use st_changes::{Changes, Definition, Span, load};

@@ -5,7 +5,7 @@ use Rattle.st_host.specs.declared.host.HostFault.{HostFault}
 use Rattle.st_host.specs.declared.host.Host.{Ghosts}
 use Rattle.st_host.specs.Files.{Files}
 use Rattle.st_host.specs.Stops.{Here}
-use Rattle.st_host.specs.Pieces.{Held, end_of, Pushes}
+use Rattle.st_host.specs.inside.Pieces.{Held, end_of, Pushes}
 use Rattle.st_host.proofs.Pushing.{push_none, push_then, push_cut}
 
 -- The steps so far added these bytes, and moved the end by at most so many places.

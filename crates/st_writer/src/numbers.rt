@@ -1,6 +1,6 @@
 ghost use Rattle.std.specs.Prelude.{◌≡◌, ◌<◌, ◌≤◌, ◌^◌, length};
 ghost use Rattle.std.specs.List.{flat_map};
-ghost use Rattle.st_host.specs.Pieces.{end_of, Pushes};
+ghost use Rattle.st_host.specs.inside.Pieces.{end_of, Pushes};
 ghost use Rattle.st_writer.specs.Written.{word_bytes, long_bytes, zeros};
 
 use byteorder::{BigEndian, ByteOrder};

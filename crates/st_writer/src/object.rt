@@ -2,7 +2,7 @@ ghost use Rattle.std.specs.Prelude.{◌≡◌, ◌*◌, ◌≤◌, ◌^◌, ◌+
 ghost use Rattle.st_model.specs.Values.{value, Ref};
 ghost use Rattle.st_model.specs.Objects.{words_of};
 ghost use Rattle.st_model.specs.View.{is_live, object_of};
-ghost use Rattle.st_host.specs.Pieces.{end_of, Pushes};
+ghost use Rattle.st_host.specs.inside.Pieces.{end_of, Pushes};
 ghost use Rattle.st_writer.specs.Written.{word_bytes, marks, unit_words, object_bytes};
 
 use crate::numbers::push_word;

@@ -1,7 +1,7 @@
 ghost use Rattle.std.specs.Prelude.{◌≡◌, ◌*◌, ◌<◌, ◌≤◌, ◌^◌, length};
 ghost use Rattle.st_model.specs.Values.{value, Ref};
 ghost use Rattle.st_model.specs.Table.{entry};
-ghost use Rattle.st_host.specs.Pieces.{end_of, Pushes};
+ghost use Rattle.st_host.specs.inside.Pieces.{end_of, Pushes};
 ghost use Rattle.st_writer.specs.Written.{bytes_at, words_at, entry_bytes, space_below, entries_below, words_below, used_below};
 
 use crate::numbers::{push_long, push_word};

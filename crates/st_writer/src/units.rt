@@ -3,7 +3,7 @@ ghost use Rattle.std.specs.List.{flat_map};
 ghost use Rattle.st_model.specs.Values.{value};
 ghost use Rattle.st_model.specs.Objects.{is_words, is_pointers};
 ghost use Rattle.st_model.specs.View.{is_live, object_of};
-ghost use Rattle.st_host.specs.Pieces.{end_of, Pushes};
+ghost use Rattle.st_host.specs.inside.Pieces.{end_of, Pushes};
 ghost use Rattle.st_writer.specs.Written.{word_bytes, word_of, filler, unit_bytes};
 
 use crate::numbers::push_word;

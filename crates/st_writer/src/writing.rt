@@ -2,7 +2,7 @@ ghost use Rattle.std.specs.Prelude.{◌≡◌, ◌≤◌, length, IsTrue, IfOk, 
 ghost use Rattle.st_model.specs.Limits.{most_words};
 ghost use Rattle.st_host.specs.Counts.{HasCause};
 ghost use Rattle.st_host.specs.Runs.{WritesAbove, IsSynced};
-ghost use Rattle.st_host.specs.Pieces.{end_of, Pushes};
+ghost use Rattle.st_host.specs.inside.Pieces.{end_of, Pushes};
 ghost use Rattle.st_writer.specs.Written.{image_of, padding};
 
 use crate::head::push_head;

@@ -1,6 +1,6 @@
 use Rattle.std.proofs.Common.{◌≡◌, ℕ, length}
 use Rattle.std.specs.Prelude.{slice_index}
-use Rattle.st_cells.specs.Words.{slid}
+use Rattle.st_cells.specs.inside.Words.{slid}
 use Rattle.st_cells.proofs.slide.Given as goal
 
 -- k words have come down

@@ -1,5 +1,5 @@
 use Rattle.std.proofs.Common.{◌≡◌, ◌+◌, drop}
-use Rattle.st_cells.specs.Words.{with_bytes}
+use Rattle.st_cells.specs.inside.Words.{with_bytes}
 use Rattle.st_cells.proofs.write_bytes.Given as goal
 
 -- what is left to be written makes the same of the words

@@ -3,7 +3,7 @@ use Rattle.std.specs.Prelude.{Some}
 use Rattle.std.specs.String.{string_bytes}
 use Rattle.st_host.specs.Counts.{Rose}
 use Rattle.st_call.specs.declared.words.Command as declared
-use Rattle.st_call.specs.CommandViews.{command_view}
+use Rattle.st_call.specs.inside.CommandViews.{command_view}
 use Rattle.st_call.specs.Words.{Once, Import, Export, Clean, Condense, Session, Build, Drill}
 use Rattle.st_session.proofs.Called.{caused_by_none, command_ends, usage_ends}
 use Rattle.st80.proofs.tool.tool.Goals as goal

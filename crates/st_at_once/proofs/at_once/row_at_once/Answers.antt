@@ -1,4 +1,4 @@
-use Rattle.st_frames.specs.Rows.{row_state}
+use Rattle.st_frames.specs.inside.Rows.{row_state}
 use Rattle.st_at_once.proofs.InContext.{names_then, names_left, names_stay, next_byte_stays, row_stays}
 use Rattle.st_at_once.proofs.at_once.row_at_once.Goals as goal
 

@@ -3,11 +3,11 @@ use Rattle.st_model.specs.Machine.{State}
 use Rattle.st_model.specs.Deeds.{with_deed}
 use Rattle.st_model.specs.Table.{Table, bounded_table}
 use Rattle.st_model.specs.View.{View}
-use Rattle.st_frames.specs.Rows.{row_state}
-use Rattle.st_frames.specs.Shown.{shown}
+use Rattle.st_frames.specs.inside.Rows.{row_state}
+use Rattle.st_frames.specs.inside.Shown.{shown}
 use Rattle.st_frames.proofs.Stored.{loaded}
 use Rattle.st_at_once.specs.declared.ending.RowEnd.TheVariants.{Stays}
-use Rattle.st_at_once.specs.AtOnce.{was_done, deed_left, GoesOn, IsDoneAtOnce, step_at_once}
+use Rattle.st_at_once.specs.inside.AtOnce.{was_done, deed_left, GoesOn, IsDoneAtOnce, step_at_once}
 use Rattle.st_at_once.proofs.OverMemory.{quick_dies, left_there, left_held, left_kept, left_shown}
 use Rattle.st_at_once.proofs.quick.step_at_once.Goals as goal
 

@@ -1,9 +1,9 @@
 use Rattle.std.proofs.Common.{◌≡◌, rules, refl, Err, Ok, Some}
 use Rattle.std.specs.Option.{option_map}
 use Rattle.st_model.specs.Values.{word}
-use Rattle.st_model.specs.Calls.{Reads}
+use Rattle.st_model.specs.inside.Calls.{Reads}
 use Rattle.st_model.specs.BitBlt.{fetch_form}
-use Rattle.st_bitblt.specs.Reading.{IsForm, form_in}
+use Rattle.st_bitblt.specs.inside.Reading.{IsForm, form_in}
 use Rattle.st_bitblt.proofs.Readings.{halftone_short}
 use Rattle.st_bitblt.proofs.form.fetch_halftone.Goals as goal
 

@@ -1,6 +1,6 @@
 use Rattle.std.proofs.Common.{◌≡◌, rules, Err, arith}
 use Rattle.st_model.specs.Values.{word}
-use Rattle.st_bitblt.specs.Reading.{units_in}
+use Rattle.st_bitblt.specs.inside.Reading.{units_in}
 use Rattle.st_bitblt.proofs.Readings.{form_went, form_died}
 use Rattle.st_model.proofs.Runs.{runs}
 use Rattle.st_model.specs.BitBlt.{read_form}

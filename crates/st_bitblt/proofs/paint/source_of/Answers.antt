@@ -1,7 +1,7 @@
 use Rattle.std.proofs.Common.{◌∙◌}
 use Rattle.st_model.specs.Values.{value, word}
-use Rattle.st_bitblt.specs.Reading.{IsForm}
-use Rattle.st_bitblt.specs.Words.{HasWords}
+use Rattle.st_bitblt.specs.inside.Reading.{IsForm}
+use Rattle.st_bitblt.specs.inside.Words.{HasWords}
 use Rattle.st_bitblt.proofs.Words.{size_of_words, has_words}
 use Rattle.st_bitblt.proofs.paint.source_of.Goals as goal
 

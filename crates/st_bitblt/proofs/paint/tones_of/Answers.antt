@@ -1,8 +1,8 @@
 use Rattle.std.proofs.Common.{◌∙◌, take, get_or, List, ℕ, sym, ap}
 use Rattle.std.proofs.lemmas.List.{get_or-take}
 use Rattle.st_model.specs.Values.{Value}
-use Rattle.st_bitblt.specs.Words.{words}
-use Rattle.st_bitblt.specs.Painting.{tone_at}
+use Rattle.st_bitblt.specs.inside.Words.{words}
+use Rattle.st_bitblt.specs.inside.Painting.{tone_at}
 use Rattle.st_bitblt.proofs.paint.tones_of.Goals as goal
 
 pub returns-in-Some : goal.returns-in-Some

@@ -1,6 +1,6 @@
 use Rattle.std.proofs.Common.{◌-◌, ◌+◌, ◌≤◌}
 use Rattle.st_model.specs.Values.{value}
-use Rattle.st_bitblt.specs.Copied.{Copied, object_of_source}
+use Rattle.st_bitblt.specs.inside.Copied.{Copied, object_of_source}
 use Rattle.st_bitblt.proofs.row.copy_down.Given as goal
 
 abbrev pub invariant-loop-left : goal.invariant-loop-left

@@ -1,6 +1,6 @@
 use Rattle.st_model.specs.Values.{value}
-use Rattle.st_bitblt.specs.Copied.{object_of_source}
-use Rattle.st_bitblt.specs.Rows.{FromTop, RowsCopied}
+use Rattle.st_bitblt.specs.inside.Copied.{object_of_source}
+use Rattle.st_bitblt.specs.inside.Rows.{FromTop, RowsCopied}
 use Rattle.st_bitblt.proofs.rows.copy_from_top.Given as goal
 
 abbrev pub invariant-loop-j : goal.invariant-loop-j

@@ -1,6 +1,6 @@
 use Rattle.st_model.specs.Values.{value}
-use Rattle.st_bitblt.specs.Copied.{object_of_source}
-use Rattle.st_bitblt.specs.Rows.{RowsCopied}
+use Rattle.st_bitblt.specs.inside.Copied.{object_of_source}
+use Rattle.st_bitblt.specs.inside.Rows.{RowsCopied}
 use Rattle.st_bitblt.proofs.RowLaws.{DownTo}
 use Rattle.st_bitblt.proofs.rows.copy_rows.Given as goal
 

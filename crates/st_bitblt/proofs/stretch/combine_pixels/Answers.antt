@@ -1,6 +1,6 @@
 use Rattle.std.proofs.Common.{◌≡◌, ◌+◌, ◌-◌, ◌/◌, ◌≤◌, ℕ, length, take, subst, sym, arith}
 use Rattle.std.proofs.lemmas.List.{get_or-take}
-use Rattle.st_bitblt.specs.Stretches.{Combined}
+use Rattle.st_bitblt.specs.inside.Stretches.{Combined}
 use Rattle.st_bitblt.proofs.Stretches.{stretch_combined, taken_combined, taken_restored}
 use Rattle.st_bitblt.proofs.stretch.combine_pixels.Goals as goal
 

@@ -1,9 +1,9 @@
 use Rattle.std.proofs.Common.{◌≡◌, ◌+◌, ◌*◌, ◌/◌, ◌%◌, ◌≤◌, ◌++◌, ℕ, List, length, take, drop, length-append, length-drop, sym, ap, ◌∙◌, arith}
 use Rattle.std.proofs.lemmas.List.{length-take-le, take-append-le, take_at}
 use Rattle.st_model.specs.Values.{value}
-use Rattle.st_memory.specs.Copied.{laid, units_from, with_units_in}
-use Rattle.st_bitblt.specs.Copied.{object_of_source}
-use Rattle.st_bitblt.specs.Words.{words}
+use Rattle.st_memory.specs.inside.Copied.{laid, units_from, with_units_in}
+use Rattle.st_bitblt.specs.inside.Copied.{object_of_source}
+use Rattle.st_bitblt.specs.inside.Words.{words}
 use Rattle.st_bitblt.proofs.Stretches.{stretch_copied, pixel_taken_first, pixel_front, taken_twice, taken_fits}
 use Rattle.st_bitblt.proofs.stretch.copy_stretch.Goals as goal
 

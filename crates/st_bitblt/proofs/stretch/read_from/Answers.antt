@@ -2,7 +2,7 @@ use Rattle.std.proofs.Common.{◌≡◌, ℕ, ◌∙◌, ap, List, arith, length
 use Rattle.std.proofs.lemmas.Bool.{cases_lt}
 use Rattle.std.proofs.lemmas.List.{get_or_append_left, length-take-le}
 use Rattle.st_model.specs.Values.{value}
-use Rattle.st_bitblt.specs.Words.{words}
+use Rattle.st_bitblt.specs.inside.Words.{words}
 use Rattle.st_bitblt.proofs.Stretches.{read_word, zero_past}
 use Rattle.st_bitblt.proofs.stretch.read_from.Goals as goal
 use Rattle.st_bitblt.proofs.stretch.read_from.Goals.{then-there-gt0, else-there-gt0}

@@ -1,8 +1,8 @@
 use Rattle.std.proofs.Common.{◌<◌, length, subst, sym}
 use Rattle.st_model.specs.Values.{value}
-use Rattle.st_bitblt.specs.Words.{words}
-use Rattle.st_bitblt.specs.Copied.{object_of_source}
-use Rattle.st_bitblt.specs.Stretches.{IsStretch}
+use Rattle.st_bitblt.specs.inside.Words.{words}
+use Rattle.st_bitblt.specs.inside.Copied.{object_of_source}
+use Rattle.st_bitblt.specs.inside.Stretches.{IsStretch}
 use Rattle.st_bitblt.proofs.Stretches.{stretch_of_ones, stretch_of_words, stretch_of_first, read_behind_first}
 use Rattle.st_bitblt.proofs.stretch.read_source.Goals as goal
 

@@ -3,7 +3,7 @@ use Rattle.st_host.specs.declared.host.SayFault.{SayFault}
 use Rattle.st_model.specs.Values.{value}
 use Rattle.st_model.specs.View.{object_of}
 use Rattle.st_model.specs.Text.{numbers_text}
-use Rattle.st_call.specs.Saying.{Pushes}
+use Rattle.st_call.specs.inside.Saying.{Pushes}
 use Rattle.st_browse.proofs.codes.push_units.Given as goal
 
 -- the bytes so far were added

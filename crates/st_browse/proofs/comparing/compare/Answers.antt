@@ -1,6 +1,6 @@
 use Rattle.std.proofs.Common.{arith}
 use Rattle.st_model.specs.Values.{value}
-use Rattle.st_browse.specs.Entries.{name_of}
+use Rattle.st_browse.specs.inside.Entries.{name_of}
 use Rattle.st_browse.proofs.Bytewise.{no_header, name_size, name_byte, is_less, is_greater, goes_on, ends_less, ends_greater, ends_equal}
 use Rattle.std.proofs.Common.{◌∙◌}
 use Rattle.st_browse.proofs.comparing.compare.Goals as goal

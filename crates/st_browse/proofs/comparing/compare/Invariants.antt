@@ -1,6 +1,6 @@
 use Rattle.std.proofs.Common.{◌≡◌, drop}
 use Rattle.st_browse.specs.Naming.{compared}
-use Rattle.st_browse.specs.Entries.{name_of}
+use Rattle.st_browse.specs.inside.Entries.{name_of}
 use Rattle.st_browse.proofs.comparing.compare.Given as goal
 
 -- the bytes that are left decide

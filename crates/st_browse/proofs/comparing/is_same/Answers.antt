@@ -1,7 +1,7 @@
 use Rattle.std.proofs.Common.{◌≡◌, true, false, ap, sym, ◌∙◌, ⊎_elim, arith}
 use Rattle.std.specs.Ordering.{is_eq}
 use Rattle.st_model.specs.Values.{value}
-use Rattle.st_browse.specs.Entries.{name_of}
+use Rattle.st_browse.specs.inside.Entries.{name_of}
 use Rattle.st_browse.proofs.Bytewise.{equal_text, same_bytes}
 use Rattle.st_browse.proofs.comparing.is_same.Goals as goal
 

@@ -2,11 +2,11 @@ use Rattle.std.proofs.Common.{ap, sym, subst, ◌∙◌}
 use Rattle.std.specs.Prelude.{Option, option_map}
 use Rattle.std.proofs.lemmas.Result.{IfOk-weaker}
 use Rattle.st_emit.specs.declared.names.Names.{Names}
-use Rattle.st_scope.specs.Findings.{text_of}
+use Rattle.st_scope.specs.inside.Findings.{text_of}
 use Rattle.st_chunk.specs.Asks.{side_of}
-use Rattle.st_parts.specs.Places.{place_of}
+use Rattle.st_parts.specs.inside.Places.{place_of}
 use Rattle.st_browse.specs.Decompiling.{method_place}
-use Rattle.st_browse.specs.Placing.{place_if, AreNamesIf}
+use Rattle.st_browse.specs.inside.Placing.{place_if, AreNamesIf}
 use Rattle.st_browse.proofs.Making.{is_made}
 use Rattle.st_browse.proofs.decompiling.decompiled.Goals as goal
 

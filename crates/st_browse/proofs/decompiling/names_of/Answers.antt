@@ -1,5 +1,5 @@
 use Rattle.st_scope.specs.declared.fault.InstallFault.TheVariants as fault
-use Rattle.st_parts.specs.Places.{place_of}
+use Rattle.st_parts.specs.inside.Places.{place_of}
 use Rattle.st_browse.proofs.Making.{names_found, none_found}
 use Rattle.st_browse.proofs.decompiling.names_of.Goals as goal
 

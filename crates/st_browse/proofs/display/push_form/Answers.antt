@@ -1,6 +1,6 @@
 use Rattle.st_call.proofs.Pushing.{push_then, push_begun}
 use Rattle.st_browse.specs.Display.{rows_text}
-use Rattle.st_browse.specs.Shown.{form_in}
+use Rattle.st_browse.specs.inside.Shown.{form_in}
 use Rattle.st_browse.proofs.display.push_form.Goals as goal
 
 pub returns-in_err-push_line : goal.returns-in_err-push_line

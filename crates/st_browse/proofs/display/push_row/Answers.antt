@@ -4,7 +4,7 @@ use Rattle.std.specs.List.{flat_map}
 use Rattle.st_model.specs.Values.{value}
 use Rattle.st_call.proofs.Pushing.{push_then, push_begun, push_as}
 use Rattle.st_browse.specs.Display.{word_text}
-use Rattle.st_browse.specs.Shown.{words_in}
+use Rattle.st_browse.specs.inside.Shown.{words_in}
 use Rattle.st_browse.proofs.display.push_row.Goals as goal
 
 pub returns-in_err-push : goal.returns-in_err-push

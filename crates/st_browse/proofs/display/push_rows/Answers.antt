@@ -2,7 +2,7 @@ use Rattle.std.proofs.Common.{ap}
 use Rattle.std.specs.List.{flat_map, range_with_len}
 use Rattle.st_call.proofs.Pushing.{push_none, push_next, push_stopped, push_as}
 use Rattle.st_browse.specs.Display.{row_line, row_of}
-use Rattle.st_browse.specs.Shown.{form_in}
+use Rattle.st_browse.specs.inside.Shown.{form_in}
 use Rattle.st_browse.proofs.Forms.{row_number, all_rows}
 use Rattle.st_browse.proofs.display.push_rows.Goals as goal
 

@@ -1,9 +1,9 @@
 use Rattle.std.proofs.Common.{take, Ok}
 use Rattle.std.specs.List.{flat_map, range_with_len}
 use Rattle.st_host.specs.declared.host.SayFault.{SayFault}
-use Rattle.st_call.specs.Saying.{Pushes}
+use Rattle.st_call.specs.inside.Saying.{Pushes}
 use Rattle.st_browse.specs.Display.{row_line, row_of}
-use Rattle.st_browse.specs.Shown.{form_in}
+use Rattle.st_browse.specs.inside.Shown.{form_in}
 use Rattle.st_browse.proofs.display.push_rows.Given as goal
 
 -- the rows so far were added

@@ -4,7 +4,7 @@ use Rattle.st_model.specs.Values.{value}
 use Rattle.st_memory.proofs.Bodies.{most_units}
 use Rattle.st_call.proofs.Pushing.{push_none, push_next, push_stopped, push_as}
 use Rattle.st_browse.specs.Display.{word_text}
-use Rattle.st_browse.specs.Shown.{words_in}
+use Rattle.st_browse.specs.inside.Shown.{words_in}
 use Rattle.st_browse.proofs.Parting.{unit_of, taken_all}
 use Rattle.st_browse.proofs.display.push_words.Goals as goal
 

@@ -2,9 +2,9 @@ use Rattle.std.proofs.Common.{take, drop, Ok}
 use Rattle.std.specs.List.{flat_map}
 use Rattle.st_host.specs.declared.host.SayFault.{SayFault}
 use Rattle.st_model.specs.Values.{value}
-use Rattle.st_call.specs.Saying.{Pushes}
+use Rattle.st_call.specs.inside.Saying.{Pushes}
 use Rattle.st_browse.specs.Display.{word_text}
-use Rattle.st_browse.specs.Shown.{words_in}
+use Rattle.st_browse.specs.inside.Shown.{words_in}
 use Rattle.st_browse.proofs.display.push_words.Given as goal
 
 -- the words so far were added

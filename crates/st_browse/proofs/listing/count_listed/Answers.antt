@@ -1,6 +1,6 @@
 use Rattle.std.proofs.Common.{◌∙◌, sym, ap, arith}
-use Rattle.st_browse.specs.Listing.{is_chosen}
-use Rattle.st_browse.specs.Entries.{count_of, name_at, name_if, named_if, named_of, names_in}
+use Rattle.st_browse.specs.inside.Listing.{is_chosen}
+use Rattle.st_browse.specs.inside.Entries.{count_of, name_at, name_if, named_if, named_of, names_in}
 use Rattle.st_browse.proofs.Going.{counted_none, counted_more, counted_within, counted_all, fewer, listed_few}
 use Rattle.st_browse.proofs.listing.count_listed.Goals as goal
 

@@ -1,6 +1,6 @@
 use Rattle.st_call.proofs.Pushing.{push_none, push_as}
-use Rattle.st_browse.specs.Listing.{is_chosen, line_text}
-use Rattle.st_browse.specs.Entries.{named_of}
+use Rattle.st_browse.specs.inside.Listing.{is_chosen, line_text}
+use Rattle.st_browse.specs.inside.Entries.{named_of}
 use Rattle.st_browse.proofs.Going.{none_chosen}
 use Rattle.st_browse.proofs.listing.push_chosen.Goals as goal
 

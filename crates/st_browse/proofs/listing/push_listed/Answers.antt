@@ -1,6 +1,6 @@
 use Rattle.std.proofs.Common.{◌∙◌, sym, ap}
-use Rattle.st_browse.specs.Listing.{is_chosen, line_text}
-use Rattle.st_browse.specs.Entries.{name_if, named_if, named_of, names_in}
+use Rattle.st_browse.specs.inside.Listing.{is_chosen, line_text}
+use Rattle.st_browse.specs.inside.Entries.{name_if, named_if, named_of, names_in}
 use Rattle.st_browse.proofs.Going.{said_none, said_more, said_stopped, said_all, fewer}
 use Rattle.st_browse.proofs.listing.push_listed.Goals as goal
 

@@ -1,8 +1,8 @@
 use Rattle.std.proofs.Common.{length}
 use Rattle.std.specs.Prelude.{IfSome}
 use Rattle.st_model.specs.Values.{value}
-use Rattle.st_browse.specs.Listing.{is_chosen, line_text, next_in_order}
-use Rattle.st_browse.specs.Entries.{IsName, name_if, names_in}
+use Rattle.st_browse.specs.inside.Listing.{is_chosen, line_text, next_in_order}
+use Rattle.st_browse.specs.inside.Entries.{IsName, name_if, names_in}
 use Rattle.st_browse.proofs.Going.{IsSaid}
 use Rattle.st_browse.proofs.listing.push_listed.Given as goal
 

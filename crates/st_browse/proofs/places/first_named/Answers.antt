@@ -1,6 +1,6 @@
 use Rattle.std.proofs.Common.{◌∙◌, sym, ap}
 use Rattle.st_browse.specs.Naming.{first_named}
-use Rattle.st_browse.specs.Entries.{count_of, name_at, names_in, named_if}
+use Rattle.st_browse.specs.inside.Entries.{count_of, name_at, names_in, named_if}
 use Rattle.st_browse.proofs.Seeking.{not_here, in_count}
 use Rattle.st_browse.proofs.places.first_named.Goals as goal
 

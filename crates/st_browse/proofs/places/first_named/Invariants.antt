@@ -1,6 +1,6 @@
 use Rattle.std.proofs.Common.{◌≡◌}
 use Rattle.st_browse.specs.Naming.{first_named}
-use Rattle.st_browse.specs.Entries.{count_of, name_at, names_in}
+use Rattle.st_browse.specs.inside.Entries.{count_of, name_at, names_in}
 use Rattle.st_browse.proofs.Seeking.{named_from}
 use Rattle.st_browse.proofs.places.first_named.Given as goal
 

@@ -1,4 +1,4 @@
-use Rattle.st_browse.specs.Entries.{count_of, name_at, name_if}
+use Rattle.st_browse.specs.inside.Entries.{count_of, name_at, name_if}
 use Rattle.st_browse.proofs.Seeking.{IsNext}
 use Rattle.st_browse.proofs.places.next_name.Given as goal
 

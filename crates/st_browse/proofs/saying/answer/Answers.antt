@@ -1,11 +1,12 @@
 use Rattle.std.proofs.Common.{List, [], ℕ, refl, sym, ap, subst, ◌∙◌, append-nil}
 use Rattle.std.specs.Prelude.{Option, Ok, true, false, option_map, unwrap_or}
 use Rattle.st_host.specs.declared.host.SayFault.{SayFault}
-use Rattle.st_host.specs.Telling.{Says}
+use Rattle.st_host.specs.inside.Telling.{Says}
 use Rattle.st_host.proofs.Telling.{says_none}
 use Rattle.st_chunk.specs.Asks.{ask_of}
-use Rattle.st_browse.specs.Asked.{Answers, reply}
-use Rattle.st_browse.specs.Founds.{sought_text}
+use Rattle.st_browse.specs.inside.Answering.{Answers}
+use Rattle.st_browse.specs.Asked.{reply}
+use Rattle.st_browse.specs.inside.Founds.{sought_text}
 use Rattle.st_browse.proofs.Texts.{failed}
 use Rattle.st_browse.proofs.saying.answer.Goals as goal
 

@@ -3,7 +3,8 @@ use Rattle.std.specs.Prelude.{Ok, Err}
 use Rattle.st_chunk.specs.Asks.{Ask}
 use Rattle.st_browse.specs.declared.saying.BrowseFault.{BrowseFault}
 use Rattle.st_browse.specs.declared.saying.BrowseFault.TheVariants as fault
-use Rattle.st_browse.specs.Asked.{Answers, IsTextFor, reply}
+use Rattle.st_browse.specs.inside.Answering.{Answers}
+use Rattle.st_browse.specs.Asked.{IsTextFor, reply}
 use Rattle.st_browse.proofs.saying.browse.Goals as goal
 
 pub returns-in-Ok-clause-answers : goal.returns-in-Ok-clause-answers

@@ -2,7 +2,7 @@ use Rattle.std.proofs.Common.{List, ℕ, sym, subst}
 use Rattle.std.specs.Prelude.{Option, option_map}
 use Rattle.st_host.specs.declared.host.SayFault.{SayFault}
 use Rattle.st_chunk.specs.Asks.{ask_of}
-use Rattle.st_browse.specs.Asked.{Answers}
+use Rattle.st_browse.specs.inside.Answering.{Answers}
 use Rattle.st_browse.proofs.Texts.{one_reply}
 use Rattle.st_browse.proofs.saying.browse_line.Goals as goal
 

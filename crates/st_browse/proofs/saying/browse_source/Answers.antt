@@ -1,8 +1,9 @@
 use Rattle.std.proofs.Common.{sym, subst}
 use Rattle.st_chunk.specs.Asks.{Side, Source}
 use Rattle.st_browse.specs.declared.saying.SourceFault.{SourceFault}
-use Rattle.st_browse.specs.Asked.{Answers, reply}
-use Rattle.st_browse.specs.Decompiling.{IsShown}
+use Rattle.st_browse.specs.inside.Answering.{Answers}
+use Rattle.st_browse.specs.Asked.{reply}
+use Rattle.st_browse.specs.inside.MadeTexts.{IsShown}
 use Rattle.st_browse.proofs.saying.browse_source.Goals as goal
 
 pub returns-clause-answers : goal.returns-clause-answers

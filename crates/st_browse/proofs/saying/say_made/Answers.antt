@@ -3,9 +3,10 @@ use Rattle.std.specs.Prelude.{Option, option_map}
 use Rattle.st_chunk.specs.Asks.{Source, side_of}
 use Rattle.st_browse.specs.declared.saying.SourceFault.{SourceFault}
 use Rattle.st_browse.specs.declared.saying.SourceFault.TheVariants as fault
-use Rattle.st_browse.specs.Asked.{Answers, reply}
+use Rattle.st_browse.specs.inside.Answering.{Answers}
+use Rattle.st_browse.specs.Asked.{reply}
 use Rattle.st_browse.specs.Decompiling.{method_place}
-use Rattle.st_scope.specs.Findings.{text_of}
+use Rattle.st_scope.specs.inside.Findings.{text_of}
 use Rattle.st_browse.proofs.Making.{one_made}
 use Rattle.st_browse.proofs.Texts.{unsaid}
 use Rattle.st_browse.proofs.saying.say_made.Goals as goal

@@ -2,7 +2,8 @@ use Rattle.std.proofs.Common.{List, ℕ, sym, ap, subst}
 use Rattle.std.specs.Prelude.{Option, option_map}
 use Rattle.st_chunk.specs.Asks.{Source, side_of}
 use Rattle.st_browse.specs.declared.saying.SourceFault.{SourceFault}
-use Rattle.st_browse.specs.Asked.{Answers, reply}
+use Rattle.st_browse.specs.inside.Answering.{Answers}
+use Rattle.st_browse.specs.Asked.{reply}
 use Rattle.st_browse.proofs.Texts.{shown_kept, shown_made}
 use Rattle.st_browse.proofs.saying.source_line.Goals as goal
 

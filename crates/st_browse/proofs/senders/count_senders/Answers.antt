@@ -1,7 +1,7 @@
 use Rattle.std.proofs.Common.{◌∙◌, sym, ap, arith}
 use Rattle.st_browse.specs.Classes.{is_class}
 use Rattle.st_browse.specs.Replies.{senders_count}
-use Rattle.st_browse.specs.Entries.{count_of, name_at, name_if, named_if, named_of, names_in}
+use Rattle.st_browse.specs.inside.Entries.{count_of, name_at, name_if, named_if, named_of, names_in}
 use Rattle.st_browse.proofs.Going.{fewer, order_few}
 use Rattle.st_browse.proofs.Summing.{summed_none, summed_more, summed_fits, summed_all}
 use Rattle.st_browse.proofs.senders.count_senders.Goals as goal

@@ -1,7 +1,7 @@
 use Rattle.st_call.proofs.Pushing.{push_none, push_as}
 use Rattle.st_browse.specs.Classes.{is_class}
 use Rattle.st_browse.specs.Replies.{both_lines}
-use Rattle.st_browse.specs.Entries.{named_of}
+use Rattle.st_browse.specs.inside.Entries.{named_of}
 use Rattle.st_browse.proofs.Going.{none_chosen, one_chosen}
 use Rattle.st_browse.proofs.Sides.{class_tested}
 use Rattle.st_browse.proofs.senders.push_class.Goals as goal

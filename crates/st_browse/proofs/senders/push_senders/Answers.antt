@@ -1,7 +1,7 @@
 use Rattle.std.proofs.Common.{◌∙◌, sym, ap}
 use Rattle.st_browse.specs.Classes.{is_class}
 use Rattle.st_browse.specs.Replies.{both_lines}
-use Rattle.st_browse.specs.Entries.{name_if, named_if, named_of, names_in}
+use Rattle.st_browse.specs.inside.Entries.{name_if, named_if, named_of, names_in}
 use Rattle.st_browse.proofs.Going.{said_none, said_more, said_stopped, said_all, fewer}
 use Rattle.st_browse.proofs.senders.push_senders.Goals as goal
 

@@ -2,9 +2,9 @@ use Rattle.std.proofs.Common.{length}
 use Rattle.std.specs.Prelude.{IfSome}
 use Rattle.st_model.specs.Values.{value}
 use Rattle.st_browse.specs.Classes.{is_class}
-use Rattle.st_browse.specs.Listing.{next_in_order}
+use Rattle.st_browse.specs.inside.Listing.{next_in_order}
 use Rattle.st_browse.specs.Replies.{both_lines}
-use Rattle.st_browse.specs.Entries.{IsName, name_if, names_in}
+use Rattle.st_browse.specs.inside.Entries.{IsName, name_if, names_in}
 use Rattle.st_browse.proofs.Going.{IsSaid}
 use Rattle.st_browse.proofs.senders.push_senders.Given as goal
 

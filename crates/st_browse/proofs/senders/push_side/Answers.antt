@@ -4,7 +4,7 @@ use Rattle.st_model.specs.Values.{value}
 use Rattle.st_call.proofs.Pushing.{push_as}
 use Rattle.st_browse.specs.Classes.{on_side}
 use Rattle.st_browse.specs.Replies.{sender_line}
-use Rattle.st_browse.specs.Entries.{name_of}
+use Rattle.st_browse.specs.inside.Entries.{name_of}
 use Rattle.st_browse.proofs.Found.{senders_listed}
 use Rattle.st_browse.proofs.senders.push_side.Goals as goal
 

@@ -1,4 +1,4 @@
-use Rattle.st_browse.specs.Entries.{named_of}
+use Rattle.st_browse.specs.inside.Entries.{named_of}
 use Rattle.st_browse.proofs.Sides.{class_tested, sides}
 use Rattle.std.proofs.Common.{arith}
 use Rattle.st_browse.specs.Classes.{class_named}

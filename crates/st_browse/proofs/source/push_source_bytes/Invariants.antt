@@ -1,7 +1,7 @@
 use Rattle.std.proofs.Common.{take, Ok}
 use Rattle.std.specs.List.{flat_map}
 use Rattle.st_host.specs.declared.host.SayFault.{SayFault}
-use Rattle.st_call.specs.Saying.{Pushes}
+use Rattle.st_call.specs.inside.Saying.{Pushes}
 use Rattle.st_browse.specs.Sources.{source_byte}
 use Rattle.st_browse.proofs.source.push_source_bytes.Given as goal
 

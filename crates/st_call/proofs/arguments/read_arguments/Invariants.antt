@@ -1,7 +1,7 @@
 use Rattle.std.proofs.Common.{◌≡◌, drop, map}
 use Rattle.std.specs.String.{string_bytes}
 use Rattle.st_call.specs.Arguments.{with_words, no_arguments}
-use Rattle.st_call.specs.CommandViews.{arguments_view}
+use Rattle.st_call.specs.inside.CommandViews.{arguments_view}
 use Rattle.st_call.proofs.arguments.read_arguments.Given as goal
 
 -- the words so far said this, and more of them go on from it

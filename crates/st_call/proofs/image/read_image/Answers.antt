@@ -2,7 +2,7 @@ use Rattle.std.proofs.Common.{◌≡◌, ◌≤◌, List, ℕ, length, IsTrue, s
 use Rattle.st_host.specs.Files.{bytes_of}
 use Rattle.st_model.specs.Limits.{longest_image}
 use Rattle.st_image.specs.HeadValues.{head_over}
-use Rattle.st_image.specs.Rows.{IsReadFault}
+use Rattle.st_image.specs.inside.Rows.{IsReadFault}
 use Rattle.st_image.specs.declared.error.ReadImage.{ReadImage}
 use Rattle.st_image.proofs.Saved.{read_starts}
 use Rattle.st_call.specs.Refusals.{IsFaultyOver}

@@ -1,7 +1,7 @@
 use Rattle.std.proofs.Common.{take, Ok}
 use Rattle.st_host.specs.declared.host.SayFault.{SayFault}
 use Rattle.st_model.specs.Text.{numbers_text}
-use Rattle.st_call.specs.Saying.{Pushes}
+use Rattle.st_call.specs.inside.Saying.{Pushes}
 use Rattle.st_call.proofs.lines.push_numbers.Given as goal
 
 -- the numbers so far were added

@@ -1,7 +1,7 @@
 use Rattle.std.proofs.Common.{◌+◌, ◌-◌, ◌/◌, take, Ok}
 use Rattle.st_host.specs.declared.host.SayFault.{SayFault}
 use Rattle.st_model.specs.Text.{objects_text}
-use Rattle.st_call.specs.Saying.{Pushes}
+use Rattle.st_call.specs.inside.Saying.{Pushes}
 use Rattle.st_call.proofs.objects.push_objects.Given as goal
 
 -- the lines of the objects so far were added

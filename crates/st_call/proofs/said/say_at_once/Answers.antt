@@ -1,6 +1,6 @@
 use Rattle.std.proofs.Common.{append-nil}
 use Rattle.st_model.specs.Values.{value}
-use Rattle.st_call.specs.Saying.{said_in}
+use Rattle.st_call.specs.inside.Saying.{said_in}
 use Rattle.st_call.proofs.Pushing.{push_then, push_as}
 use Rattle.st_call.proofs.said.say_at_once.Goals as goal
 

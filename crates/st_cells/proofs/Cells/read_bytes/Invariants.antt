@@ -1,4 +1,4 @@
-use Rattle.st_cells.specs.Words.{ReadsBytes}
+use Rattle.st_cells.specs.inside.Words.{ReadsBytes}
 use Rattle.st_cells.proofs.Cells.read_bytes.Given as goal
 
 abbrev pub invariant-loop-k : goal.invariant-loop-k

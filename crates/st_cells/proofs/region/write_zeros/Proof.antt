@@ -35,7 +35,7 @@ use denote.Triple.Table.{entered}
 use denote.Triple.Walked.{Stays, stay_dropped, walk_of, Goes-dropped, ends_at, walked, walk_Meets}
 use sound.WpLaws.{WpFn-mono}
 use Rattle.std.proofs.alloc.Shapes.{after, head}
-use Rattle.st_cells.specs.Owned.{block_of_words}
+use Rattle.st_cells.specs.inside.Owned.{block_of_words}
 use Rattle.st_cells.specs.contracts.region.write_zeros as f
 use Rattle.st_cells.proofs.SideBySide.{words_at, one_behind}
 use Rattle.st_cells.proofs.region.write_zeros.Statement.{statement}

@@ -10,7 +10,7 @@ use Rattle.st_store.specs.Stored.{Opens}
 use Rattle.st_store.proofs.Settling.{when_err}
 use Rattle.st_store.specs.declared.root.Root.{Root}
 use Rattle.st_chunk.specs.Definitions.{Definition, entries}
-use Rattle.st_changes.specs.Views.{definition_of, definitions_of}
+use Rattle.st_changes.specs.inside.Views.{definition_of, definitions_of}
 use Rattle.st_changes.specs.Condensing.{Stays, kept_by, condensed, turned}
 use Rattle.st_changes.proofs.ListTexts.{entries_append}
 use Rattle.st_changes.proofs.OtherFile.{still_kept, written_makes, condensed_firm, condensed_root, kept_is, all_are, rest_taken, parts_are, taken_of, makes_err, makes_rest, condenses_by, fewer_stay}

@@ -2,8 +2,8 @@ use Rattle.std.proofs.Common.{◌≡◌, List, ℕ, ◌∷◌, ◌++◌, sym, ap
 use Rattle.std.specs.Prelude.{Option, Some, None, MatchOption}
 use Rattle.std.specs.Option.{option_map}
 use Rattle.st_changes.specs.declared.span.Span.{Span}
-use Rattle.st_changes.specs.IndexStates.{found}
-use Rattle.st_changes.specs.Views.{definition_of}
+use Rattle.st_changes.specs.inside.IndexStates.{found}
+use Rattle.st_changes.specs.inside.Views.{definition_of}
 use Rattle.st_changes.specs.Last.{HasSelector, FindsSelector, IsNowhere, IsLast}
 use Rattle.st_changes.proofs.Superseding.{tested, not_nowhere, apart_by, same_by}
 use Rattle.st_changes.proofs.condensing.is_superseded.Goals as goal

@@ -2,8 +2,8 @@ use Rattle.std.proofs.Common.{◌≡◌, ◌+◌, ◌<◌, List, [], ◌∷◌, 
 use Rattle.std.specs.Prelude.{not}
 use Rattle.std.proofs.Math.ListN.{length-map}
 use Rattle.st_chunk.specs.Definitions.{Definition, entry, entries}
-use Rattle.st_changes.specs.IndexStates.{found}
-use Rattle.st_changes.specs.Views.{definition_of, definitions_of}
+use Rattle.st_changes.specs.inside.IndexStates.{found}
+use Rattle.st_changes.specs.inside.Views.{definition_of, definitions_of}
 use Rattle.st_changes.specs.Last.{Answers}
 use Rattle.st_changes.specs.Condensing.{Stays, kept_by, Tells}
 use Rattle.st_changes.specs.Condensing as stays

@@ -1,6 +1,6 @@
 use Rattle.std.proofs.Common.{◌≡◌, length, take, drop}
 use Rattle.st_chunk.specs.Definitions.{entries}
-use Rattle.st_changes.specs.Views.{definitions_of}
+use Rattle.st_changes.specs.inside.Views.{definitions_of}
 use Rattle.st_changes.specs.Condensing.{Stays, kept_by}
 use Rattle.st_changes.proofs.condensing.mark_staying.Given as goal
 

@@ -1,6 +1,6 @@
 use Rattle.std.proofs.Common.{◌≡◌, ◌≤◌, ◌+◌, ◌-◌, length, take, Ok}
 use Rattle.st_host.specs.declared.host.HostFault.{HostFault}
-use Rattle.st_host.specs.Pieces.{end_of, Pushes}
+use Rattle.st_host.specs.inside.Pieces.{end_of, Pushes}
 use Rattle.st_changes.proofs.condensing.push_bytes.Given as goal
 
 abbrev pub invariant-pushed : goal.invariant-pushed

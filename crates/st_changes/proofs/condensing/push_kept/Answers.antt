@@ -1,10 +1,10 @@
 use Rattle.std.proofs.Common.{◌≡◌, ◌+◌, [], ◌∷◌, ◌++◌, length, take, sym, ap, ◌∙◌, subst, arith, length-append, Ok}
 use Rattle.std.proofs.lemmas.Grind.{common_steps}
 use Rattle.st_host.specs.declared.host.HostFault.{HostFault}
-use Rattle.st_host.specs.Pieces.{Pushes}
+use Rattle.st_host.specs.inside.Pieces.{Pushes}
 use Rattle.st_host.proofs.Pushing.{push_none, push_then}
 use Rattle.st_chunk.specs.Definitions.{entry, entries}
-use Rattle.st_changes.specs.Views.{definition_of, definitions_of}
+use Rattle.st_changes.specs.inside.Views.{definition_of, definitions_of}
 use Rattle.st_changes.specs.Condensing.{kept_by}
 use Rattle.st_changes.proofs.ListTexts.{entries_more}
 use Rattle.st_changes.proofs.Extending.{extends_cut}

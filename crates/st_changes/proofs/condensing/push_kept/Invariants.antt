@@ -1,8 +1,8 @@
 use Rattle.std.proofs.Common.{◌≡◌, length, take, Ok}
 use Rattle.st_host.specs.declared.host.HostFault.{HostFault}
-use Rattle.st_host.specs.Pieces.{Pushes}
+use Rattle.st_host.specs.inside.Pieces.{Pushes}
 use Rattle.st_chunk.specs.Definitions.{entries}
-use Rattle.st_changes.specs.Views.{definitions_of}
+use Rattle.st_changes.specs.inside.Views.{definitions_of}
 use Rattle.st_changes.specs.Condensing.{kept_by}
 use Rattle.st_changes.proofs.condensing.push_kept.Given as goal
 

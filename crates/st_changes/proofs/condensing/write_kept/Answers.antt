@@ -1,9 +1,9 @@
 use Rattle.std.proofs.Common.{◌≡◌, ℕ, List, [], ◌++◌, length, Some, refl, sym, ap, ◌∙◌, subst, arith, length-append}
-use Rattle.st_host.specs.Pieces.{Held, end_of, Holds}
+use Rattle.st_host.specs.inside.Pieces.{Held, end_of, Holds}
 use Rattle.st_host.proofs.Pushing.{from_adds, adds_join}
 use Rattle.st_host.proofs.Touching.{above_join, cut_above}
 use Rattle.st_chunk.specs.Definitions.{entries}
-use Rattle.st_changes.specs.Views.{definitions_of}
+use Rattle.st_changes.specs.inside.Views.{definitions_of}
 use Rattle.st_changes.specs.Condensing.{kept_by}
 use Rattle.st_changes.proofs.ListTexts.{entries_append}
 use Rattle.st_changes.proofs.Superseding.{kept_short, many_bytes}

@@ -1,6 +1,6 @@
 use Rattle.std.proofs.Common.{◌≡◌, ◌+◌, List, [], ◌∷◌, ◌++◌, length, take, sym, ap, ◌∙◌, arith, length-append}
 use Rattle.st_chunk.specs.Definitions.{Definition, entry, entries}
-use Rattle.st_changes.specs.Views.{definition_of, definitions_of}
+use Rattle.st_changes.specs.inside.Views.{definition_of, definitions_of}
 use Rattle.st_changes.proofs.ListTexts.{entries_more, item_more, item_good}
 use Rattle.st_changes.proofs.Places.{at_mapped, apart_more, next_within, last_place}
 use Rattle.st_changes.proofs.counting.count_before.Goals as goal

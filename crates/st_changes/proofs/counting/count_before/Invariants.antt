@@ -1,6 +1,6 @@
 use Rattle.std.proofs.Common.{◌≡◌, ◌≢◌, ℕ, ◌<◌, length, take}
 use Rattle.st_chunk.specs.Definitions.{entries}
-use Rattle.st_changes.specs.Views.{definitions_of}
+use Rattle.st_changes.specs.inside.Views.{definitions_of}
 use Rattle.st_changes.proofs.counting.count_before.Given as goal
 
 -- the place stands before none of the definitions so far

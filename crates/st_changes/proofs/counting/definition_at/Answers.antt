@@ -1,6 +1,6 @@
 use Rattle.std.proofs.Common.{◌≡◌, ◌+◌, List, [], ◌∷◌, ◌++◌, length, take, ap, ◌∙◌, arith, length-append}
 use Rattle.st_chunk.specs.Definitions.{Definition, entry, entries}
-use Rattle.st_changes.specs.Views.{definition_of, definitions_of}
+use Rattle.st_changes.specs.inside.Views.{definition_of, definitions_of}
 use Rattle.st_changes.proofs.ListTexts.{entries_more, item_more, item_good}
 use Rattle.st_changes.proofs.Texts.{item_at, past_all}
 use Rattle.st_changes.proofs.counting.definition_at.Goals as goal

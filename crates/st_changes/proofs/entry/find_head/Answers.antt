@@ -1,7 +1,7 @@
 use Rattle.std.proofs.Common.{◌≡◌, ℕ, ◌+◌, ◌-◌, List, ◌∷◌, length, take, drop, sym, ap, ◌∙◌, subst, arith, length-drop, get_or}
 use Rattle.std.proofs.lemmas.List.{drop-drop, get_or-drop}
 use Rattle.st_chunk.specs.Groups.{header_text}
-use Rattle.st_changes.specs.Runs.{FindsRun, IsFoundRun}
+use Rattle.st_changes.specs.inside.Runs.{FindsRun, IsFoundRun}
 use Rattle.st_changes.specs.Entries.{FindsHeader}
 use Rattle.st_changes.proofs.Fronts.{no_run_there, tail_is}
 use Rattle.st_changes.proofs.EntryTexts.{head_run, head_same}

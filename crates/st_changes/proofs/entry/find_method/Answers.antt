@@ -3,7 +3,7 @@ use Rattle.std.specs.Prelude.{nat_eq}
 use Rattle.std.specs.List.{starts_with}
 use Rattle.std.proofs.lemmas.List.{drop-drop}
 use Rattle.st_chunk.specs.Texts.{doubled}
-use Rattle.st_changes.specs.Runs.{FindsRun, IsFoundRun}
+use Rattle.st_changes.specs.inside.Runs.{FindsRun, IsFoundRun}
 use Rattle.st_changes.specs.Entries.{is_text}
 use Rattle.st_changes.proofs.Fronts.{no_run_there, tail_is, begins_is}
 use Rattle.st_changes.proofs.Marks.{doubled_is}

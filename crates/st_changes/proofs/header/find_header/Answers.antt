@@ -1,6 +1,6 @@
 use Rattle.std.proofs.Common.{◌≡◌, refl, ℕ, ◌+◌, ◌-◌, List, [], ◌++◌, length, take, drop, sym, ap, ◌∙◌, subst, arith, length-drop}
 use Rattle.std.proofs.lemmas.List.{drop_all}
-use Rattle.st_changes.specs.Runs.{FindsRun, IsFoundRun, IsRun}
+use Rattle.st_changes.specs.inside.Runs.{FindsRun, IsFoundRun, IsRun}
 use Rattle.st_changes.specs.Entries.{IsSide, IsHeader}
 use Rattle.st_changes.proofs.HeaderTexts.{word, ended, behind_class, behind_side, nothing_behind, name_read, header_read}
 use Rattle.st_changes.proofs.Fronts.{no_run_there, tail_is}

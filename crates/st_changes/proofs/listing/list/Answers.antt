@@ -3,8 +3,9 @@ use Rattle.std.proofs.lemmas.List.{map-append}
 use Rattle.st_chunk.specs.Definitions.{entries, Definition, IsDefinition}
 use Rattle.std.specs.Prelude.{All}
 use Rattle.st_changes.specs.Lists.{StandsAt}
-use Rattle.st_changes.specs.Views.{definition_of, definitions_of}
-use Rattle.st_changes.specs.Entries.{FindsEntry, IsFound, BeginsWith}
+use Rattle.st_changes.specs.inside.Views.{definition_of, definitions_of}
+use Rattle.st_changes.specs.inside.FoundEntries.{FindsEntry, IsFound}
+use Rattle.st_changes.specs.Entries.{BeginsWith}
 use Rattle.st_changes.proofs.Fronts.{tail_is}
 use Rattle.st_changes.proofs.ListTexts.{all_more, read_more, still_stands, stands_now}
 use Rattle.st_changes.proofs.listing.list.Goals as goal

@@ -1,7 +1,7 @@
 use Rattle.std.proofs.Common.{◌≡◌, ◌-◌, ◌≤◌, ◌++◌, true, false, length, drop}
 use Rattle.std.specs.Prelude.{All}
 use Rattle.st_chunk.specs.Definitions.{IsDefinition, entries}
-use Rattle.st_changes.specs.Views.{definitions_of}
+use Rattle.st_changes.specs.inside.Views.{definitions_of}
 use Rattle.st_changes.specs.Lists.{StandsAt}
 use Rattle.st_changes.proofs.listing.list.Given as goal
 

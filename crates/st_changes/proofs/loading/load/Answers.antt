@@ -2,7 +2,7 @@ use Rattle.std.proofs.Common.{[], sym, subst}
 use Rattle.std.specs.Prelude.{All}
 use Rattle.std.proofs.lemmas.List.{append-nil}
 use Rattle.st_chunk.specs.Definitions.{IsDefinition}
-use Rattle.st_changes.specs.States.{ChangesState}
+use Rattle.st_changes.specs.inside.States.{ChangesState}
 use Rattle.st_changes.proofs.loading.load.Goals as goal
 
 pub index-requires : goal.index-requires

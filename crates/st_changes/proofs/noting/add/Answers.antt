@@ -1,7 +1,7 @@
 use Rattle.std.proofs.Common.{◌≡◌, ◌+◌, length, ap, ◌∙◌, arith, length-append}
 use Rattle.st_chunk.specs.Definitions.{entry, entries}
-use Rattle.st_changes.specs.IndexStates.{found}
-use Rattle.st_changes.specs.Views.{definition_of}
+use Rattle.st_changes.specs.inside.IndexStates.{found}
+use Rattle.st_changes.specs.inside.Views.{definition_of}
 use Rattle.st_changes.proofs.ListTexts.{entries_more}
 use Rattle.st_changes.proofs.Lasts.{answers_same}
 use Rattle.st_changes.proofs.noting.add.Goals as goal

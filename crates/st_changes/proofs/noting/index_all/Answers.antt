@@ -1,10 +1,10 @@
 use Rattle.std.proofs.Common.{◌≡◌, ◌<◌, ◌≤◌, ◌+◌, ◌-◌, List, length, take, sym, ap, subst, arith}
 use Rattle.std.proofs.lemmas.List.{take_all}
 use Rattle.st_chunk.specs.Definitions.{Definition}
-use Rattle.st_changes.specs.IndexStates.{found}
-use Rattle.st_changes.specs.Views.{definitions_of}
+use Rattle.st_changes.specs.inside.IndexStates.{found}
+use Rattle.st_changes.specs.inside.Views.{definitions_of}
 use Rattle.st_changes.specs.Last.{Answers}
-use Rattle.st_changes.specs.Indexing.{Indexes}
+use Rattle.st_changes.specs.inside.Indexing.{Indexes}
 use Rattle.st_changes.proofs.ListTexts.{front_within, item_more, item_good, item_within}
 use Rattle.st_changes.proofs.Indexing.{front_good, last_many, last_at}
 use Rattle.st_changes.proofs.noting.index_all.Goals as goal

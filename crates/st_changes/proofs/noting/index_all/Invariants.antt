@@ -1,6 +1,6 @@
 use Rattle.std.proofs.Common.{◌+◌, take}
-use Rattle.st_changes.specs.Views.{definitions_of}
-use Rattle.st_changes.specs.Indexing.{Indexes}
+use Rattle.st_changes.specs.inside.Views.{definitions_of}
+use Rattle.st_changes.specs.inside.Indexing.{Indexes}
 use Rattle.st_changes.proofs.noting.index_all.Given as goal
 
 -- all are indexed up to those whose selectors come next

@@ -1,8 +1,8 @@
 use Rattle.std.proofs.Common.{List, length, take, sym, ap, subst, arith}
 use Rattle.std.proofs.lemmas.List.{take_all}
 use Rattle.st_chunk.specs.Definitions.{Definition}
-use Rattle.st_changes.specs.Views.{definitions_of}
-use Rattle.st_changes.specs.Indexing.{Indexes}
+use Rattle.st_changes.specs.inside.Views.{definitions_of}
+use Rattle.st_changes.specs.inside.Indexing.{Indexes}
 use Rattle.st_changes.proofs.ListTexts.{item_more, item_good, item_within}
 use Rattle.st_changes.proofs.noting.index_parsed.Goals as goal
 

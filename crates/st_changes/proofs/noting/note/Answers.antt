@@ -1,7 +1,7 @@
 use Rattle.std.proofs.Common.{ℕ, List, [], ◌∷◌, ◌++◌, sym, ap, ◌∙◌, subst}
 use Rattle.std.specs.Option.{option_map}
-use Rattle.st_changes.specs.IndexStates.{found, HasName, updated}
-use Rattle.st_changes.specs.Views.{definition_of}
+use Rattle.st_changes.specs.inside.IndexStates.{found, HasName, updated}
+use Rattle.st_changes.specs.inside.Views.{definition_of}
 use Rattle.st_changes.specs.Last.{FindsSelector, HasSelector, span_of}
 use Rattle.st_changes.proofs.Lasts.{without, with_selector, answers_same}
 use Rattle.st_changes.proofs.noting.note.Goals as goal

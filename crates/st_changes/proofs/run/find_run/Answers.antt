@@ -1,6 +1,6 @@
 use Rattle.std.proofs.Common.{ℕ, ◌+◌, List, ◌++◌, drop, sym, ap, ◌∙◌, arith}
 use Rattle.std.proofs.lemmas.Bool.{ne_eqb}
-use Rattle.st_changes.specs.Runs.{doubled_by}
+use Rattle.st_changes.specs.inside.Runs.{doubled_by}
 use Rattle.st_changes.proofs.Marks.{on_other, on_pair, at_end}
 use Rattle.st_changes.proofs.run.find_run.Goals as goal
 

@@ -1,5 +1,5 @@
 use Rattle.std.proofs.Common.{◌≡◌, ◌-◌, ◌≤◌, ◌++◌, length, drop}
-use Rattle.st_changes.specs.Runs.{doubled_by}
+use Rattle.st_changes.specs.inside.Runs.{doubled_by}
 use Rattle.st_changes.proofs.run.find_run.Given as goal
 
 abbrev pub invariant-loop-at : goal.invariant-loop-at

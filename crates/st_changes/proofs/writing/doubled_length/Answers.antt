@@ -1,5 +1,5 @@
 use Rattle.std.proofs.Common.{◌≡◌, ◌+◌, [], ◌∷◌, length, take, get_or, ap, ◌∙◌, arith, length-append}
-use Rattle.st_changes.specs.Runs.{doubled_by}
+use Rattle.st_changes.specs.inside.Runs.{doubled_by}
 use Rattle.st_changes.proofs.Marks.{by_next, one_mark, one_other}
 use Rattle.st_changes.proofs.writing.doubled_length.Goals as goal
 use Rattle.st_changes.proofs.writing.doubled_length.Goals.{then-byte-mark, else-byte-mark}

@@ -1,7 +1,7 @@
 use Rattle.st_chunk.specs.Definitions.{entry}
-use Rattle.st_changes.specs.Runs.{doubled_by}
+use Rattle.st_changes.specs.inside.Runs.{doubled_by}
 use Rattle.std.proofs.Common.{◌≡◌, ◌+◌, ◌-◌, ℕ, List, length, ap, arith}
-use Rattle.st_changes.specs.Views.{definition_of}
+use Rattle.st_changes.specs.inside.Views.{definition_of}
 use Rattle.st_changes.proofs.EntryTexts.{entry_long, parts_short}
 use Rattle.st_changes.proofs.writing.entry_length.Goals as goal
 

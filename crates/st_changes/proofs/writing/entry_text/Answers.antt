@@ -1,6 +1,6 @@
 use Rattle.std.proofs.Common.{ℕ, List, [], ◌∷◌, ◌++◌, ap, ◌∙◌}
-use Rattle.st_changes.specs.Runs.{doubled_by}
-use Rattle.st_changes.specs.Views.{definition_of}
+use Rattle.st_changes.specs.inside.Runs.{doubled_by}
+use Rattle.st_changes.specs.inside.Views.{definition_of}
 use Rattle.st_changes.proofs.EntryTexts.{entry_put}
 use Rattle.st_changes.proofs.writing.entry_text.Goals as goal
 

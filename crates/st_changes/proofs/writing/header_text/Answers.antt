@@ -1,7 +1,7 @@
 use Rattle.std.proofs.Common.{ℕ, List, [], ◌∷◌, ◌++◌, ap, ◌∙◌}
 use Rattle.st_chunk.specs.Definitions.{header_for}
-use Rattle.st_changes.specs.Runs.{doubled_by}
-use Rattle.st_changes.specs.Views.{definition_of}
+use Rattle.st_changes.specs.inside.Runs.{doubled_by}
+use Rattle.st_changes.specs.inside.Views.{definition_of}
 use Rattle.st_changes.proofs.HeaderTexts.{header_put}
 use Rattle.st_changes.proofs.writing.header_text.Goals as goal
 

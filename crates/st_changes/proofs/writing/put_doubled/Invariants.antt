@@ -1,5 +1,5 @@
 use Rattle.std.proofs.Common.{◌≡◌, ◌++◌, take}
-use Rattle.st_changes.specs.Runs.{doubled_by}
+use Rattle.st_changes.specs.inside.Runs.{doubled_by}
 use Rattle.st_changes.proofs.writing.put_doubled.Given as goal
 
 abbrev pub invariant-loop-byte : goal.invariant-loop-byte

@@ -1,7 +1,7 @@
 use Rattle.std.proofs.Common.{◌≡◌, ◌-◌, ◌*◌, ◌≤◌, length, take, IsTrue}
 use Rattle.st_host.specs.Files.{IsWritten}
 use Rattle.st_chunk.specs.Texts.{doubled}
-use Rattle.st_chunk.specs.Writing.{WritesBehind}
+use Rattle.st_chunk.specs.inside.Writing.{WritesBehind}
 use Rattle.st_chunk.proofs.doubling.doubled.Given as goal
 
 abbrev pub invariant-loop-done : goal.invariant-loop-done

@@ -1,5 +1,5 @@
 use Rattle.std.proofs.Common.{◌≡◌, ◌≤◌, length, take}
-use Rattle.st_chunk.specs.Headings.{before_blanks}
+use Rattle.st_chunk.specs.inside.Headings.{before_blanks}
 use Rattle.st_chunk.proofs.heading.before_blanks.Given as goal
 
 -- behind this place are blanks alone

@@ -1,5 +1,5 @@
 use Rattle.std.proofs.Common.{◌+◌, ◌-◌, length}
-use Rattle.st_clean.specs.Found.{left}
+use Rattle.st_clean.specs.inside.Found.{left}
 use Rattle.st_clean.proofs.Closed.{IsFinding}
 use Rattle.st_clean.proofs.needed.reach.Given as goal
 

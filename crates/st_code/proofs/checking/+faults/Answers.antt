@@ -1,9 +1,9 @@
 use Rattle.std.proofs.Common.{sym, ap, ◌∙◌, subst, arith}
 use Rattle.st_scan.specs.Views.{ExpressionView, names_view as list_view, expression_view, statements_view, block}
-use Rattle.st_scan.specs.Chains.{link_size}
+use Rattle.st_scan.specs.inside.Chains.{link_size}
 use Rattle.st_scan.proofs.Views.{expression_view-block}
 use Rattle.st_scan.proofs.Chains.{link_within, chain_within}
-use Rattle.st_emit.specs.NameViews.{names_view, scope_view}
+use Rattle.st_emit.specs.inside.NameViews.{names_view, scope_view}
 use Rattle.st_code.specs.Faults.{expression_fault}
 use Rattle.st_code.specs.Reported.{Reports}
 use Rattle.st_code.proofs.checking.+faults.Goals as goal

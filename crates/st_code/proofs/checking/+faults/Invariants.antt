@@ -4,10 +4,10 @@ use Rattle.st_scan.specs.declared.tree.Expression.{size-Expression}
 use Rattle.st_scan.specs.declared.tree.Message.{size-Message}
 use Rattle.st_scan.specs.declared.tree.Statement.{size-Statement}
 use Rattle.st_scan.specs.Views.{expressions_view, messages_view, statements_view}
-use Rattle.st_scan.specs.Chains.{links_view, links_size}
-use Rattle.st_emit.specs.NameViews.{names_view, scope_view}
+use Rattle.st_scan.specs.inside.Chains.{links_view, links_size}
+use Rattle.st_emit.specs.inside.NameViews.{names_view, scope_view}
 use Rattle.st_code.specs.Faults.{expressions_fault, messages_fault, statements_fault}
-use Rattle.st_code.specs.ChainFaults.{all_sent_fault}
+use Rattle.st_code.specs.inside.ChainFaults.{all_sent_fault}
 use Rattle.st_code.proofs.checking.+faults.Given as goal
 
 abbrev pub decreases-block : goal.decreases-block

@@ -1,10 +1,10 @@
 use Rattle.std.proofs.Common.{take, rules}
 use Rattle.st_scan.specs.Views.{name_view, names_view}
-use Rattle.st_emit.specs.NameViews.{scope_view}
+use Rattle.st_emit.specs.inside.NameViews.{scope_view}
 use Rattle.st_code.specs.declared.fault.CodeFault.{CodeFault}
 use Rattle.st_code.specs.Reported.{IsFault}
 use Rattle.st_code.specs.Faults.{declare_fault}
-use Rattle.st_code.specs.ChainFaults.{among_fault}
+use Rattle.st_code.specs.inside.ChainFaults.{among_fault}
 use Rattle.st_code.proofs.Declaring.{declare_goes_on, declare_stops}
 use Rattle.st_code.proofs.checking.declare.Goals as goal
 

@@ -1,7 +1,7 @@
 use Rattle.std.proofs.Common.{◌≡◌, false, ◌++◌, take, drop}
 use Rattle.st_scan.specs.Views.{names_view}
 use Rattle.st_emit.specs.Names.{numbered}
-use Rattle.st_emit.specs.NameViews.{scope_view}
+use Rattle.st_emit.specs.inside.NameViews.{scope_view}
 use Rattle.st_code.specs.Faults.{declare_fault}
 use Rattle.st_code.proofs.checking.declare.Given as goal
 

@@ -1,9 +1,9 @@
 use Rattle.std.proofs.Common.{arith, rules}
-use Rattle.st_scan.specs.Chains.{link_view, links_view}
-use Rattle.st_emit.specs.NameViews.{names_view, scope_view}
+use Rattle.st_scan.specs.inside.Chains.{link_view, links_view}
+use Rattle.st_emit.specs.inside.NameViews.{names_view, scope_view}
 use Rattle.st_code.specs.declared.fault.CodeFault.{CodeFault}
 use Rattle.st_code.specs.Reported.{IsFault}
-use Rattle.st_code.specs.ChainFaults.{target_fault, targets_fault}
+use Rattle.st_code.specs.inside.ChainFaults.{target_fault, targets_fault}
 use Rattle.st_code.proofs.Declaring.{targets_go_on, targets_stop}
 use Rattle.st_code.proofs.checking.targets.Goals as goal
 

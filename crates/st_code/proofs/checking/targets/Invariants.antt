@@ -1,7 +1,7 @@
 use Rattle.std.proofs.Common.{◌≡◌, ◌≤◌, take, length}
-use Rattle.st_scan.specs.Chains.{links_view}
-use Rattle.st_emit.specs.NameViews.{names_view, scope_view}
-use Rattle.st_code.specs.ChainFaults.{targets_fault}
+use Rattle.st_scan.specs.inside.Chains.{links_view}
+use Rattle.st_emit.specs.inside.NameViews.{names_view, scope_view}
+use Rattle.st_code.specs.inside.ChainFaults.{targets_fault}
 use Rattle.st_code.proofs.checking.targets.Given as goal
 
 abbrev pub invariant-loop-left : goal.invariant-loop-left

@@ -1,9 +1,9 @@
 use Rattle.std.proofs.Common.{ℕ, List, Ok, Result, sym, ap, ◌∙◌}
 use Rattle.st_scan.specs.Views.{method_view}
-use Rattle.st_emit.specs.NameViews.{names_view}
+use Rattle.st_emit.specs.inside.NameViews.{names_view}
 use Rattle.st_emit.specs.Steps.{all_bytes}
 use Rattle.st_emit.specs.declared.literal.Literal.{Literal}
-use Rattle.st_emit.specs.Views.{literals_view}
+use Rattle.st_emit.specs.inside.Views.{literals_view}
 use Rattle.st_code.specs.declared.fault.Fault.{Fault}
 use Rattle.st_code.specs.Methods.{PartsView, parts_or}
 use Rattle.st_code.proofs.Completed.{parts_same}

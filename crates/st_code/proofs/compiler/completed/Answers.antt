@@ -2,7 +2,7 @@ use Rattle.std.proofs.Common.{◌≡◌, ℕ, ◌++◌, List, ap, ◌∙◌}
 use Rattle.st_scan.specs.Views.{method_view}
 use Rattle.st_emit.specs.declared.step.Step.{Step}
 use Rattle.st_emit.specs.Literals.{LiteralView}
-use Rattle.st_emit.specs.NameViews.{names_view}
+use Rattle.st_emit.specs.inside.NameViews.{names_view}
 use Rattle.st_code.specs.Methods.{body, flag_of, flag, last_of}
 use Rattle.st_code.proofs.Completed.{simple_steps}
 use Rattle.st_code.proofs.compiler.completed.Goals as goal

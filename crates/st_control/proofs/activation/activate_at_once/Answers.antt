@@ -1,6 +1,6 @@
 use Rattle.std.proofs.Common.{arith}
 use Rattle.st_frames.proofs.Doing.{checks}
-use Rattle.st_control.specs.AtOnce.{activate_at_once, at_once}
+use Rattle.st_control.specs.inside.AtOnce.{activate_at_once, at_once}
 use Rattle.st_control.proofs.activation.activate_at_once.Goals as goal
 
 pub returns-in_err-look_at_words-clause-does : goal.returns-in_err-look_at_words-clause-does

@@ -1,6 +1,6 @@
 use Rattle.std.proofs.Common.{arith}
 use Rattle.st_frames.proofs.Doing.{rows}
-use Rattle.st_control.specs.AtOnce.{enter_context}
+use Rattle.st_control.specs.inside.AtOnce.{enter_context}
 use Rattle.st_control.proofs.activation.enter_context.Goals as goal
 
 pub returns-in_err-context-clause-does : goal.returns-in_err-context-clause-does

@@ -1,6 +1,6 @@
 use Rattle.std.proofs.Common.{arith}
 use Rattle.st_control.proofs.Space.{spaces}
-use Rattle.st_control.specs.AtOnce.{context_space}
+use Rattle.st_control.specs.inside.AtOnce.{context_space}
 use Rattle.st_control.proofs.activation.has_context_space.Goals as goal
 
 pub returns-then-free-ge1 : goal.returns-then-free-ge1

@@ -1,6 +1,6 @@
 use Rattle.std.proofs.Common.{arith}
 use Rattle.st_frames.proofs.Doing.{rows}
-use Rattle.st_control.specs.AtOnce.{jump_at_once}
+use Rattle.st_control.specs.inside.AtOnce.{jump_at_once}
 use Rattle.st_control.proofs.at_once.jump_at_once.Goals as goal
 
 pub returns-in_err-x : goal.returns-in_err-x

@@ -1,6 +1,6 @@
 use Rattle.std.proofs.Common.{arith}
 use Rattle.st_frames.proofs.Doing.{rows}
-use Rattle.st_control.specs.AtOnce.{return_past_at_once, return_at_once, return_to_context_at_once, at_once}
+use Rattle.st_control.specs.inside.AtOnce.{return_past_at_once, return_at_once, return_to_context_at_once, at_once}
 use Rattle.st_control.proofs.at_once.return_past_at_once.Goals as goal
 
 pub returns-in_err-target-clause-does : goal.returns-in_err-target-clause-does

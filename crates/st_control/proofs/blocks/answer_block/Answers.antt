@@ -1,6 +1,6 @@
 use Rattle.std.proofs.Common.{arith}
 use Rattle.st_frames.proofs.Doing.{rows}
-use Rattle.st_frames.specs.Answering.{succeed_by, succeed_with}
+use Rattle.st_frames.specs.inside.Answering.{succeed_by, succeed_with}
 use Rattle.st_control.proofs.blocks.answer_block.Goals as goal
 
 pub returns-in_err-block-clause-does : goal.returns-in_err-block-clause-does

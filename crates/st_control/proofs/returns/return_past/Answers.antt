@@ -1,6 +1,6 @@
 use Rattle.std.proofs.Common.{arith}
 use Rattle.st_frames.proofs.Doing.{rows}
-use Rattle.st_control.specs.Returning.{return_past}
+use Rattle.st_control.specs.inside.Returning.{return_past}
 use Rattle.st_model.specs.Returns.{return_to, return_to_context, calls, calls_nothing}
 use Rattle.st_control.proofs.returns.return_past.Goals as goal
 

@@ -1,8 +1,8 @@
 use Rattle.std.proofs.Common.{◌≡◌, ◌/◌, false, ap, sym, ◌∙◌, arith}
 use Rattle.std.proofs.lemmas.Grind.{common_steps}
 use Rattle.st_model.specs.Values.{value, is_small}
-use Rattle.st_counted.specs.Counts.{raised}
-use Rattle.st_counted.specs.Contents.{counts_of}
+use Rattle.st_counted.specs.inside.Counts.{raised}
+use Rattle.st_counted.specs.inside.Contents.{counts_of}
 use Rattle.st_counted.proofs.Tallying.{raised_even}
 use Rattle.st_counted.proofs.counting.add.Goals as goal
 

@@ -1,8 +1,8 @@
 use Rattle.std.proofs.Common.{◌≡◌, ◌≤◌, ◌/◌, false, ap, sym, ◌∙◌, subst, arith}
 use Rattle.std.proofs.lemmas.Grind.{common_steps}
 use Rattle.st_model.specs.Values.{value, is_small}
-use Rattle.st_counted.specs.Counts.{number_at, lowered}
-use Rattle.st_counted.specs.Contents.{counts_of}
+use Rattle.st_counted.specs.inside.Counts.{number_at, lowered}
+use Rattle.st_counted.specs.inside.Contents.{counts_of}
 use Rattle.st_counted.proofs.Tallying.{lowered_even}
 use Rattle.st_counted.proofs.counting.lower.Goals as goal
 

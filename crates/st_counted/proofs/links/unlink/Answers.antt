@@ -2,8 +2,8 @@ use Rattle.std.proofs.Common.{◌≡◌, ◌/◌, Bool, true, false, cond, refl,
 use Rattle.std.specs.Prelude.{◌==◌}
 use Rattle.std.proofs.Math.Logic.{∥∥₁_map}
 use Rattle.st_model.specs.declared.oop.Oop.{Oop}
-use Rattle.st_heap.specs.Links.{next_of, before_of}
-use Rattle.st_counted.specs.Links.{Listed, IsEnd, without_member}
+use Rattle.st_heap.specs.inside.Links.{next_of, before_of}
+use Rattle.st_counted.specs.inside.Links.{Listed, IsEnd, without_member}
 use Rattle.st_counted.proofs.Linked.{unlinked}
 use Rattle.st_counted.proofs.Listing.{same_end}
 use Rattle.st_counted.proofs.Placed.{same_then}

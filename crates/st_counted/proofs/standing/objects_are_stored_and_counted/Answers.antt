@@ -1,6 +1,6 @@
-use Rattle.st_heap.specs.Stores.{stored_of}
-use Rattle.st_counted.specs.Counted.{counted_view, numbers_of}
-use Rattle.st_counted.specs.References.{all_roots}
+use Rattle.st_heap.specs.inside.Stores.{stored_of}
+use Rattle.st_counted.specs.inside.Counted.{counted_view, numbers_of}
+use Rattle.st_counted.specs.inside.References.{all_roots}
 use Rattle.st_counted.proofs.InBlocks.{stands, counts}
 use Rattle.st_counted.proofs.standing.objects_are_stored_and_counted.Goals as goal
 

@@ -1,7 +1,7 @@
 use Rattle.std.proofs.Common.{◌≡◌, ◌∙◌, ap, sym, subst, arith}
 use Rattle.std.specs.Prelude.{option_map}
 use Rattle.st_model.specs.Values.{value}
-use Rattle.st_debug.specs.Calls.{call_of}
+use Rattle.st_debug.specs.inside.Calls.{call_of}
 use Rattle.st_debug.proofs.Walked.{AddsSome, none_there, none_added, added_more, added_part, added_stopped, added_all, one_later}
 use Rattle.st_debug.proofs.stack.push_calls.Goals as goal
 

@@ -5,8 +5,8 @@ use Rattle.std.proofs.lemmas.Int.{to_z-of_z}
 use Rattle.st_model.specs.Values.{value}
 use Rattle.st_model.specs.Table.{bounded_table}
 use Rattle.st_model.specs.Steps.{byte_at}
-use Rattle.st_model.specs.Calls.{transition_of, itself}
-use Rattle.st_frames.specs.Shown.{shown}
+use Rattle.st_model.specs.inside.Calls.{transition_of, itself}
+use Rattle.st_frames.specs.inside.Shown.{shown}
 use Rattle.st_debug.specs.Watched.{At}
 use Rattle.st_debug.proofs.Fetched.{at_code, fetched}
 use Rattle.st_debug.proofs.watching.watch.Goals as goal

@@ -1,7 +1,8 @@
 use Rattle.std.proofs.Common.{◌≡◌, ℕ, Some, None, sym, ap, ap₂, ◌∙◌, arith}
 use Rattle.std.specs.Prelude.{option_map}
-use Rattle.st_emit.specs.Views.{literal_view, members_view}
-use Rattle.st_decompile.specs.Comparing.{same_members, members_now}
+use Rattle.st_emit.specs.inside.Views.{literal_view, members_view}
+use Rattle.st_decompile.specs.Comparing.{same_members}
+use Rattle.st_decompile.specs.inside.Members.{members_now}
 use Rattle.st_decompile.proofs.Sameness.{array_some, array_none, array_is, members_end}
 use Rattle.st_decompile.proofs.comparing.+comparing.Goals as goal
 

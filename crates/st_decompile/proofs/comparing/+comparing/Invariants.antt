@@ -1,5 +1,5 @@
 use Rattle.std.proofs.Common.{◌≡◌, drop}
-use Rattle.st_emit.specs.Views.{members_view}
+use Rattle.st_emit.specs.inside.Views.{members_view}
 use Rattle.st_decompile.specs.Comparing.{same_members}
 use Rattle.st_decompile.proofs.comparing.+comparing.Given as goal
 

@@ -2,10 +2,10 @@ use Rattle.std.proofs.Common.{ap, ◌∙◌}
 use Rattle.std.proofs.lemmas.Result.{IfOk-weaker}
 use Rattle.std.specs.Prelude.{option_map}
 use Rattle.st_scan.specs.Views.{method_view}
-use Rattle.st_emit.specs.NameViews.{names_view}
-use Rattle.st_code.specs.MethodDrafts.{parts_view}
-use Rattle.st_emit.specs.Views.{literals_view}
-use Rattle.st_expression_stack.specs.Called.{calling_view}
+use Rattle.st_emit.specs.inside.NameViews.{names_view}
+use Rattle.st_code.specs.inside.MethodDrafts.{parts_view}
+use Rattle.st_emit.specs.inside.Views.{literals_view}
+use Rattle.st_expression_stack.specs.inside.Called.{calling_view}
 use Rattle.st_expression_stack.specs.Names.{calling_of}
 use Rattle.st_decompile.proofs.Tested.{read_by}
 use Rattle.st_decompile.proofs.decompiler.candidate_of.Goals as goal

@@ -1,7 +1,7 @@
 use Rattle.std.proofs.Common.{None}
 use Rattle.std.proofs.lemmas.Result.{IfOk-weaker}
-use Rattle.st_emit.specs.NameViews.{names_view}
-use Rattle.st_code.specs.MethodDrafts.{parts_view}
+use Rattle.st_emit.specs.inside.NameViews.{names_view}
+use Rattle.st_code.specs.inside.MethodDrafts.{parts_view}
 use Rattle.st_decompile.proofs.Finding.{none_found}
 use Rattle.st_decompile.proofs.Tested.{read_as, right, read, missed}
 use Rattle.st_decompile.proofs.decompiler.decompile.Goals as goal

@@ -1,9 +1,9 @@
 use Rattle.std.proofs.Common.{◌≡◌, subst}
 use Rattle.st_scan.specs.Views.{method_view}
-use Rattle.st_emit.specs.NameViews.{names_view}
+use Rattle.st_emit.specs.inside.NameViews.{names_view}
 use Rattle.st_code.specs.declared.fault.CodeFault.{CodeFault}
 use Rattle.st_code.specs.Methods.{fault}
-use Rattle.st_code.specs.MethodDrafts.{parts_view}
+use Rattle.st_code.specs.inside.MethodDrafts.{parts_view}
 use Rattle.st_code.specs.Reported.{IsFault}
 use Rattle.st_decompile.proofs.Tested.{has_same, has_fault}
 use Rattle.st_decompile.proofs.decompiler.has_code.Goals as goal

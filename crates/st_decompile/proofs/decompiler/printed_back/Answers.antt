@@ -1,9 +1,9 @@
 use Rattle.std.proofs.Common.{Some, None, ◌∙◌, subst}
 use Rattle.st_scan.specs.Views.{method_view}
-use Rattle.st_emit.specs.NameViews.{names_view}
-use Rattle.st_code.specs.MethodDrafts.{parts_view}
+use Rattle.st_emit.specs.inside.NameViews.{names_view}
+use Rattle.st_code.specs.inside.MethodDrafts.{parts_view}
 use Rattle.st_print.specs.Printed.{printed}
-use Rattle.st_decompile.specs.Answers.{HasCode}
+use Rattle.st_decompile.specs.inside.Answers.{HasCode}
 use Rattle.st_decompile.proofs.Tested.{meant_as, none_meant, none_same, one_same}
 use Rattle.st_decompile.proofs.decompiler.printed_back.Goals as goal
 

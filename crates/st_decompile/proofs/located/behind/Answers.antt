@@ -1,6 +1,6 @@
 use Rattle.std.proofs.Common.{sym, subst}
 use Rattle.std.proofs.lemmas.List.{take_rest}
-use Rattle.st_decompile.specs.Located.{AreBehind}
+use Rattle.st_decompile.specs.inside.Located.{AreBehind}
 use Rattle.st_decompile.proofs.Locating.{behind_is}
 use Rattle.st_decompile.proofs.located.behind.Goals as goal
 

@@ -1,5 +1,5 @@
 use Rattle.std.proofs.Common.{◌≡◌, ◌++◌, drop}
-use Rattle.st_decompile.specs.Located.{located_from}
+use Rattle.st_decompile.specs.inside.Located.{located_from}
 use Rattle.st_decompile.proofs.located.locate.Given as goal
 
 abbrev pub invariant-loop-step : goal.invariant-loop-step

@@ -1,5 +1,5 @@
 use Rattle.std.proofs.Common.{◌≡◌, ap, ◌∙◌, sym}
-use Rattle.st_expression_stack.specs.Stacks.{acted_if}
+use Rattle.st_expression_stack.specs.inside.Stacks.{acted_if}
 use Rattle.st_decompile.proofs.reading.acts_plainly.Goals as goal
 
 pub returns-then-acted : goal.returns-then-acted

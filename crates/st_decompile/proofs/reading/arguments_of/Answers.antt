@@ -2,8 +2,8 @@ use Rattle.std.proofs.Common.{◌≡◌, ◌++◌, Some, None, sym, ap, ◌∙�
 use Rattle.st_scan.specs.Views.{names_view}
 use Rattle.st_expression_stack.specs.Items.{arguments_of}
 use Rattle.st_decompile.specs.Reading.{least_among}
-use Rattle.st_expression_stack.specs.Stacks.{stack_view, IsArgumentPopped}
-use Rattle.st_decompile.specs.Read.{arguments_by}
+use Rattle.st_expression_stack.specs.inside.Stacks.{stack_view, IsArgumentPopped}
+use Rattle.st_decompile.specs.inside.Read.{arguments_by}
 use Rattle.st_expression_stack.proofs.Stacking.{arguments_end}
 use Rattle.st_decompile.proofs.ReadTurns.{others_turn, none_declared}
 use Rattle.st_decompile.proofs.reading.arguments_of.Goals as goal

@@ -1,5 +1,5 @@
 use Rattle.std.proofs.Common.{arith}
-use Rattle.st_expression_stack.specs.Stacks.{stack_view, taken_view}
+use Rattle.st_expression_stack.specs.inside.Stacks.{stack_view, taken_view}
 use Rattle.st_scan.specs.Views.{expression_view, names_view}
 use Rattle.st_decompile.proofs.ReadTurns.{block_is}
 use Rattle.st_decompile.proofs.reading.block_piece.Goals as goal

@@ -1,6 +1,6 @@
 use Rattle.std.proofs.Common.{Some, None, subst}
 use Rattle.std.proofs.lemmas.Result.{IfOk-weaker}
-use Rattle.st_decompile.specs.Read.{IsPieceStart}
+use Rattle.st_decompile.specs.inside.Read.{IsPieceStart}
 use Rattle.st_decompile.proofs.Starts.{start_none, start_twice}
 use Rattle.st_decompile.proofs.reading.block_start.Goals as goal
 

@@ -1,5 +1,5 @@
 use Rattle.std.proofs.Common.{◌≡◌, Some, None, subst}
-use Rattle.st_expression_stack.specs.Stacks.{stack_view, IsArgumentPopped}
+use Rattle.st_expression_stack.specs.inside.Stacks.{stack_view, IsArgumentPopped}
 use Rattle.st_decompile.proofs.ReadTurns.{others_turn, others_end}
 use Rattle.st_decompile.proofs.reading.other_arguments.Goals as goal
 

@@ -1,7 +1,7 @@
 use Rattle.std.proofs.Common.{◌≡◌, ◌++◌, length}
 use Rattle.st_scan.specs.Views.{names_view}
-use Rattle.st_expression_stack.specs.Stacks.{stack_view}
-use Rattle.st_decompile.specs.Read.{arguments_by}
+use Rattle.st_expression_stack.specs.inside.Stacks.{stack_view}
+use Rattle.st_decompile.specs.inside.Read.{arguments_by}
 use Rattle.st_decompile.proofs.reading.other_arguments.Given as goal
 
 abbrev pub invariant-loop-names : goal.invariant-loop-names

@@ -1,5 +1,5 @@
 use Rattle.std.proofs.Common.{Some, None, subst}
-use Rattle.st_expression_stack.specs.Stacks.{piece_view, stack_view, IsPopped}
+use Rattle.st_expression_stack.specs.inside.Stacks.{piece_view, stack_view, IsPopped}
 use Rattle.st_expression_stack.proofs.Stacking.{on_piece_none, on_piece_some}
 use Rattle.st_decompile.proofs.reading.piece_start.Goals as goal
 

@@ -1,8 +1,8 @@
 use Rattle.std.proofs.Common.{◌≡◌, ◌==◌, ◌∷◌, false, sym, ap, ◌∙◌, subst}
 use Rattle.std.proofs.lemmas.Result.{IfOk-weaker}
 use Rattle.st_expression_stack.specs.Items.{leaf, piece, goes_on}
-use Rattle.st_expression_stack.specs.Stacks.{stack_view}
-use Rattle.st_decompile.specs.Read.{act_by, IsPlain}
+use Rattle.st_expression_stack.specs.inside.Stacks.{stack_view}
+use Rattle.st_decompile.specs.inside.Read.{act_by, IsPlain}
 use Rattle.st_decompile.proofs.ActRows.{row_push, row_pop, row_special}
 use Rattle.st_decompile.proofs.reading.plain_act.Goals as goal
 

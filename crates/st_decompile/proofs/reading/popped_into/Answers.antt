@@ -1,6 +1,6 @@
 use Rattle.std.proofs.Common.{List, ◌∷◌, sym, ap, ◌∙◌}
 use Rattle.st_expression_stack.specs.Items.{Item, goes_on}
-use Rattle.st_expression_stack.specs.Stacks.{stack_view}
+use Rattle.st_expression_stack.specs.inside.Stacks.{stack_view}
 use Rattle.st_expression_stack.proofs.Stacking.{stack_push}
 use Rattle.st_decompile.proofs.ReadTurns.{popped_is}
 use Rattle.st_decompile.proofs.reading.popped_into.Goals as goal

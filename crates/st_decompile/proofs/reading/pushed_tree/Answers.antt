@@ -1,9 +1,9 @@
 use Rattle.std.proofs.Common.{◌≡◌, sym, ap, ◌∙◌, subst}
 use Rattle.std.specs.Prelude.{IfOk, option_map}
 use Rattle.st_scan.specs.Views.{expression_view}
-use Rattle.st_emit.specs.Views.{literal_view}
+use Rattle.st_emit.specs.inside.Views.{literal_view}
 use Rattle.st_expression_stack.specs.Choosing.{literal_tree}
-use Rattle.st_decompile.specs.Read.{pushed_by}
+use Rattle.st_decompile.specs.inside.Read.{pushed_by}
 use Rattle.st_expression_stack.proofs.Got.{got_as}
 use Rattle.st_decompile.proofs.reading.pushed_tree.Goals as goal
 

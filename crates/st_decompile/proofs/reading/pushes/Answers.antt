@@ -3,7 +3,7 @@ use Rattle.std.specs.Prelude.{option_map}
 use Rattle.st_scan.specs.Views.{expression_view}
 use Rattle.st_resolved.specs.Instructions.{on_some}
 use Rattle.st_expression_stack.specs.Items.{leaf, piece, goes_on}
-use Rattle.st_expression_stack.specs.Stacks.{stack_view}
+use Rattle.st_expression_stack.specs.inside.Stacks.{stack_view}
 use Rattle.st_decompile.proofs.ReadTurns.{piece_put}
 use Rattle.st_decompile.proofs.reading.pushes.Goals as goal
 

@@ -1,5 +1,5 @@
 use Rattle.std.proofs.Common.{sym, ap, ◌∙◌}
-use Rattle.st_emit.specs.Views.{literal_view}
+use Rattle.st_emit.specs.inside.Views.{literal_view}
 use Rattle.st_resolved.specs.Instructions.{on_some}
 use Rattle.st_decompile.specs.Reading.{symbol_of}
 use Rattle.st_expression_stack.proofs.Got.{got_as}

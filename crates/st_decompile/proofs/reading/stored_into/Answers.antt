@@ -1,7 +1,7 @@
 use Rattle.std.proofs.Common.{sym, ap, ◌∙◌}
 use Rattle.st_expression_stack.specs.Items.{goes_on}
-use Rattle.st_expression_stack.specs.Stacks.{piece_view}
-use Rattle.st_decompile.specs.Read.{assigned_by, stored_into_by}
+use Rattle.st_expression_stack.specs.inside.Stacks.{piece_view}
+use Rattle.st_decompile.specs.inside.Read.{assigned_by, stored_into_by}
 use Rattle.st_decompile.proofs.ReadTurns.{piece_put, popped_none, popped_some}
 use Rattle.st_decompile.proofs.reading.stored_into.Goals as goal
 

@@ -1,10 +1,10 @@
 use Rattle.std.proofs.Common.{◌≡◌, ◌+◌, ◌-◌, sym, ap, ◌∙◌, subst, arith, eq-eqb}
 use Rattle.std.proofs.lemmas.List.{nil_from_length}
 use Rattle.std.proofs.lemmas.Result.{IfOk-weaker}
-use Rattle.st_decompile.specs.Located.{steps_in}
-use Rattle.st_expression_stack.specs.Stacks.{stack_view, acted_by}
+use Rattle.st_decompile.specs.inside.Located.{steps_in}
+use Rattle.st_expression_stack.specs.inside.Stacks.{stack_view, acted_by}
 use Rattle.st_expression_stack.specs.declared.item.Item.TheVariants as kept
-use Rattle.st_decompile.specs.Read.{act_by, IsBlockStart}
+use Rattle.st_decompile.specs.inside.Read.{act_by, IsBlockStart}
 use Rattle.st_decompile.proofs.ActRows.{row_block}
 use Rattle.st_decompile.proofs.Locating.{spaced_behind}
 use Rattle.st_decompile.proofs.Regioned.{block_none, block_unpassed, block_read, formed_empty, formed_top, formed_none, side_read, side_none, second_read, is_plain}

@@ -1,7 +1,7 @@
 use Rattle.std.proofs.Common.{◌≡◌, refl, sym, ap, ◌∙◌}
 use Rattle.st_expression_stack.specs.Items.{Piece, put_low}
-use Rattle.st_expression_stack.specs.Stacks.{stack_view, stack_if, chosen_if}
-use Rattle.st_decompile.specs.Read.{block_made_by}
+use Rattle.st_expression_stack.specs.inside.Stacks.{stack_view, stack_if, chosen_if}
+use Rattle.st_decompile.specs.inside.Read.{block_made_by}
 use Rattle.st_decompile.proofs.Regioned.{block_done, block_not}
 use Rattle.st_decompile.proofs.region.block_made.Goals as goal
 

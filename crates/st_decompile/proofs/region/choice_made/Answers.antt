@@ -1,6 +1,6 @@
 use Rattle.std.proofs.Common.{◌≡◌, None, refl, sym, ap, ◌∙◌}
-use Rattle.st_expression_stack.specs.Stacks.{stack_view, stack_if, chosen_if}
-use Rattle.st_decompile.specs.Read.{choice_made_by}
+use Rattle.st_expression_stack.specs.inside.Stacks.{stack_view, stack_if, chosen_if}
+use Rattle.st_decompile.specs.inside.Read.{choice_made_by}
 use Rattle.st_decompile.proofs.Regioned.{choice_done, choice_not}
 use Rattle.st_decompile.proofs.region.choice_made.Goals as goal
 

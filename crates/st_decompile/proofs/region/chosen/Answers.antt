@@ -2,8 +2,8 @@ use Rattle.std.proofs.Common.{sym, ap, ap₂, ◌∙◌}
 use Rattle.std.proofs.lemmas.Result.{IfOk-weaker}
 use Rattle.st_expression_stack.specs.Items.{Piece, put_low}
 use Rattle.st_decompile.specs.Reading.{choice_piece}
-use Rattle.st_expression_stack.specs.Stacks.{piece_view, stack_view}
-use Rattle.st_decompile.specs.Read.{chosen_by}
+use Rattle.st_expression_stack.specs.inside.Stacks.{piece_view, stack_view}
+use Rattle.st_decompile.specs.inside.Read.{chosen_by}
 use Rattle.st_decompile.proofs.ReadTurns.{popped_none, popped_some}
 use Rattle.st_decompile.proofs.region.chosen.Goals as goal
 

@@ -2,7 +2,7 @@ use Rattle.std.proofs.Common.{◌≡◌, [], Some, None, sym, ap, ◌∙◌}
 use Rattle.std.proofs.lemmas.Result.{IfOk-weaker}
 use Rattle.st_expression_stack.specs.Items.{Piece, put_low}
 use Rattle.st_decompile.specs.Reading.{loop_piece}
-use Rattle.st_expression_stack.specs.Stacks.{stack_view, taken_view, taken_if}
+use Rattle.st_expression_stack.specs.inside.Stacks.{stack_view, taken_view, taken_if}
 use Rattle.st_decompile.proofs.ReadTurns.{looped_on}
 use Rattle.st_decompile.proofs.region.looped.Goals as goal
 

@@ -1,8 +1,8 @@
 use Rattle.std.proofs.Common.{◌≡◌, List, ap, sym, ◌∙◌, subst}
 use Rattle.std.proofs.lemmas.Result.{IfOk-weaker}
 use Rattle.st_decompile.specs.declared.located.Located.{Located}
-use Rattle.st_decompile.specs.Located.{steps_in, AreSpaced}
-use Rattle.st_decompile.specs.Read.{region_by}
+use Rattle.st_decompile.specs.inside.Located.{steps_in, AreSpaced}
+use Rattle.st_decompile.specs.inside.Read.{region_by}
 use Rattle.st_decompile.proofs.Locating.{located_spaced, located_steps}
 use Rattle.st_decompile.proofs.region.region.Goals as goal
 

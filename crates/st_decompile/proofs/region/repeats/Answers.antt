@@ -1,5 +1,5 @@
 use Rattle.std.proofs.Common.{◌≡◌, ◌-◌, ap, sym, ◌∙◌}
-use Rattle.st_expression_stack.specs.Stacks.{stack_view, chosen_if}
+use Rattle.st_expression_stack.specs.inside.Stacks.{stack_view, chosen_if}
 use Rattle.st_decompile.proofs.Regioned.{loop_done, loop_not}
 use Rattle.st_decompile.proofs.region.repeats.Goals as goal
 

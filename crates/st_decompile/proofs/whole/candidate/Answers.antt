@@ -1,10 +1,10 @@
 use Rattle.std.proofs.Common.{◌≡◌, List, Some, None, sym, ap, ◌∙◌}
-use Rattle.st_emit.specs.Views.{literals_view}
-use Rattle.st_code.specs.MethodDrafts.{parts_view}
+use Rattle.st_emit.specs.inside.Views.{literals_view}
+use Rattle.st_code.specs.inside.MethodDrafts.{parts_view}
 use Rattle.st_expression_stack.specs.Items.{Taken}
-use Rattle.st_expression_stack.specs.Called.{calling_view}
+use Rattle.st_expression_stack.specs.inside.Called.{calling_view}
 use Rattle.st_expression_stack.specs.Names.{name_in}
-use Rattle.st_expression_stack.specs.Stacks.{stack_if, stack_view}
+use Rattle.st_expression_stack.specs.inside.Stacks.{stack_if, stack_view}
 use Rattle.st_decompile.specs.Whole.{method_of}
 use Rattle.st_decompile.proofs.Assembled.{candidate_by}
 use Rattle.st_decompile.proofs.whole.candidate.Goals as goal

@@ -1,7 +1,7 @@
 use Rattle.std.proofs.Common.{◌≡◌, ◌-◌, length, sym, ap, ◌∙◌, arith}
 use Rattle.std.proofs.lemmas.List.{length-map}
 use Rattle.std.specs.Prelude.{slice_get}
-use Rattle.st_emit.specs.Views.{literal_view, literals_view}
+use Rattle.st_emit.specs.inside.Views.{literal_view, literals_view}
 use Rattle.st_decompile.specs.Whole.{size_in}
 use Rattle.st_expression_stack.proofs.Got.{got_as}
 use Rattle.st_decompile.proofs.whole.extension_in.Goals as goal

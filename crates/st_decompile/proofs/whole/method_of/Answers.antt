@@ -1,7 +1,7 @@
 use Rattle.std.proofs.Common.{◌≡◌, ◌-◌, ap, ap₂, ◌∙◌, rules}
 use Rattle.st_emit.specs.Selectors.{arity}
-use Rattle.st_code.specs.MethodDrafts.{parts_view}
-use Rattle.st_expression_stack.specs.Called.{calling_view}
+use Rattle.st_code.specs.inside.MethodDrafts.{parts_view}
+use Rattle.st_expression_stack.specs.inside.Called.{calling_view}
 use Rattle.st_expression_stack.specs.Names.{name_in}
 use Rattle.st_decompile.specs.Whole.{own_in, variables_called}
 use Rattle.st_decompile.proofs.Assembled.{method_is}

@@ -1,7 +1,7 @@
 use Rattle.std.proofs.Common.{◌≡◌, [], map, ap, ◌∙◌, arith}
 use Rattle.st_decompile.specs.Back.{places_from}
 use Rattle.st_expression_stack.specs.Choosing.{called}
-use Rattle.st_expression_stack.specs.Called.{calling_view}
+use Rattle.st_expression_stack.specs.inside.Called.{calling_view}
 use Rattle.st_expression_stack.specs.Names.{name_in}
 use Rattle.st_decompile.proofs.VariableTurns.{variables_turn}
 use Rattle.st_decompile.proofs.whole.variables_called.Goals as goal

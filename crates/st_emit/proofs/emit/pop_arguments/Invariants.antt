@@ -1,5 +1,5 @@
-use Rattle.st_emit.specs.Around.{arguments_part}
-use Rattle.st_emit.specs.Drafts.{Goes}
+use Rattle.st_emit.specs.inside.Around.{arguments_part}
+use Rattle.st_emit.specs.inside.Drafts.{Goes}
 use Rattle.st_emit.proofs.emit.pop_arguments.Given as goal
 
 abbrev pub invariant-loop-left : goal.invariant-loop-left

@@ -1,6 +1,6 @@
 use Rattle.std.proofs.Common.{◌≡◌, sym, ap, ◌∙◌, subst, rules}
 use Rattle.std.specs.Prelude.{is_some}
-use Rattle.st_emit.specs.NamePlaces.{NotesFirst, text_noted}
+use Rattle.st_emit.specs.inside.NamePlaces.{NotesFirst, text_noted}
 use Rattle.st_emit.proofs.Noting.{is_none_of, some_copied}
 use Rattle.st_emit.proofs.NamePlaces.{noted_text, notes_first, notes_again}
 use Rattle.st_emit.proofs.frame.note.Goals as goal

@@ -1,6 +1,6 @@
 use Rattle.std.proofs.Common.{subst, arith}
 use Rattle.std.proofs.lemmas.List.{length-take-le}
-use Rattle.st_emit.specs.NamePlaces.{NotesFirst}
+use Rattle.st_emit.specs.inside.NamePlaces.{NotesFirst}
 use Rattle.st_emit.proofs.NamePlaces.{index_more}
 use Rattle.st_emit.proofs.frame.places_of.Goals as goal
 

@@ -1,5 +1,5 @@
 use Rattle.std.proofs.Common.{take}
-use Rattle.st_emit.specs.NamePlaces.{IsNameIndex}
+use Rattle.st_emit.specs.inside.NamePlaces.{IsNameIndex}
 use Rattle.st_emit.proofs.frame.places_of.Given as goal
 
 abbrev pub invariant-loop-i : goal.invariant-loop-i

@@ -2,7 +2,7 @@ use Rattle.std.proofs.Common.{◌≡◌, map, refl, arith}
 use Rattle.std.proofs.lemmas.Grind.{common_steps}
 use Rattle.st_scan.specs.Views.{content_view}
 use Rattle.st_emit.specs.Literals.{literal_of}
-use Rattle.st_emit.specs.Views.{literals_view}
+use Rattle.st_emit.specs.inside.Views.{literals_view}
 use Rattle.st_emit.proofs.Members.{members_same}
 use Rattle.st_emit.proofs.literal.+arrays.Goals as goal
 

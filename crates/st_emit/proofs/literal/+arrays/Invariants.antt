@@ -1,7 +1,7 @@
 use Rattle.std.proofs.Common.{◌≡◌, take, map}
 use Rattle.st_scan.specs.Views.{content_view}
 use Rattle.st_emit.specs.Literals.{literal_of}
-use Rattle.st_emit.specs.Views.{literals_view}
+use Rattle.st_emit.specs.inside.Views.{literals_view}
 use Rattle.st_emit.proofs.literal.+arrays.Given as goal
 
 abbrev pub invariant-members_of-loop-element : goal.invariant-members_of-loop-element

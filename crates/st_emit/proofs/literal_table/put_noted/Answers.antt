@@ -1,5 +1,5 @@
 use Rattle.std.proofs.Common.{Some, rules}
-use Rattle.st_emit.specs.LiteralPlaces.{IsNoted}
+use Rattle.st_emit.specs.inside.LiteralPlaces.{IsNoted}
 use Rattle.st_emit.proofs.LiteralPlaces.{noted_put}
 use Rattle.st_emit.proofs.literal_table.put_noted.Goals as goal
 use Rattle.st_emit.proofs.literal_table.put_noted.Goals.{in-Ok, in-Err}

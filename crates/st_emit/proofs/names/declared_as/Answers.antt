@@ -1,6 +1,6 @@
 use Rattle.std.proofs.Common.{None, Some, sym, ap, ◌∙◌}
 use Rattle.std.specs.Prelude.{option_map}
-use Rattle.st_emit.specs.NameViews.{variable_view}
+use Rattle.st_emit.specs.inside.NameViews.{variable_view}
 use Rattle.st_emit.proofs.Scopes.{found_turn}
 use Rattle.st_emit.proofs.names.declared_as.Goals as goal
 

@@ -1,6 +1,6 @@
 use Rattle.std.proofs.Common.{◌≡◌, drop}
 use Rattle.st_emit.specs.Names.{declared_as, own_variable}
-use Rattle.st_emit.specs.NameViews.{scope_view}
+use Rattle.st_emit.specs.inside.NameViews.{scope_view}
 use Rattle.st_emit.proofs.names.declared_as.Given as goal
 
 abbrev pub invariant-loop-frame : goal.invariant-loop-frame

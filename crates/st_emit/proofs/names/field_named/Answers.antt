@@ -1,7 +1,7 @@
 use Rattle.std.proofs.Common.{ap, sym, ◌∙◌, arith, drop}
 use Rattle.std.specs.Prelude.{bytes_eq}
 use Rattle.st_emit.specs.Names.{if_named, field_from}
-use Rattle.st_emit.specs.NameViews.{texts_view}
+use Rattle.st_emit.specs.inside.NameViews.{texts_view}
 use Rattle.st_emit.proofs.Fields.{field_late, field_number, field_here}
 use Rattle.st_emit.proofs.names.field_named.Goals as goal
 

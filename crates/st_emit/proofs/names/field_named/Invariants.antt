@@ -1,6 +1,6 @@
 use Rattle.std.proofs.Common.{◌≡◌, ◌≤◌, drop}
 use Rattle.st_emit.specs.Names.{field_from}
-use Rattle.st_emit.specs.NameViews.{texts_view}
+use Rattle.st_emit.specs.inside.NameViews.{texts_view}
 use Rattle.st_emit.proofs.names.field_named.Given as goal
 
 abbrev pub invariant-loop-i : goal.invariant-loop-i

@@ -1,5 +1,5 @@
 use Rattle.std.proofs.Common.{◌≡◌, ◌++◌, ap, ◌∙◌}
-use Rattle.st_emit.specs.NameViews.{scope_view, frame_view}
+use Rattle.st_emit.specs.inside.NameViews.{scope_view, frame_view}
 use Rattle.st_emit.proofs.Scopes.{scope_view_push}
 use Rattle.st_emit.proofs.names.inner_scope.Goals as goal
 

@@ -1,7 +1,7 @@
 use Rattle.std.proofs.Common.{◌≡◌, drop}
 use Rattle.std.specs.Prelude.{is_some}
 use Rattle.st_emit.specs.Names.{declared_as}
-use Rattle.st_emit.specs.NameViews.{scope_view}
+use Rattle.st_emit.specs.inside.NameViews.{scope_view}
 use Rattle.st_emit.proofs.names.is_declared.Given as goal
 
 abbrev pub invariant-loop-frame : goal.invariant-loop-frame

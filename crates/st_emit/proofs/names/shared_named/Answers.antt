@@ -1,6 +1,6 @@
 use Rattle.std.proofs.Common.{ap, ◌∙◌}
 use Rattle.std.specs.Prelude.{option_map}
-use Rattle.st_emit.specs.NameViews.{pointer_of}
+use Rattle.st_emit.specs.inside.NameViews.{pointer_of}
 use Rattle.st_emit.proofs.Sharing.{shared_found}
 use Rattle.st_emit.proofs.names.shared_named.Goals as goal
 

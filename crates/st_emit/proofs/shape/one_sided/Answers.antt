@@ -1,6 +1,6 @@
 use Rattle.std.proofs.Common.{ap, ◌∙◌}
 use Rattle.st_scan.specs.Views.{expressions_view}
-use Rattle.st_emit.specs.Shapes.{one_sided_shape}
+use Rattle.st_emit.specs.inside.Shapes.{one_sided_shape}
 use Rattle.st_emit.proofs.Shapes.{one_sided-many}
 use Rattle.st_emit.proofs.shape.one_sided.Goals as goal
 

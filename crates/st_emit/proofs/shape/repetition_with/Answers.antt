@@ -1,6 +1,6 @@
 use Rattle.std.proofs.Common.{ap, ◌∙◌}
 use Rattle.st_scan.specs.Views.{expression_view, expressions_view}
-use Rattle.st_emit.specs.Shapes.{repetition_with}
+use Rattle.st_emit.specs.inside.Shapes.{repetition_with}
 use Rattle.st_emit.proofs.Shapes.{repetition_with-many}
 use Rattle.st_emit.proofs.shape.repetition_with.Goals as goal
 

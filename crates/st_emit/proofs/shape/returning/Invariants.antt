@@ -1,6 +1,6 @@
 use Rattle.std.proofs.Common.{◌≡◌, drop}
 use Rattle.st_scan.specs.Views.{statements_view}
-use Rattle.st_emit.specs.Shapes.{returning}
+use Rattle.st_emit.specs.inside.Shapes.{returning}
 use Rattle.st_emit.proofs.shape.returning.Given as goal
 
 abbrev pub invariant-loop-s : goal.invariant-loop-s

@@ -1,6 +1,6 @@
 use Rattle.std.proofs.Common.{ap, ◌∙◌}
 use Rattle.st_scan.specs.Views.{expressions_view}
-use Rattle.st_emit.specs.Shapes.{two_sided_shape}
+use Rattle.st_emit.specs.inside.Shapes.{two_sided_shape}
 use Rattle.st_emit.proofs.Shapes.{two_sided-few, two_sided-many}
 use Rattle.st_emit.proofs.shape.two_sided.Goals as goal
 

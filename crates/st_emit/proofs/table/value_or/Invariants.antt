@@ -1,5 +1,5 @@
 use Rattle.std.proofs.Common.{◌≡◌, drop}
-use Rattle.st_emit.specs.Tables.{table_now, value_or}
+use Rattle.st_emit.specs.inside.Tables.{table_now, value_or}
 use Rattle.st_emit.proofs.table.value_or.Given as goal
 
 abbrev pub invariant-loop-name : goal.invariant-loop-name

@@ -1,20 +1,20 @@
 use Rattle.std.proofs.Common.{◌≡◌, ℕ, ◌+◌, Bool, true, false, List, IfOk, OnOk, length, take, Some, refl, sym, ap, ◌∙◌, subst, arith, add-one}
 use Rattle.std.proofs.lemmas.Result.{on_ok_weaker}
 use Rattle.st_scan.specs.Views.{ExpressionView, MessagesView, StatementsView, names_view, expression_view, expressions_view, messages_view, statements_view, message, statement, block, no_messages, is_super}
-use Rattle.st_scan.specs.Chains.{LinkView, sent, linked, link_view, links_view, with_link}
+use Rattle.st_scan.specs.inside.Chains.{LinkView, sent, linked, link_view, links_view, with_link}
 use Rattle.st_scan.proofs.Chains.{linked_take, link_within, chain_within}
 use Rattle.st_scan.proofs.Views.{expression_view-block}
 use Rattle.st_emit.specs.declared.step.Step.TheVariants.{Pop, Duplicate}
 use Rattle.st_emit.specs.declared.draft.Draft.{Draft}
-use Rattle.st_emit.specs.Views.{literals_view}
+use Rattle.st_emit.specs.inside.Views.{literals_view}
 use Rattle.st_emit.specs.Depths.{pushed, popped}
 use Rattle.st_emit.specs.Emitting.{block_end}
 use Rattle.st_emit.specs.Resolving.{Context, behind, inside, names_in, names_in_all, names_in_messages, names_in_statements}
-use Rattle.st_emit.specs.Shapes.{repetition_view, side_view, first_repetition, repetition_of, returning}
-use Rattle.st_emit.specs.NameViews.{scope_view}
+use Rattle.st_emit.specs.inside.Shapes.{repetition_view, side_view, first_repetition, repetition_of, returning}
+use Rattle.st_emit.specs.inside.NameViews.{scope_view}
 use Rattle.st_emit.specs.Nodes.{is_above}
-use Rattle.st_emit.specs.Drafts.{Adds, Goes, step_part}
-use Rattle.st_emit.specs.Around.{context, at_number, values_part, send_part, message_part, cascade_part, body_part, effect_part, value_part, shape_part, link_part, loop_part, side_part, block_body_part, arguments_part}
+use Rattle.st_emit.specs.inside.Drafts.{Adds, Goes, step_part}
+use Rattle.st_emit.specs.inside.Around.{context, at_number, values_part, send_part, message_part, cascade_part, body_part, effect_part, value_part, shape_part, link_part, loop_part, side_part, block_body_part, arguments_part}
 use Rattle.st_emit.proofs.Adding.{then_part, adds_same, adds_then, goes_on}
 use Rattle.st_emit.proofs.Counts.{names_in-block}
 use Rattle.st_emit.proofs.Follow.{link_behind, names_behind, begins_loop, shape_same, super_at, no_loop_at}

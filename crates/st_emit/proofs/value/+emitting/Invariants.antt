@@ -4,12 +4,12 @@ use Rattle.st_scan.specs.declared.tree.Expression.{size-Expression}
 use Rattle.st_scan.specs.declared.tree.Message.{size-Message}
 use Rattle.st_scan.specs.declared.tree.Statement.{size-Statement}
 use Rattle.st_scan.specs.Views.{expression_view, expressions_view, messages_view, statements_view}
-use Rattle.st_scan.specs.Chains.{linked, links_view, link_size, links_size}
+use Rattle.st_scan.specs.inside.Chains.{linked, links_view, link_size, links_size}
 use Rattle.st_emit.specs.Resolving.{names_in, names_in_all, names_in_messages, names_in_statements}
-use Rattle.st_emit.specs.Around.{context, at_number, values_part, cascade_part, body_part, value_part}
-use Rattle.st_emit.specs.Drafts.{Adds, Goes}
+use Rattle.st_emit.specs.inside.Around.{context, at_number, values_part, cascade_part, body_part, value_part}
+use Rattle.st_emit.specs.inside.Drafts.{Adds, Goes}
 use Rattle.st_emit.specs.Nodes.{is_above}
-use Rattle.st_emit.specs.Sizes.{side_size}
+use Rattle.st_emit.specs.inside.Sizes.{side_size}
 use Rattle.st_emit.proofs.value.+emitting.Given as goal
 
 abbrev pub decreases-choice : goal.decreases-choice

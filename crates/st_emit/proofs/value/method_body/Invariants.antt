@@ -1,8 +1,8 @@
 use Rattle.std.proofs.Common.{◌≡◌, ◌+◌, drop}
 use Rattle.st_scan.specs.Views.{statements_view}
 use Rattle.st_emit.specs.Resolving.{names_in_statements}
-use Rattle.st_emit.specs.Around.{context, at_number, method_part}
-use Rattle.st_emit.specs.Drafts.{Goes}
+use Rattle.st_emit.specs.inside.Around.{context, at_number, method_part}
+use Rattle.st_emit.specs.inside.Drafts.{Goes}
 use Rattle.st_emit.proofs.value.method_body.Given as goal
 
 abbrev pub invariant-loop-statement : goal.invariant-loop-statement

@@ -1,7 +1,7 @@
 use Rattle.std.proofs.Common.{◌≡◌, length, reverse}
 use Rattle.st_scan.specs.Views.{statements_view}
 use Rattle.st_expression_stack.specs.Items.{statements_before, statements_of}
-use Rattle.st_expression_stack.specs.Stacks.{stack_view}
+use Rattle.st_expression_stack.specs.inside.Stacks.{stack_view}
 use Rattle.st_expression_stack.proofs.item.statements_of.Given as goal
 
 abbrev pub invariant-loop-taken : goal.invariant-loop-taken

@@ -1,6 +1,6 @@
 use Rattle.std.proofs.Common.{◌≡◌, ◌++◌, take, drop}
 use Rattle.st_scan.specs.Views.{elements_view}
-use Rattle.st_emit.specs.Views.{members_view}
+use Rattle.st_emit.specs.inside.Views.{members_view}
 use Rattle.st_expression_stack.specs.Choosing.{elements_of}
 use Rattle.st_expression_stack.proofs.make.+contents.Given as goal
 

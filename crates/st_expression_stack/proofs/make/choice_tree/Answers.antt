@@ -2,7 +2,7 @@ use Rattle.std.proofs.Common.{◌≡◌, Some, None, sym, ap, ◌∙◌, subst}
 use Rattle.std.specs.Prelude.{IfOk, option_map}
 use Rattle.st_scan.specs.Views.{expression_view, statements_view}
 use Rattle.st_expression_stack.specs.Choosing.{alone, one_sided_by}
-use Rattle.st_expression_stack.specs.Stacks.{text_now}
+use Rattle.st_expression_stack.specs.inside.Stacks.{text_now}
 use Rattle.st_expression_stack.proofs.TreeTurns.{choice_is}
 use Rattle.st_expression_stack.proofs.make.choice_tree.Goals as goal
 

@@ -1,6 +1,6 @@
 use Rattle.std.proofs.Common.{ℕ, List, ◌++◌, map, ap, ap₂, ◌∙◌, subst}
-use Rattle.st_emit.specs.NameViews.{names_view, texts_view}
-use Rattle.st_expression_stack.specs.Called.{IsTaken}
+use Rattle.st_emit.specs.inside.NameViews.{names_view, texts_view}
+use Rattle.st_expression_stack.specs.inside.Called.{IsTaken}
 use Rattle.st_expression_stack.specs.Names.{usable_or, texts_of}
 use Rattle.st_expression_stack.proofs.Kept.{own_called}
 use Rattle.st_expression_stack.proofs.naming.calling_of.Goals as goal

@@ -1,7 +1,7 @@
 use Rattle.std.proofs.Common.{◌≡◌, map, arith, ◌∙◌}
 use Rattle.std.proofs.lemmas.Grind.{common_steps}
-use Rattle.st_emit.specs.NameViews.{names_view}
-use Rattle.st_emit.specs.Views.{literal_view}
+use Rattle.st_emit.specs.inside.NameViews.{names_view}
+use Rattle.st_emit.specs.inside.Views.{literal_view}
 use Rattle.st_expression_stack.specs.Names.{literal_text}
 use Rattle.st_expression_stack.proofs.NameTurns.{texts_map, literals_again}
 use Rattle.st_expression_stack.proofs.naming.literal_texts.Goals as goal

@@ -1,6 +1,6 @@
 use Rattle.std.proofs.Common.{◌≡◌, map, take}
-use Rattle.st_emit.specs.NameViews.{names_view}
-use Rattle.st_emit.specs.Views.{literal_view}
+use Rattle.st_emit.specs.inside.NameViews.{names_view}
+use Rattle.st_emit.specs.inside.Views.{literal_view}
 use Rattle.st_expression_stack.specs.Names.{literal_text}
 use Rattle.st_expression_stack.proofs.naming.literal_texts.Given as goal
 

@@ -1,5 +1,5 @@
 use Rattle.std.proofs.Common.{◌≡◌, drop}
-use Rattle.st_emit.specs.NameViews.{names_view, texts_view}
+use Rattle.st_emit.specs.inside.NameViews.{names_view, texts_view}
 use Rattle.st_expression_stack.specs.Names.{shared_text}
 use Rattle.st_expression_stack.proofs.naming.shared_text.Given as goal
 

@@ -1,5 +1,5 @@
 use Rattle.std.proofs.Common.{◌+◌, ◌-◌, sym, ap, ◌∙◌}
-use Rattle.st_expression_stack.specs.Called.{is_kept}
+use Rattle.st_expression_stack.specs.inside.Called.{is_kept}
 use Rattle.st_expression_stack.specs.Names.{first_free}
 use Rattle.st_expression_stack.proofs.NameTurns.{free_next}
 use Rattle.st_expression_stack.proofs.own.first_free.Goals as goal

@@ -1,5 +1,5 @@
 use Rattle.std.proofs.Common.{◌+◌, length, sym, ap, ◌∙◌, subst}
-use Rattle.st_expression_stack.specs.Called.{is_kept, AreFirst}
+use Rattle.st_expression_stack.specs.inside.Called.{is_kept, AreFirst}
 use Rattle.st_expression_stack.specs.Names.{numbered, first_free}
 use Rattle.st_expression_stack.proofs.NameTurns.{own_next}
 use Rattle.st_expression_stack.proofs.Kept.{first_none, first_more, one_longer}

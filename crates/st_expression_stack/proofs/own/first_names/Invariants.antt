@@ -1,5 +1,5 @@
 use Rattle.std.proofs.Common.{◌≡◌, length}
-use Rattle.st_expression_stack.specs.Called.{is_kept, AreFirst}
+use Rattle.st_expression_stack.specs.inside.Called.{is_kept, AreFirst}
 use Rattle.st_expression_stack.specs.Names.{own_number}
 use Rattle.st_expression_stack.proofs.own.first_names.Given as goal
 

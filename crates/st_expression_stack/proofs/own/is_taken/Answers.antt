@@ -1,5 +1,5 @@
 use Rattle.std.proofs.Common.{ap, ◌∙◌}
-use Rattle.st_expression_stack.specs.Called.{is_kept}
+use Rattle.st_expression_stack.specs.inside.Called.{is_kept}
 use Rattle.st_expression_stack.proofs.Kept.{found_kept}
 use Rattle.st_expression_stack.proofs.own.is_taken.Goals as goal
 

@@ -1,6 +1,6 @@
 use Rattle.std.proofs.Common.{ℕ, List, [], ◌∷◌, ap, ◌∙◌, subst, arith}
 use Rattle.std.specs.Global.{Vec}
-use Rattle.st_expression_stack.specs.Called.{Keeps}
+use Rattle.st_expression_stack.specs.inside.Called.{Keeps}
 use Rattle.st_expression_stack.proofs.Kept.{kept_turn, kept_end}
 use Rattle.st_expression_stack.proofs.own.keep_all.Goals as goal
 

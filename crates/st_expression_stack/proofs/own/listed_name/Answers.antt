@@ -1,6 +1,6 @@
 use Rattle.std.proofs.Common.{◌≡◌, sym, subst}
 use Rattle.std.specs.Prelude.{IfOk}
-use Rattle.st_expression_stack.specs.Called.{or_text, own_by}
+use Rattle.st_expression_stack.specs.inside.Called.{or_text, own_by}
 use Rattle.st_expression_stack.proofs.Got.{text_got}
 use Rattle.st_expression_stack.proofs.own.listed_name.Goals as goal
 

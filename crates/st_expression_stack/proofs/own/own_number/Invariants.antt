@@ -1,5 +1,5 @@
 use Rattle.std.proofs.Common.{◌≡◌}
-use Rattle.st_expression_stack.specs.Called.{is_kept}
+use Rattle.st_expression_stack.specs.inside.Called.{is_kept}
 use Rattle.st_expression_stack.specs.Names.{own_number}
 use Rattle.st_expression_stack.proofs.own.own_number.Given as goal
 

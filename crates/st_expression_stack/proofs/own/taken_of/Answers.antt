@@ -1,6 +1,6 @@
 use Rattle.std.proofs.Common.{arith}
 use Rattle.std.proofs.lemmas.List.{length-append}
-use Rattle.st_emit.specs.NameViews.{texts_view}
+use Rattle.st_emit.specs.inside.NameViews.{texts_view}
 use Rattle.st_expression_stack.proofs.Kept.{texts_length, kept_both}
 use Rattle.st_expression_stack.proofs.own.taken_of.Goals as goal
 

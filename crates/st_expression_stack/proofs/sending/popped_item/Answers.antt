@@ -1,5 +1,5 @@
 use Rattle.std.proofs.Common.{ap, ◌∙◌}
-use Rattle.st_expression_stack.specs.Stacks.{stack_view}
+use Rattle.st_expression_stack.specs.inside.Stacks.{stack_view}
 use Rattle.st_expression_stack.proofs.SentItems.{popped_answered, popped_kept}
 use Rattle.st_expression_stack.proofs.sending.popped_item.Goals as goal
 

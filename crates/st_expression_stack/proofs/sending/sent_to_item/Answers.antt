@@ -2,8 +2,8 @@ use Rattle.std.proofs.Common.{◌≡◌, List, sym, subst}
 use Rattle.std.specs.Prelude.{IfOk}
 use Rattle.st_expression_stack.specs.declared.item.Item.TheVariants as kept
 use Rattle.st_expression_stack.specs.Items.{Item}
-use Rattle.st_expression_stack.specs.Stacks.{acted_if}
-use Rattle.st_expression_stack.specs.Sent.{sent_by}
+use Rattle.st_expression_stack.specs.inside.Stacks.{acted_if}
+use Rattle.st_expression_stack.specs.inside.Sent.{sent_by}
 use Rattle.st_expression_stack.proofs.SentItems.{on_top, sent_on_piece, sent_on_cascade, sent_none}
 use Rattle.st_expression_stack.proofs.sending.sent_to_item.Goals as goal
 

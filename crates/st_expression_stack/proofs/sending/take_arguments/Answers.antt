@@ -2,7 +2,7 @@ use Rattle.std.proofs.Common.{◌≡◌, ◌+◌, ◌-◌, List, Some, None, sym
 use Rattle.std.specs.Prelude.{reverse}
 use Rattle.st_scan.specs.declared.tree.Expression.{Expression}
 use Rattle.st_scan.specs.Views.{expression, expression_view, expressions_view}
-use Rattle.st_expression_stack.specs.Stacks.{piece_view, IsPopped}
+use Rattle.st_expression_stack.specs.inside.Stacks.{piece_view, IsPopped}
 use Rattle.st_expression_stack.proofs.Stacking.{arguments_turn, arguments_none, argument_put}
 use Rattle.st_expression_stack.proofs.sending.take_arguments.Goals as goal
 

@@ -2,7 +2,7 @@ use Rattle.std.proofs.Common.{◌≡◌, ℕ, ◌-◌, List, Option, reverse}
 use Rattle.st_scan.specs.Views.{ExpressionsView, expressions_view, no_expressions}
 use Rattle.st_expression_stack.specs.Items.{Item, Acted}
 use Rattle.st_expression_stack.specs.Messages.{with_arguments}
-use Rattle.st_expression_stack.specs.Stacks.{stack_view}
+use Rattle.st_expression_stack.specs.inside.Stacks.{stack_view}
 use Rattle.st_expression_stack.proofs.sending.take_arguments.Given as goal
 
 abbrev pub invariant-loop-i : goal.invariant-loop-i

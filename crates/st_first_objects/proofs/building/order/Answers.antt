@@ -1,5 +1,5 @@
 use Rattle.std.proofs.Common.{ap, ◌∙◌}
-use Rattle.st_kernel_text.specs.Views.{parts_of}
+use Rattle.st_kernel_text.specs.inside.Views.{parts_of}
 use Rattle.st_first_objects.specs.Orders.{first_things}
 use Rattle.st_first_objects.proofs.Counts.{passed_on}
 use Rattle.st_first_objects.proofs.building.order.Goals as goal

@@ -1,6 +1,6 @@
 use Rattle.std.proofs.Common.{◌≡◌, drop}
 use Rattle.st_first_objects.specs.Orders.{want_all}
-use Rattle.st_first_objects.specs.Views.{named_of}
+use Rattle.st_first_objects.specs.inside.Views.{named_of}
 use Rattle.st_first_objects.proofs.building.want_named.Given as goal
 
 abbrev pub invariant-loop-what : goal.invariant-loop-what

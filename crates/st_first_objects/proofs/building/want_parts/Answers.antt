@@ -1,5 +1,5 @@
 use Rattle.std.proofs.Common.{arith, ap, length, drop}
-use Rattle.st_kernel_text.specs.Views.{parts_of}
+use Rattle.st_kernel_text.specs.inside.Views.{parts_of}
 use Rattle.st_first_objects.specs.Orders.{Order}
 use Rattle.st_first_objects.proofs.Counts.{no_memory, fewer, parts_begin}
 use Rattle.st_first_objects.proofs.building.want_parts.Goals as goal

@@ -1,5 +1,5 @@
 use Rattle.std.proofs.Common.{◌≡◌, drop}
-use Rattle.st_kernel_text.specs.Views.{parts_of}
+use Rattle.st_kernel_text.specs.inside.Views.{parts_of}
 use Rattle.st_first_objects.specs.Orders.{want_parts}
 use Rattle.st_first_objects.proofs.building.want_parts.Given as goal
 

@@ -1,9 +1,9 @@
 use Rattle.std.proofs.Common.{◌∙◌, arith, ap, length}
 use Rattle.std.specs.Prelude.{slice_get}
-use Rattle.st_kernel_text.specs.Views.{parts_of}
+use Rattle.st_kernel_text.specs.inside.Views.{parts_of}
 use Rattle.st_model.specs.View.{View, empty_view}
 use Rattle.st_first_objects.specs.Plans.{Plan}
-use Rattle.st_first_objects.specs.Views.{thing_of}
+use Rattle.st_first_objects.specs.inside.Views.{thing_of}
 use Rattle.st_first_objects.specs.First.{head_in, view_of}
 use Rattle.st_first_objects.proofs.Complete.{first_methods, first_many, begun_is, empty_head, complete, made}
 use Rattle.st_first_objects.proofs.first.make_first.Goals as goal

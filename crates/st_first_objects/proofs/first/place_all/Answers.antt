@@ -2,8 +2,8 @@ use Rattle.std.proofs.Common.{◌≡◌, ℕ, ◌+◌, ◌/◌, length, arith, s
 use Rattle.st_model.specs.declared.oop.Oop.{Oop}
 use Rattle.st_model.specs.Objects.{Object, words_of}
 use Rattle.st_first_objects.specs.Pointers.{place, object}
-use Rattle.st_first_objects.specs.Placing.{CanPlace, Underway}
-use Rattle.st_first_objects.specs.Views.{thing_of, content_of}
+use Rattle.st_first_objects.specs.inside.Placing.{CanPlace, Underway}
+use Rattle.st_first_objects.specs.inside.Views.{thing_of, content_of}
 use Rattle.st_first_objects.proofs.Underway.{begins, refused, can_place, goes_on, object_is, puts_there}
 use Rattle.st_first_objects.proofs.first.place_all.Goals as goal
 

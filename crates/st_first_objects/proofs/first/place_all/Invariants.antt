@@ -1,4 +1,4 @@
-use Rattle.st_first_objects.specs.Placing.{Underway}
+use Rattle.st_first_objects.specs.inside.Placing.{Underway}
 use Rattle.st_first_objects.proofs.first.place_all.Given as goal
 
 abbrev pub invariant-loop-i : goal.invariant-loop-i

@@ -1,7 +1,7 @@
 use Rattle.std.proofs.Common.{◌/◌, ℕ, length, replicate, List, [], arith, refl, ap, subst, get_or}
 use Rattle.st_model.specs.declared.kind.Kind.TheVariants as kind
 use Rattle.st_model.specs.Objects.{Object, first_unit}
-use Rattle.st_first_objects.specs.Placing.{Puts}
+use Rattle.st_first_objects.specs.inside.Placing.{Puts}
 use Rattle.st_first_objects.proofs.Tables.{put_first, put_live, put_object, put_unit_at, filled_none, filled_all, filled_length, filled_next}
 use Rattle.st_first_objects.proofs.placing.place_bytes.Goals as goal
 use Rattle.st_model.proofs.Entries.{free_at}

@@ -1,6 +1,6 @@
 use Rattle.std.proofs.Common.{◌/◌, []}
 use Rattle.st_model.specs.declared.kind.Kind.TheVariants as kind
-use Rattle.st_first_objects.specs.Placing.{Puts, filled}
+use Rattle.st_first_objects.specs.inside.Placing.{Puts, filled}
 use Rattle.st_first_objects.proofs.placing.place_bytes.Given as goal
 
 abbrev pub invariant-loop-i : goal.invariant-loop-i

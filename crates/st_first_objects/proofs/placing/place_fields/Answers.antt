@@ -5,8 +5,8 @@ use Rattle.st_model.specs.declared.kind.Kind.TheVariants as kind
 use Rattle.st_model.specs.Values.{Value, value}
 use Rattle.st_model.specs.Objects.{Object, nil}
 use Rattle.st_first_objects.specs.Pointers.{value_in}
-use Rattle.st_first_objects.specs.Placing.{Puts, filled}
-use Rattle.st_first_objects.specs.Views.{field_of, fields_of}
+use Rattle.st_first_objects.specs.inside.Placing.{Puts, filled}
+use Rattle.st_first_objects.specs.inside.Views.{field_of, fields_of}
 use Rattle.st_first_objects.specs.declared.content.Field.TheVariants.{Empty as code_empty}
 use Rattle.st_first_objects.proofs.Tables.{put_first, put_live, put_object, put_field, filled_none, filled_all, filled_length, filled_next}
 use Rattle.st_first_objects.proofs.Lists.{values_long, value_at}

@@ -3,8 +3,8 @@ use Rattle.std.specs.Prelude.{map}
 use Rattle.st_model.specs.declared.kind.Kind.TheVariants as kind
 use Rattle.st_model.specs.Objects.{nil}
 use Rattle.st_first_objects.specs.Pointers.{value_in}
-use Rattle.st_first_objects.specs.Placing.{Puts, filled}
-use Rattle.st_first_objects.specs.Views.{fields_of}
+use Rattle.st_first_objects.specs.inside.Placing.{Puts, filled}
+use Rattle.st_first_objects.specs.inside.Views.{fields_of}
 use Rattle.st_first_objects.proofs.placing.place_fields.Given as goal
 
 abbrev pub invariant-loop-i : goal.invariant-loop-i

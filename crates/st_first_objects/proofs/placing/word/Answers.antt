@@ -1,6 +1,6 @@
 use Rattle.std.proofs.Common.{ap, sym, ◌∙◌, ◌%◌}
 use Rattle.st_first_objects.specs.Pointers.{value_in}
-use Rattle.st_first_objects.specs.Views.{field_of}
+use Rattle.st_first_objects.specs.inside.Views.{field_of}
 use Rattle.st_first_objects.proofs.Places.{value_of_nil}
 use Rattle.st_first_objects.proofs.placing.word.Goals as goal
 use Rattle.st_model.proofs.Pointers.{value_of-odd}

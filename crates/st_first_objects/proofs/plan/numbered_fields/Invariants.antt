@@ -1,7 +1,7 @@
 use Rattle.std.proofs.Common.{◌≡◌, ◌-◌, ◌++◌}
 use Rattle.st_first_objects.specs.Orders.{numbered_from}
 use Rattle.st_first_objects.specs.Contents.{all_of}
-use Rattle.st_first_objects.specs.Views.{fields_of}
+use Rattle.st_first_objects.specs.inside.Views.{fields_of}
 use Rattle.st_first_objects.proofs.plan.numbered_fields.Given as goal
 
 abbrev pub invariant-loop-number : goal.invariant-loop-number

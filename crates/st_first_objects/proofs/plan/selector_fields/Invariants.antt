@@ -1,6 +1,6 @@
 use Rattle.std.proofs.Common.{◌≡◌, ◌++◌, drop}
 use Rattle.st_first_objects.specs.Contents.{selector_fields}
-use Rattle.st_first_objects.specs.Views.{fields_of}
+use Rattle.st_first_objects.specs.inside.Views.{fields_of}
 use Rattle.st_emit.specs.Selectors.{sends_now}
 use Rattle.st_first_objects.proofs.plan.selector_fields.Given as goal
 

@@ -1,8 +1,8 @@
 use Rattle.std.proofs.Common.{length, nat_eq, ap, sym, ◌∙◌}
 use Rattle.std.specs.Prelude.{◌||◌, ◌&&◌, not, bytes_eq}
-use Rattle.st_kernel_text.specs.Views.{part_of}
+use Rattle.st_kernel_text.specs.inside.Views.{part_of}
 use Rattle.st_first_objects.specs.Classes.{shares}
-use Rattle.st_first_objects.specs.Views.{is_listed}
+use Rattle.st_first_objects.specs.inside.Views.{is_listed}
 use Rattle.st_first_objects.proofs.Wanting.{listed_more, and_true, some_names}
 use Rattle.st_first_objects.proofs.pools.add.Goals as goal
 

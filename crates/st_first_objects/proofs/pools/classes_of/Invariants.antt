@@ -1,8 +1,8 @@
 use Rattle.std.proofs.Common.{◌≡◌, ℕ, List, drop}
 use Rattle.std.specs.Prelude.{◌||◌}
-use Rattle.st_kernel_text.specs.Views.{parts_of}
+use Rattle.st_kernel_text.specs.inside.Views.{parts_of}
 use Rattle.st_first_objects.specs.Classes.{has_pool}
-use Rattle.st_first_objects.specs.Views.{is_listed}
+use Rattle.st_first_objects.specs.inside.Views.{is_listed}
 use Rattle.st_first_objects.proofs.pools.classes_of.Given as goal
 
 abbrev pub invariant-loop-part : goal.invariant-loop-part

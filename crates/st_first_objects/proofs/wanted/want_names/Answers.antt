@@ -1,7 +1,7 @@
 use Rattle.std.proofs.Common.{◌≡◌, length, nat_eq, subst, ap, sym, cond, List, [], ◌∷◌, ◌∙◌}
 use Rattle.std.specs.Prelude.{OnOk, map}
-use Rattle.st_kernel_text.specs.Lists.{texts_of}
-use Rattle.st_kernel_text.specs.Views.{class_of}
+use Rattle.st_kernel_text.specs.inside.Lists.{texts_of}
+use Rattle.st_kernel_text.specs.inside.Views.{class_of}
 use Rattle.st_first_objects.specs.declared.thing.What.TheVariants as what
 use Rattle.st_first_objects.specs.Things.{Thing, named, within}
 use Rattle.st_first_objects.specs.Orders.{Order, want, want_all, names_things}

@@ -1,6 +1,6 @@
 use Rattle.std.proofs.Common.{◌≡◌, subst, ap, sym, ◌∙◌}
 use Rattle.std.specs.Prelude.{OnOk}
-use Rattle.st_kernel_text.specs.Views.{class_of, part_of}
+use Rattle.st_kernel_text.specs.inside.Views.{class_of, part_of}
 use Rattle.st_first_objects.specs.declared.thing.What.TheVariants as what
 use Rattle.st_first_objects.specs.Things.{named}
 use Rattle.st_first_objects.specs.Orders.{Order, want, want_all, class_things, names_things, wanted_by}

@@ -1,5 +1,5 @@
 use Rattle.std.proofs.Common.{◌≡◌, drop}
-use Rattle.st_kernel_text.specs.Lists.{texts_of}
+use Rattle.st_kernel_text.specs.inside.Lists.{texts_of}
 use Rattle.st_first_objects.specs.Orders.{want_all, shared_things}
 use Rattle.st_first_objects.proofs.wanted.want_shared.Given as goal
 

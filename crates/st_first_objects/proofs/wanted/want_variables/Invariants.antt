@@ -1,6 +1,6 @@
 use Rattle.std.proofs.Common.{◌≡◌, drop}
 use Rattle.std.specs.Prelude.{map}
-use Rattle.st_kernel_text.specs.Lists.{texts_of}
+use Rattle.st_kernel_text.specs.inside.Lists.{texts_of}
 use Rattle.st_first_objects.specs.declared.thing.What.TheVariants.{Variable}
 use Rattle.st_first_objects.specs.Things.{within}
 use Rattle.st_first_objects.specs.Orders.{want_all}

@@ -5,7 +5,7 @@ use Rattle.st_model.specs.Values.{word}
 use Rattle.st_model.specs.Machine.{State, Died, Went}
 use Rattle.st_model.specs.Steps.{byte_at}
 use Rattle.st_model.specs.Table.{Table}
-use Rattle.st_frames.specs.Rows.{row_state}
+use Rattle.st_frames.specs.inside.Rows.{row_state}
 use Rattle.st_frames.proofs.Doing.{row-memory}
 use Rattle.st_frames.proofs.CodeBytes.{byte-went, byte-died, byte_place}
 use Rattle.st_frames.proofs.bytes.next_byte.Goals as goal

@@ -1,6 +1,6 @@
 use Rattle.std.proofs.Common.{rules, ◌≡◌, true}
 use Rattle.st_model.specs.Steps.{are_there}
-use Rattle.st_frames.specs.Rows.{fetched_in}
+use Rattle.st_frames.specs.inside.Rows.{fetched_in}
 use Rattle.st_frames.proofs.Homes.{active-narrow, home-narrow, method-narrow, receiver-narrow}
 use Rattle.st_frames.proofs.context.set_registers.Goals as goal
 

@@ -4,7 +4,7 @@ use Rattle.st_model.specs.Values.{value}
 use Rattle.st_model.specs.Machine.{Went}
 use Rattle.st_model.proofs.Pointers.{IsWord-value_of}
 use Rattle.st_model.proofs.Runs.{run-store}
-use Rattle.st_frames.specs.Shown.{shown}
+use Rattle.st_frames.specs.inside.Shown.{shown}
 use Rattle.st_frames.proofs.Shown.{shown_stored}
 use Rattle.st_frames.proofs.fields.store_field.Goals as goal
 

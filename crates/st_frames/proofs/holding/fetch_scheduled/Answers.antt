@@ -1,7 +1,7 @@
 use Rattle.std.proofs.Common.{rules, ◌≡◌, Err, sym, subst}
 use Rattle.st_model.specs.Contexts.{fetch_scheduled_registers}
 use Rattle.st_model.specs.Table.{table}
-use Rattle.st_frames.specs.Shown.{FetchesFrame}
+use Rattle.st_frames.specs.inside.Shown.{FetchesFrame}
 use Rattle.st_frames.proofs.Scheduled.{dead-context, scheduled-fetched}
 use Rattle.st_frames.proofs.holding.fetch_scheduled.Goals as goal
 

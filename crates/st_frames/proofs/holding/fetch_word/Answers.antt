@@ -2,7 +2,7 @@ use Rattle.std.proofs.Common.{rules, ◌≡◌, Err, sym, subst}
 use Rattle.st_model.specs.Values.{word}
 use Rattle.st_model.specs.Contexts.{fetch_context_registers}
 use Rattle.st_model.specs.Table.{table}
-use Rattle.st_frames.specs.Shown.{FetchesFrame}
+use Rattle.st_frames.specs.inside.Shown.{FetchesFrame}
 use Rattle.st_frames.proofs.Scheduled.{dead-fetched, fetched-frame}
 use Rattle.st_frames.proofs.holding.fetch_word.Goals as goal
 

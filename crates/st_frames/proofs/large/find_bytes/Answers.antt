@@ -1,5 +1,5 @@
 use Rattle.std.proofs.Common.{rules, ◌≡◌, Err, arith}
-use Rattle.st_frames.specs.Rows.{row_state}
+use Rattle.st_frames.specs.inside.Rows.{row_state}
 use Rattle.st_frames.proofs.Doing.{row-memory}
 use Rattle.st_frames.proofs.BytesLeft.{bytes-left, bytes-past, bytes-unleft, bytes-unsized, some_more}
 use Rattle.st_frames.proofs.large.find_bytes.Goals as goal

@@ -2,7 +2,7 @@ use Rattle.std.proofs.Common.{arith}
 use Rattle.st_frames.proofs.Valued.{fewer_bytes, sizes}
 use Rattle.st_frames.proofs.Doing.{checks}
 use Rattle.st_model.specs.Primitives.{large_value}
-use Rattle.st_frames.specs.Answering.{number_read}
+use Rattle.st_frames.specs.inside.Answering.{number_read}
 use Rattle.st_frames.proofs.numbers.large_value.Goals as goal
 
 pub returns-clause-small : goal.returns-clause-small

@@ -1,8 +1,8 @@
 use Rattle.std.proofs.Common.{rules, ◌≡◌, Err, sym, subst, arith}
 use Rattle.st_model.specs.Values.{word}
 use Rattle.st_model.specs.Contexts.{context_registers}
-use Rattle.st_model.specs.Calls.{Reads}
-use Rattle.st_frames.specs.Rows.{fetched_in}
+use Rattle.st_model.specs.inside.Calls.{Reads}
+use Rattle.st_frames.specs.inside.Rows.{fetched_in}
 use Rattle.st_frames.proofs.Unfetched.{fetched-dead, fetches}
 use Rattle.st_frames.proofs.reading.read_by_fields.Goals as goal
 

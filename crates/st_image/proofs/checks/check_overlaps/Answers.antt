@@ -1,5 +1,5 @@
 use Rattle.std.proofs.Common.{Some, None}
-use Rattle.st_image.specs.Spans.{IsFirstShared}
+use Rattle.st_image.specs.inside.Spans.{IsFirstShared}
 use Rattle.st_image.proofs.Overlaps.{AreSpans, spans_within, overlap_clean, overlap_first}
 use Rattle.st_image.proofs.checks.check_overlaps.Goals as goal
 

@@ -2,7 +2,7 @@ use Rattle.std.proofs.Common.{◌≤◌, ap, sym, subst, ◌∙◌, arith}
 use Rattle.st_model.specs.Image.{entries_of}
 use Rattle.st_model.specs.Start.{machine_head}
 use Rattle.st_model.specs.View.{View}
-use Rattle.st_image.specs.Loads.{IsEmpty}
+use Rattle.st_image.specs.inside.Loads.{IsEmpty}
 use Rattle.st_image.proofs.Clean.{clean_globals, clean_symbols, clean_capacity}
 use Rattle.st_image.proofs.Complete.{pointer_small, empty_is_empty, empty-head, entries_at, complete, is_start}
 use Rattle.st_image.proofs.loading.load.Goals as goal

@@ -5,7 +5,7 @@ use Rattle.st_model.specs.View.{with_object}
 use Rattle.st_model.specs.Start.{object_in}
 use Rattle.st_model.specs.Image.{entries_of}
 use Rattle.st_model.specs.Machine.{Head}
-use Rattle.st_image.specs.Loads.{loaded_below}
+use Rattle.st_image.specs.inside.Loads.{loaded_below}
 use Rattle.st_image.proofs.Clean.{clean_sound}
 use Rattle.st_image.proofs.Entries.{room, all_loaded, entry_used, entry_free}
 use Rattle.st_image.proofs.loading.load_all.Goals as goal

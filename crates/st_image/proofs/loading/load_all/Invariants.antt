@@ -1,5 +1,5 @@
 use Rattle.std.proofs.Common.{◌≡◌}
-use Rattle.st_image.specs.Loads.{loaded_below}
+use Rattle.st_image.specs.inside.Loads.{loaded_below}
 use Rattle.st_image.proofs.loading.load_all.Given as goal
 
 abbrev pub invariant-loop-k : goal.invariant-loop-k

@@ -3,7 +3,7 @@ use Rattle.st_model.specs.Objects.{Object, is_words, first_unit}
 use Rattle.st_model.specs.Values.{value}
 use Rattle.st_model.specs.View.{object_of}
 use Rattle.st_model.specs.Start.{units_in, unit_in}
-use Rattle.st_image.specs.Loads.{IsAt, Puts, filled_in, with_units}
+use Rattle.st_image.specs.inside.Loads.{IsAt, Puts, filled_in, with_units}
 use Rattle.st_image.proofs.Shapes.{bytes_range}
 use Rattle.st_image.proofs.Parts.{with_units-length, with_units-rest, filled_in-rest, object_is, unit_byte}
 use Rattle.st_image.proofs.Tables.{puts_same, at_puts, puts_puts, live_at, object_at, puts_unit_at}

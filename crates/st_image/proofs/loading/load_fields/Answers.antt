@@ -1,6 +1,6 @@
 use Rattle.std.proofs.Common.{◌≡◌, ℕ, arith, subst, ◌∙◌, add-one}
 use Rattle.st_model.specs.Start.{fields_in, field_in}
-use Rattle.st_image.specs.Loads.{IsAt, Puts, fresh_in, filled_in, with_fields}
+use Rattle.st_image.specs.inside.Loads.{IsAt, Puts, fresh_in, filled_in, with_fields}
 use Rattle.st_image.proofs.Shapes.{fields_range, fresh_in-class, fresh_in-fields}
 use Rattle.st_image.proofs.Parts.{with_fields-length, with_fields-rest, header_is}
 use Rattle.st_image.proofs.Tables.{puts_same, at_puts, puts_puts, live_at, object_at, puts_field}

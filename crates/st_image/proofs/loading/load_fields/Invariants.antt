@@ -1,5 +1,5 @@
 use Rattle.st_model.specs.Start.{field_in}
-use Rattle.st_image.specs.Loads.{Puts, fresh_in, with_fields}
+use Rattle.st_image.specs.inside.Loads.{Puts, fresh_in, with_fields}
 use Rattle.st_image.proofs.loading.load_fields.Given as goal
 
 abbrev pub invariant-loop-i : goal.invariant-loop-i

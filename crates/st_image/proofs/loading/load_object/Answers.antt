@@ -1,5 +1,5 @@
 use Rattle.std.proofs.Common.{◌<◌, length, arith}
-use Rattle.st_image.specs.Loads.{fresh_in, filled_in}
+use Rattle.st_image.specs.inside.Loads.{fresh_in, filled_in}
 use Rattle.st_image.proofs.Tables.{at_puts, puts_puts}
 use Rattle.st_image.proofs.loading.load_object.Goals as goal
 

@@ -1,7 +1,7 @@
 use Rattle.std.proofs.Common.{◌≡◌, ℕ, arith, sym, subst, ap, ◌∙◌, add-one}
 use Rattle.st_model.specs.Objects.{Object, is_words}
 use Rattle.st_model.specs.Start.{units_in, unit_in}
-use Rattle.st_image.specs.Loads.{IsAt, Puts, filled_in, with_units}
+use Rattle.st_image.specs.inside.Loads.{IsAt, Puts, filled_in, with_units}
 use Rattle.st_image.proofs.Shapes.{units_range}
 use Rattle.st_image.proofs.Parts.{with_units-length, with_units-rest, filled_in-rest, object_is, unit_word}
 use Rattle.st_image.proofs.Tables.{puts_same, at_puts, puts_puts, live_at, object_at, puts_unit}

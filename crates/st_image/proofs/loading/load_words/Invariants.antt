@@ -1,5 +1,5 @@
 use Rattle.st_model.specs.Start.{unit_in}
-use Rattle.st_image.specs.Loads.{Puts, filled_in, with_units}
+use Rattle.st_image.specs.inside.Loads.{Puts, filled_in, with_units}
 use Rattle.st_image.proofs.loading.load_words.Given as goal
 
 abbrev pub invariant-loop-i : goal.invariant-loop-i

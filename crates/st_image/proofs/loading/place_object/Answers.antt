@@ -1,6 +1,6 @@
 use Rattle.std.proofs.Common.{arith, refl, ◌∙◌}
 use Rattle.st_model.proofs.Words.{is_small-value_of}
-use Rattle.st_image.specs.Loads.{fresh_in}
+use Rattle.st_image.specs.inside.Loads.{fresh_in}
 use Rattle.st_image.proofs.FaultRows.{used_above, named_even}
 use Rattle.st_image.proofs.Shapes.{makeable, fresh_in-words}
 use Rattle.st_image.proofs.Tables.{puts_object}

@@ -1,6 +1,6 @@
 use Rattle.std.proofs.Common.{◌≡◌, ℕ, ◌<◌, length}
-use Rattle.st_image.specs.Spans.{span}
-use Rattle.st_image.specs.Sizes.{span_of}
+use Rattle.st_image.specs.inside.Spans.{span}
+use Rattle.st_image.specs.inside.Sizes.{span_of}
 use Rattle.st_image.proofs.objects.spans_of.Given as goal
 
 abbrev pub invariant-loop-k : goal.invariant-loop-k

@@ -1,6 +1,6 @@
 use Rattle.std.proofs.Common.{ℕ, List, length, subst}
 use Rattle.st_model.specs.Faults.{root_fails}
-use Rattle.st_image.specs.Passes.{IsLeastAmong}
+use Rattle.st_image.specs.inside.Passes.{IsLeastAmong}
 use Rattle.st_image.proofs.roots.least_bad_root.Goals as goal
 
 pub returns : goal.returns

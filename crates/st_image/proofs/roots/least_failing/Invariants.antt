@@ -1,5 +1,5 @@
 use Rattle.st_model.specs.Faults.{root_fails}
-use Rattle.st_image.specs.Passes.{IsLeastAmong}
+use Rattle.st_image.specs.inside.Passes.{IsLeastAmong}
 use Rattle.st_image.proofs.roots.least_failing.Given as goal
 
 abbrev pub invariant-loop-pointer : goal.invariant-loop-pointer

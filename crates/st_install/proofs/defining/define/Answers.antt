@@ -1,8 +1,8 @@
 use Rattle.std.proofs.Common.{Err, refl, subst}
-use Rattle.st_frames.specs.Shown.{shown}
-use Rattle.st_chunk.specs.ScriptDefinitions.{definition_of}
+use Rattle.st_frames.specs.inside.Shown.{shown}
+use Rattle.st_chunk.specs.inside.ScriptDefinitions.{definition_of}
 use Rattle.st_install.specs.Defining.{installed}
-use Rattle.st_install.specs.Prepareds.{PreparesAs}
+use Rattle.st_install.specs.inside.Prepareds.{PreparesAs}
 use Rattle.st_install.proofs.Compiling.{refused_as}
 use Rattle.st_install.proofs.defining.define.Goals as goal
 

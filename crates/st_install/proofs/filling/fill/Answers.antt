@@ -2,8 +2,8 @@ use Rattle.std.proofs.Common.{sym, subst}
 use Rattle.st_model.specs.Values.{value}
 use Rattle.st_model.specs.Machine.{Step}
 use Rattle.st_model.specs.Table.{Table}
-use Rattle.st_install.specs.Carried.{Goes, Becomes}
-use Rattle.st_scope.specs.Meanings.{values}
+use Rattle.st_install.specs.inside.Carried.{Goes, Becomes}
+use Rattle.st_scope.specs.inside.Meanings.{values}
 use Rattle.st_install.proofs.Filled.{fills_pointers, fills_bytes, fills_method}
 use Rattle.st_install.proofs.filling.fill.Goals as goal
 

@@ -2,9 +2,9 @@ use Rattle.std.proofs.Common.{◌+◌, ◌≤◌, sym, subst, length, slice_inde
 use Rattle.st_model.specs.declared.oop.Oop.{Oop}
 use Rattle.st_model.specs.Values.{value}
 use Rattle.st_install.specs.declared.plan.NewObject.{NewObject}
-use Rattle.st_install.specs.Carried.{IsPlannable, IsShaped}
-use Rattle.st_install.specs.Readies.{object_of as planned_of}
-use Rattle.st_scope.specs.Meanings.{values}
+use Rattle.st_install.specs.inside.Carried.{IsPlannable, IsShaped}
+use Rattle.st_install.specs.inside.Readies.{object_of as planned_of}
+use Rattle.st_scope.specs.inside.Meanings.{values}
 use Rattle.st_install.proofs.Going.{left_goes, left_next, left_done}
 use Rattle.st_install.proofs.Filled.{objects_from, objects_step, objects_end, plannable_at, shaped_at}
 use Rattle.st_install.proofs.filling.fill_all.Goals as goal

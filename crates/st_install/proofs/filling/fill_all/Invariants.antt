@@ -1,4 +1,4 @@
-use Rattle.st_scope.specs.Meanings.{values}
+use Rattle.st_scope.specs.inside.Meanings.{values}
 use Rattle.st_install.proofs.Going.{Left}
 use Rattle.st_install.proofs.Filled.{objects_from}
 use Rattle.st_install.proofs.filling.fill_all.Given as goal

@@ -1,5 +1,5 @@
 use Rattle.st_model.specs.Values.{value}
-use Rattle.st_scope.specs.Meanings.{values}
+use Rattle.st_scope.specs.inside.Meanings.{values}
 use Rattle.st_install.proofs.Filled.{method_goes, method_bytes_go, method_filled}
 use Rattle.st_install.proofs.filling.fill_method.Goals as goal
 

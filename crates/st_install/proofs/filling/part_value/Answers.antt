@@ -3,8 +3,8 @@ use Rattle.st_model.specs.Objects.{nil}
 use Rattle.st_model.proofs.Words.{value_of-nil}
 use Rattle.st_install.specs.declared.plan.Part.{Part}
 use Rattle.st_install.specs.Installing.{part_value}
-use Rattle.st_scope.specs.Meanings.{values}
-use Rattle.st_install.specs.Readies.{part_of}
+use Rattle.st_scope.specs.inside.Meanings.{values}
+use Rattle.st_install.specs.inside.Readies.{part_of}
 use Rattle.st_install.proofs.Filled.{made_part, no_part}
 use Rattle.st_install.proofs.filling.part_value.Goals as goal
 

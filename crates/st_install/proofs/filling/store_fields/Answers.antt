@@ -2,7 +2,7 @@ use Rattle.std.proofs.Common.{arith}
 use Rattle.st_model.specs.Values.{value}
 use Rattle.st_model.specs.Table.{Table, table}
 use Rattle.st_model.specs.Steps.{store_field, store_fields}
-use Rattle.st_scope.specs.Meanings.{values}
+use Rattle.st_scope.specs.inside.Meanings.{values}
 use Rattle.st_install.proofs.InTurn.{fields_in_turn}
 use Rattle.st_install.proofs.Filled.{next_goes, next_left, fields_done}
 use Rattle.st_install.proofs.filling.store_fields.Goals as goal

@@ -3,7 +3,7 @@ use Rattle.st_model.specs.Values.{value}
 use Rattle.st_model.specs.Table.{Table, table}
 use Rattle.st_model.specs.Steps.{store_method_field}
 use Rattle.st_install.specs.Installing.{store_method_fields}
-use Rattle.st_scope.specs.Meanings.{values}
+use Rattle.st_scope.specs.inside.Meanings.{values}
 use Rattle.st_install.proofs.InTurn.{method_in_turn}
 use Rattle.st_install.proofs.Filled.{next_goes, next_left, fields_done, headed}
 use Rattle.st_install.proofs.filling.store_method_fields.Goals as goal

@@ -2,7 +2,7 @@ use Rattle.st_model.specs.Values.{value}
 use Rattle.st_model.specs.Steps.{store_method_field}
 use Rattle.st_model.specs.Table.{Table, table}
 use Rattle.st_install.specs.Installing.{store_method_fields}
-use Rattle.st_scope.specs.Meanings.{values}
+use Rattle.st_scope.specs.inside.Meanings.{values}
 use Rattle.st_install.proofs.Going.{Left}
 use Rattle.st_install.proofs.InTurn.{method_in_turn}
 use Rattle.st_install.proofs.Filled.{fields_from}

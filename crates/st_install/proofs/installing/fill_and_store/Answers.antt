@@ -3,10 +3,10 @@ use Rattle.st_model.specs.Values.{value}
 use Rattle.st_model.specs.Objects.{nil}
 use Rattle.st_model.specs.Table.{table}
 use Rattle.st_install.specs.declared.plan.NewObject.{NewObject}
-use Rattle.st_install.specs.Carried.{Goes}
+use Rattle.st_install.specs.inside.Carried.{Goes}
 use Rattle.st_install.specs.Installing.{fill_all}
-use Rattle.st_scope.specs.Meanings.{values}
-use Rattle.st_install.specs.Readies.{objects_of, plan_of}
+use Rattle.st_scope.specs.inside.Meanings.{values}
+use Rattle.st_install.specs.inside.Readies.{objects_of, plan_of}
 use Rattle.st_install.proofs.Carryings.{fill_goes, dictionary_goes, selector_goes, planned_go, planned_done}
 use Rattle.st_install.proofs.installing.fill_and_store.Goals as goal
 

@@ -4,10 +4,10 @@ use Rattle.std.proofs.lemmas.List.{with_items_is}
 use Rattle.st_model.specs.Table.{bounded_table}
 use Rattle.st_model.specs.View.{fits}
 use Rattle.st_install.specs.declared.plan.NewObject.{NewObject}
-use Rattle.st_install.specs.Carried.{Goes, IsPlannable}
+use Rattle.st_install.specs.inside.Carried.{Goes, IsPlannable}
 use Rattle.st_install.specs.Installing.{make_all}
 use Rattle.st_install.specs.Plans.{demand_of_all}
-use Rattle.st_install.specs.Readies.{objects_of, plan_of}
+use Rattle.st_install.specs.inside.Readies.{objects_of, plan_of}
 use Rattle.st_install.proofs.Carryings.{make_goes, made_rest_goes, made_installed, ready_goes, ready_plannable, ready_room}
 use Rattle.st_install.proofs.installing.make_and_store.Goals as goal
 

@@ -5,7 +5,7 @@ use Rattle.st_install.specs.declared.plan.Part.{Part}
 use Rattle.st_install.specs.declared.plan.NewObject.{NewObject}
 use Rattle.st_scope.specs.declared.unread.Unread.TheVariants.{Dies}
 use Rattle.st_install.specs.Literals.{Placed}
-use Rattle.st_install.specs.Told.{Places}
+use Rattle.st_install.specs.inside.Told.{Places}
 use Rattle.st_install.proofs.Placing.{LeftLiterals, left_begins, left_ends, left_fails, left_placed, elements_fail, placed_array, empty_array, character_placed, character_dies, symbol_placed, symbol_dies, pointer_placed, pointer_dies, number_placed, string_placed, owner_placed, owner_fails, array_is}
 use Rattle.st_install.proofs.literals.+arrays.Goals as goal
 

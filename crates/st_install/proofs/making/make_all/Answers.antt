@@ -1,7 +1,7 @@
 use Rattle.std.proofs.Common.{◌≤◌, length, sym, subst, arith}
 use Rattle.st_install.specs.declared.plan.NewObject.{NewObject}
-use Rattle.st_install.specs.Carried.{IsPlannable}
-use Rattle.st_install.specs.Readies.{object_of as planned_of}
+use Rattle.st_install.specs.inside.Carried.{IsPlannable}
+use Rattle.st_install.specs.inside.Readies.{object_of as planned_of}
 use Rattle.st_install.proofs.Filled.{plannable_at}
 use Rattle.st_install.proofs.Makings.{none_made, new_goes, one_room, one_made, made_all, all_shaped}
 use Rattle.st_install.proofs.making.make_all.Goals as goal

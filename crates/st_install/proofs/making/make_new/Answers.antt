@@ -2,7 +2,7 @@ use Rattle.std.proofs.Common.{◌/◌, sym, subst}
 use Rattle.st_model.specs.Values.{value}
 use Rattle.st_model.specs.Formed.{IsMakeable}
 use Rattle.st_install.specs.Installing.{size_by}
-use Rattle.st_install.specs.Readies.{object_of as planned_of}
+use Rattle.st_install.specs.inside.Readies.{object_of as planned_of}
 use Rattle.st_install.proofs.Makings.{placed_by, class_there, makeable, room_for, makes, new_becomes}
 use Rattle.st_install.proofs.making.make_new.Goals as goal
 use Rattle.st_memory.proofs.Wide.{named_word}

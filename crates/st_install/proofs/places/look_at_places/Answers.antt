@@ -1,7 +1,7 @@
 use Rattle.std.proofs.Common.{◌≡◌, ◌≤◌, rules, Option, Ok, Err, arith, subst}
 use Rattle.st_model.specs.Values.{value}
 use Rattle.st_install.specs.declared.places.Place.{Place}
-use Rattle.st_install.specs.Endings.{SeeksAt}
+use Rattle.st_install.specs.inside.Endings.{SeeksAt}
 use Rattle.st_install.proofs.Seeking.{all_left, ends_left, dies_left, goes_on_left, no_left}
 use Rattle.st_install.proofs.places.look_at_places.Goals as goal
 

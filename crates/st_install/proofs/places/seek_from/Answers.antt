@@ -1,7 +1,7 @@
 use Rattle.std.proofs.Common.{◌≡◌, ◌-◌, rules, Option, Ok, Err, subst}
 use Rattle.st_model.specs.Values.{value}
 use Rattle.st_install.specs.declared.places.Place.{Place}
-use Rattle.st_install.specs.Endings.{SeeksFrom}
+use Rattle.st_install.specs.inside.Endings.{SeeksFrom}
 use Rattle.st_install.proofs.Seeking.{ends_first, dies_first, ends_second}
 use Rattle.st_install.proofs.places.seek_from.Goals as goal
 

@@ -2,7 +2,7 @@ use Rattle.std.proofs.Common.{rules, ◌≡◌, Err, ap, ◌∙◌}
 use Rattle.std.specs.Prelude.{not}
 use Rattle.std.specs.Bool.{then_some}
 use Rattle.st_model.specs.Values.{value}
-use Rattle.st_install.specs.Readies.{part_of}
+use Rattle.st_install.specs.inside.Readies.{part_of}
 use Rattle.st_scope.specs.declared.unread.Unread.TheVariants.{Dies}
 use Rattle.st_install.proofs.Growths.{no_dictionary, not_grown, number_if}
 use Rattle.st_install.proofs.planning.growth_of.Goals as goal

@@ -2,7 +2,7 @@ use Rattle.std.proofs.Common.{◌≡◌, Err, length, refl, sym, ap, ◌∙◌, 
 use Rattle.std.specs.Prelude.{option_map}
 use Rattle.st_model.specs.Values.{value}
 use Rattle.st_install.specs.declared.planning.PlanDraft.{PlanDraft}
-use Rattle.st_install.specs.Readies.{part_of}
+use Rattle.st_install.specs.inside.Readies.{part_of}
 use Rattle.st_install.proofs.Readying.{unnamed_fails, all_named, unplaced_fails, unselected, whole}
 use Rattle.st_install.proofs.planning.plan.Goals as goal
 

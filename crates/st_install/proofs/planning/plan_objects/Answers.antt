@@ -1,10 +1,10 @@
 use Rattle.std.proofs.Common.{rules, ◌≡◌, List, Err, Ok, ◌∙◌, sym, ap, subst}
-use Rattle.st_model.specs.Calls.{Reads, itself}
+use Rattle.st_model.specs.inside.Calls.{Reads, itself}
 use Rattle.st_scope.specs.declared.unread.Unread.TheVariants.{Dies}
 use Rattle.st_install.specs.Plans.{NewObject, Plan}
 use Rattle.st_install.specs.Shapes.{check_size}
-use Rattle.st_install.specs.Rooms.{AreSmall}
-use Rattle.st_install.specs.Readies.{object_of, objects_of}
+use Rattle.st_install.specs.inside.Rooms.{AreSmall}
+use Rattle.st_install.specs.inside.Readies.{object_of, objects_of}
 use Rattle.st_install.proofs.Growths.{not_planned, objects_too_large, all_planned}
 use Rattle.st_install.proofs.planning.plan_objects.Goals as goal
 

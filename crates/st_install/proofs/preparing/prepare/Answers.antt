@@ -1,11 +1,11 @@
 use Rattle.std.proofs.Common.{rules, ◌≡◌, ◌∙◌, Ok, Err, sym, subst}
 use Rattle.st_model.specs.Values.{value}
 use Rattle.st_scan.specs.Views.{method_view}
-use Rattle.st_emit.specs.NameViews.{names_view}
-use Rattle.st_code.specs.MethodDrafts.{parts_view}
-use Rattle.st_chunk.specs.ScriptDefinitions.{definition_of}
-use Rattle.st_install.specs.Unprepareds.{by_install, by_syntax, by_code}
-use Rattle.st_install.specs.Prepareds.{PreparesAs}
+use Rattle.st_emit.specs.inside.NameViews.{names_view}
+use Rattle.st_code.specs.inside.MethodDrafts.{parts_view}
+use Rattle.st_chunk.specs.inside.ScriptDefinitions.{definition_of}
+use Rattle.st_install.specs.inside.Unprepareds.{by_install, by_syntax, by_code}
+use Rattle.st_install.specs.inside.Prepareds.{PreparesAs}
 use Rattle.st_grammar.proofs.Syntaxes.{only}
 use Rattle.st_install.proofs.Readying.{ready_by_name}
 use Rattle.st_install.proofs.Exits.{class_refuses, syntax_refuses, names_refuse, code_refuses, code_seen, ready_refuses}

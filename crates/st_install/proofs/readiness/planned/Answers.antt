@@ -1,4 +1,4 @@
-use Rattle.st_code.specs.MethodDrafts.{parts_view}
+use Rattle.st_code.specs.inside.MethodDrafts.{parts_view}
 use Rattle.st_model.specs.Values.{value_of}
 use Rattle.st_install.proofs.Readying.{head_none, head_some, no_symbols, planned_by}
 use Rattle.st_install.proofs.readiness.planned.Goals as goal

@@ -1,5 +1,5 @@
 use Rattle.st_model.specs.Values.{value, value_of}
-use Rattle.st_code.specs.MethodDrafts.{parts_view}
+use Rattle.st_code.specs.inside.MethodDrafts.{parts_view}
 use Rattle.st_install.proofs.Readying.{head_none, head_some, no_globals, no_association, ready_of}
 use Rattle.st_install.proofs.readiness.ready.Goals as goal
 

@@ -1,4 +1,4 @@
-use Rattle.st_code.specs.MethodDrafts.{parts_view}
+use Rattle.st_code.specs.inside.MethodDrafts.{parts_view}
 use Rattle.st_install.proofs.Readying.{ready_by, no_shape}
 use Rattle.st_install.proofs.readiness.ready_for.Goals as goal
 

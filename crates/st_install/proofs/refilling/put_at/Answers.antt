@@ -2,9 +2,9 @@ use Rattle.std.proofs.Common.{Some, sym, subst}
 use Rattle.st_model.specs.Values.{value}
 use Rattle.st_model.specs.Table.{table}
 use Rattle.st_install.specs.declared.places.Place.{Place}
-use Rattle.st_install.specs.Carried.{Goes, Becomes}
+use Rattle.st_install.specs.inside.Carried.{Goes, Becomes}
 use Rattle.st_install.specs.Dictionaries.{put_at}
-use Rattle.st_install.specs.Endings.{ending_of}
+use Rattle.st_install.specs.inside.Endings.{ending_of}
 use Rattle.st_install.proofs.Refills.{put_vacant, methods_there, held_goes, held_put}
 use Rattle.st_install.proofs.refilling.put_at.Goals as goal
 

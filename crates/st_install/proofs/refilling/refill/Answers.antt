@@ -2,7 +2,7 @@ use Rattle.std.proofs.Common.{◌≤◌, ◌+◌, ℕ, Result, subst, arith}
 use Rattle.st_model.specs.declared.dead.Dead.{Dead}
 use Rattle.st_model.specs.Values.{value}
 use Rattle.st_model.specs.Table.{table}
-use Rattle.st_model.specs.Calls.{Reads, itself}
+use Rattle.st_model.specs.inside.Calls.{Reads, itself}
 use Rattle.st_install.specs.Dictionaries.{count_places}
 use Rattle.st_install.proofs.Going.{part_goes, remains_next, all_done}
 use Rattle.st_install.proofs.Refills.{places_from, places_counted, places_turn, places_end, places_go, refilled}

@@ -1,7 +1,7 @@
 use Rattle.std.proofs.Common.{◌≡◌, ◌^◌, ◌≤◌, List, sym, ◌∙◌, ap, subst}
 use Rattle.st_install.specs.declared.plan.NewObject.{NewObject}
 use Rattle.st_install.specs.Plans.{words_of_all, demand_of_all}
-use Rattle.st_install.specs.Readies.{objects_of, plan_of}
+use Rattle.st_install.specs.inside.Readies.{objects_of, plan_of}
 use Rattle.st_install.proofs.Rooms.{no_room, has_room, many_objects}
 use Rattle.st_install.proofs.room.with_room.Goals as goal
 

@@ -1,6 +1,6 @@
 use Rattle.std.proofs.Common.{◌≡◌, ◌+◌, drop}
 use Rattle.st_install.specs.Plans.{words_of_all}
-use Rattle.st_install.specs.Readies.{objects_of}
+use Rattle.st_install.specs.inside.Readies.{objects_of}
 use Rattle.st_install.proofs.room.words_of_all.Given as goal
 
 abbrev pub invariant-loop-object : goal.invariant-loop-object

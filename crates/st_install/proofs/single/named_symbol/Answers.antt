@@ -1,6 +1,6 @@
 use Rattle.std.proofs.Common.{ap, ◌∙◌}
 use Rattle.std.specs.Prelude.{option_map}
-use Rattle.st_install.specs.Readies.{part_of}
+use Rattle.st_install.specs.inside.Readies.{part_of}
 use Rattle.st_install.proofs.Singles.{noted_text, symbol_noted}
 use Rattle.st_install.proofs.single.named_symbol.Goals as goal
 

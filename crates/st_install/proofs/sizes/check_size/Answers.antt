@@ -1,5 +1,5 @@
 use Rattle.std.proofs.Common.{◌≡◌, true, sym, ◌∙◌, rules, arith}
-use Rattle.st_install.specs.Readies.{objects_of}
+use Rattle.st_install.specs.inside.Readies.{objects_of}
 use Rattle.st_install.proofs.Smalls.{small_if_fit}
 use Rattle.st_model.proofs.Runs.{runs}
 use Rattle.st_install.specs.Shapes.{check_size}

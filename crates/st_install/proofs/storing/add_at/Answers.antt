@@ -3,10 +3,10 @@ use Rattle.st_model.specs.Values.{Value, value}
 use Rattle.st_model.specs.Table.{table}
 use Rattle.st_model.specs.Steps.{store_field}
 use Rattle.st_install.specs.declared.places.Place.{Place}
-use Rattle.st_install.specs.Carried.{Goes, Becomes}
+use Rattle.st_install.specs.inside.Carried.{Goes, Becomes}
 use Rattle.st_install.specs.Installing.{add_at}
-use Rattle.st_install.specs.Endings.{ending_of}
-use Rattle.st_install.specs.Placings.{placing_of}
+use Rattle.st_install.specs.inside.Endings.{ending_of}
+use Rattle.st_install.specs.inside.Placings.{placing_of}
 use Rattle.st_install.proofs.Stores.{add_somewhere, adds_method, adds_tally, added}
 use Rattle.st_install.proofs.storing.add_at.Goals as goal
 

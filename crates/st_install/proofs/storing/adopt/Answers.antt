@@ -1,7 +1,7 @@
 use Rattle.std.proofs.Common.{ℕ, Option, sym, subst}
 use Rattle.st_model.specs.Values.{value}
 use Rattle.st_model.specs.Table.{table}
-use Rattle.st_install.specs.Carried.{Goes, Becomes}
+use Rattle.st_install.specs.inside.Carried.{Goes, Becomes}
 use Rattle.st_install.specs.Installing.{adopt}
 use Rattle.st_install.proofs.Stores.{adopts_none}
 use Rattle.st_install.proofs.storing.adopt.Goals as goal

@@ -2,10 +2,10 @@ use Rattle.std.proofs.Common.{Option, Result, subst}
 use Rattle.st_model.specs.declared.dead.Dead.{Dead}
 use Rattle.st_model.specs.Values.{value}
 use Rattle.st_model.specs.Table.{table}
-use Rattle.st_model.specs.Calls.{Reads}
+use Rattle.st_model.specs.inside.Calls.{Reads}
 use Rattle.st_install.specs.declared.places.Place.{Place}
 use Rattle.st_install.specs.Dictionaries.{seek}
-use Rattle.st_install.specs.Endings.{ending_of}
+use Rattle.st_install.specs.inside.Endings.{ending_of}
 use Rattle.st_install.proofs.Stores.{methods_go, tally_goes, place_goes, place_read}
 use Rattle.st_install.proofs.storing.find_place.Goals as goal
 

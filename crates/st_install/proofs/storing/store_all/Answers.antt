@@ -4,8 +4,8 @@ use Rattle.st_model.specs.Table.{Table, table}
 use Rattle.st_model.specs.Steps.{store_field}
 use Rattle.st_install.specs.declared.plan.SymbolStore.{SymbolStore}
 use Rattle.st_install.specs.declared.plan.Part.TheVariants as part
-use Rattle.st_install.specs.Carried.{Goes, Becomes}
-use Rattle.st_scope.specs.Meanings.{values}
+use Rattle.st_install.specs.inside.Carried.{Goes, Becomes}
+use Rattle.st_scope.specs.inside.Meanings.{values}
 use Rattle.st_install.proofs.Going.{part_goes, remains_next, all_done}
 use Rattle.st_install.proofs.Stores.{stores_from, stores_turn, stores_end}
 use Rattle.st_install.proofs.storing.store_all.Goals as goal

@@ -1,4 +1,4 @@
-use Rattle.st_scope.specs.Meanings.{values}
+use Rattle.st_scope.specs.inside.Meanings.{values}
 use Rattle.st_install.proofs.Going.{Remains}
 use Rattle.st_install.proofs.Stores.{stores_from}
 use Rattle.st_install.proofs.storing.store_all.Given as goal

@@ -3,12 +3,12 @@ use Rattle.st_model.specs.Objects.{nil}
 use Rattle.st_model.specs.Machine.{Step}
 use Rattle.st_model.specs.Table.{Table, table}
 use Rattle.st_install.specs.declared.plan.SymbolStore.{SymbolStore}
-use Rattle.st_install.specs.Carried.{Goes, Becomes}
+use Rattle.st_install.specs.inside.Carried.{Goes, Becomes}
 use Rattle.st_install.specs.Installing.{store_all, add_at}
-use Rattle.st_install.specs.Endings.{ending_of}
-use Rattle.st_scope.specs.Meanings.{values}
-use Rattle.st_install.specs.Placings.{placing_of}
-use Rattle.st_install.specs.Readies.{plan_of, stores_of}
+use Rattle.st_install.specs.inside.Endings.{ending_of}
+use Rattle.st_scope.specs.inside.Meanings.{values}
+use Rattle.st_install.specs.inside.Placings.{placing_of}
+use Rattle.st_install.specs.inside.Readies.{plan_of, stores_of}
 use Rattle.st_install.proofs.Stores.{planned_first, planned_second, planned_third, planned_all}
 use Rattle.st_install.proofs.storing.store_planned.Goals as goal
 

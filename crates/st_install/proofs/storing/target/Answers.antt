@@ -2,10 +2,10 @@ use Rattle.std.proofs.Common.{ℕ, Option, Some, sym, subst}
 use Rattle.st_model.specs.Values.{Value, value}
 use Rattle.st_model.specs.Objects.{nil}
 use Rattle.st_model.specs.Table.{table}
-use Rattle.st_install.specs.Carried.{Goes, Becomes}
+use Rattle.st_install.specs.inside.Carried.{Goes, Becomes}
 use Rattle.st_install.specs.Dictionaries.{refill}
 use Rattle.st_install.specs.Installing.{target}
-use Rattle.st_scope.specs.Meanings.{values}
+use Rattle.st_scope.specs.inside.Meanings.{values}
 use Rattle.st_install.proofs.Stores.{target_old, target_refills, target_new}
 use Rattle.st_install.proofs.storing.target.Goals as goal
 

@@ -3,7 +3,7 @@ use Rattle.st_model.specs.Values.{value}
 use Rattle.st_model.specs.Objects.{first_unit}
 use Rattle.st_model.specs.Table.{Table}
 use Rattle.st_model.specs.View.{object_of}
-use Rattle.st_install.specs.Carried.{KeepsFields}
+use Rattle.st_install.specs.inside.Carried.{KeepsFields}
 use Rattle.st_install.proofs.Going.{byte_takes, byte_becomes, byte_range, unit_fields}
 use Rattle.st_install.proofs.sure.store_byte.Goals as goal
 use Rattle.st_model.proofs.KindTests.{bytes_words}

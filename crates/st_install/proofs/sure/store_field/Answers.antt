@@ -2,7 +2,7 @@ use Rattle.std.proofs.Common.{sym, subst}
 use Rattle.st_model.specs.Values.{value}
 use Rattle.st_model.specs.Table.{Table}
 use Rattle.st_model.specs.View.{object_of}
-use Rattle.st_install.specs.Carried.{KeepsFields}
+use Rattle.st_install.specs.inside.Carried.{KeepsFields}
 use Rattle.st_install.proofs.Going.{field_takes, field_becomes, stored_fields, pointers_method}
 use Rattle.st_install.proofs.sure.store_field.Goals as goal
 

@@ -1,7 +1,7 @@
 use Rattle.std.proofs.Common.{sym, subst}
 use Rattle.st_model.specs.Values.{value}
 use Rattle.st_model.specs.Table.{Table}
-use Rattle.st_install.specs.Carried.{KeepsFields}
+use Rattle.st_install.specs.inside.Carried.{KeepsFields}
 use Rattle.st_install.proofs.Going.{method_takes, method_becomes, stored_fields}
 use Rattle.st_install.proofs.sure.store_method_field.Goals as goal
 

@@ -1,6 +1,6 @@
 use Rattle.std.proofs.Common.{◌≡◌, Err, ap, rules}
 use Rattle.st_emit.specs.declared.literal.Literal.{Literal}
-use Rattle.st_emit.specs.Views.{literal_view}
+use Rattle.st_emit.specs.inside.Views.{literal_view}
 use Rattle.st_install.specs.Symbols.{symbols_of}
 use Rattle.st_install.proofs.SymbolsOf.{symbol_named_by, no_symbols, array_named_by, names_fail, names_more, names_end}
 use Rattle.st_install.proofs.symbol_plan.+symbols.Goals as goal

@@ -1,5 +1,5 @@
 use Rattle.st_install.specs.Symbols.{Symbols}
-use Rattle.st_install.specs.Naming.{IsNamed}
+use Rattle.st_install.specs.inside.Naming.{IsNamed}
 use Rattle.st_install.proofs.SymbolsOf.{LeftNames}
 use Rattle.st_install.proofs.symbol_plan.+symbols.Given as goal
 

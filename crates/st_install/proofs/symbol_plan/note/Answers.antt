@@ -1,8 +1,8 @@
 use Rattle.std.proofs.Common.{◌≡◌, refl, ap, ◌∙◌, subst, rules}
 use Rattle.st_install.specs.Symbols.{symbol_part}
-use Rattle.st_install.specs.Told.{named_of}
-use Rattle.st_install.specs.Readies.{part_of}
-use Rattle.st_install.specs.Naming.{Becomes, with_named}
+use Rattle.st_install.specs.inside.Told.{named_of}
+use Rattle.st_install.specs.inside.Readies.{part_of}
+use Rattle.st_install.specs.inside.Naming.{Becomes, with_named}
 use Rattle.st_install.proofs.SymbolsOf.{becomes_named}
 use Rattle.st_install.proofs.symbol_plan.note.Goals as goal
 

@@ -1,7 +1,7 @@
 use Rattle.std.proofs.Common.{◌≡◌, [], ◌∷◌, ◌++◌, refl, ap, ◌∙◌, rules}
 use Rattle.std.specs.Vec.{with_item}
 use Rattle.std.proofs.lemmas.List.{map-append}
-use Rattle.st_install.specs.Readies.{part_of, store_of, stores_of}
+use Rattle.st_install.specs.inside.Readies.{part_of, store_of, stores_of}
 use Rattle.st_install.proofs.SymbolsOf.{becomes_stored}
 use Rattle.st_install.proofs.symbol_plan.put_in_field.Goals as goal
 

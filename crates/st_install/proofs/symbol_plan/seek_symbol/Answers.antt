@@ -2,7 +2,7 @@ use Rattle.std.proofs.Common.{◌≡◌, Option, Ok, Err, subst, rules}
 use Rattle.st_model.specs.declared.oop.Oop.{Oop}
 use Rattle.st_model.specs.Values.{value}
 use Rattle.st_model.specs.Table.{table}
-use Rattle.st_model.specs.Calls.{Reads}
+use Rattle.st_model.specs.inside.Calls.{Reads}
 use Rattle.st_scope.specs.declared.unread.Unread.TheVariants.{Dies}
 use Rattle.st_install.specs.Symbols.{symbol_named}
 use Rattle.st_scope.specs.Texts.{found}

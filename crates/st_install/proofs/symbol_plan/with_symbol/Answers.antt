@@ -1,6 +1,6 @@
 use Rattle.std.proofs.Common.{sym, ap, ◌∙◌}
 use Rattle.std.specs.Prelude.{is_some, option_map}
-use Rattle.st_install.specs.Readies.{part_of}
+use Rattle.st_install.specs.inside.Readies.{part_of}
 use Rattle.st_install.proofs.SymbolsOf.{name_known}
 use Rattle.st_install.proofs.symbol_plan.with_symbol.Goals as goal
 

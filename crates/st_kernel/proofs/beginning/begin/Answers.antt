@@ -4,8 +4,8 @@ use Rattle.st_model.specs.Values.{value}
 use Rattle.st_model.specs.Objects.{nil}
 use Rattle.st_model.specs.Start.{idle_state}
 use Rattle.st_model.specs.View.{View}
-use Rattle.st_frames.specs.Shown.{IsReady, shown}
-use Rattle.st_kernel_text.specs.Views.{start_of}
+use Rattle.st_frames.specs.inside.Shown.{IsReady, shown}
+use Rattle.st_kernel_text.specs.inside.Views.{start_of}
 use Rattle.st_kernel.proofs.Begun.{died, went, makes_row, no_receiver, no_method, no_class, no_process, no_room, no_registers, all_made, fetched_idle, lost_idle, begun_again}
 use Rattle.st_kernel.proofs.Found.{died_missing}
 use Rattle.st_kernel.proofs.beginning.begin.Goals as goal

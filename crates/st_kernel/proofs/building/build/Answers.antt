@@ -3,14 +3,15 @@ use Rattle.std.specs.Prelude.{IfErr}
 use Rattle.std.proofs.Math.ListN.{length-map}
 use Rattle.st_model.specs.Objects.{nil}
 use Rattle.st_model.specs.Machine.{empty_world}
-use Rattle.st_frames.specs.Shown.{shown}
+use Rattle.st_frames.specs.inside.Shown.{shown}
 use Rattle.st_install.specs.Defining.{installed}
 use Rattle.st_kernel_text.specs.Definitions.{AreDefinitions}
 use Rattle.st_kernel_text.specs.Texts.{Account}
-use Rattle.st_kernel_text.specs.Views.{account_of, part_of, parts_of}
+use Rattle.st_kernel_text.specs.inside.Views.{account_of, part_of, parts_of}
 use Rattle.st_kernel_text.proofs.Account.{few_parts, good_parts}
 use Rattle.st_first_objects.specs.First.{first_view, has_room}
-use Rattle.st_kernel.specs.Built.{built, no_side, IsBuilt, IsFaultOf}
+use Rattle.st_kernel.specs.Built.{built, no_side}
+use Rattle.st_kernel.specs.inside.Answered.{IsBuilt, IsFaultOf}
 use Rattle.st_kernel.proofs.Whole.{first_quiet, first_underway, followed, with_room, roomless}
 use Rattle.st_kernel.proofs.building.build.Goals as goal
 

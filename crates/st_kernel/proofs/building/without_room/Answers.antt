@@ -1,6 +1,7 @@
 use Rattle.std.proofs.Common.{◌≡◌, ◌-◌, ◌∷◌, ◌∙◌, length, take, drop, subst, sym, ap}
-use Rattle.st_kernel_text.specs.Views.{part_of, parts_of}
-use Rattle.st_kernel.specs.Built.{without_room, unfinished, IsFaultOf}
+use Rattle.st_kernel_text.specs.inside.Views.{part_of, parts_of}
+use Rattle.st_kernel.specs.Built.{without_room, unfinished}
+use Rattle.st_kernel.specs.inside.Answered.{IsFaultOf}
 use Rattle.st_kernel.proofs.Rests.{rest_parts, rest_none}
 use Rattle.st_kernel.proofs.building.without_room.Goals as goal
 

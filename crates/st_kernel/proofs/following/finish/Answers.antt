@@ -1,5 +1,5 @@
 use Rattle.std.proofs.Common.{rules, ◌≡◌, ◌∙◌, ◌+◌, None, sym, ap}
-use Rattle.st_kernel_text.specs.Views.{start_of}
+use Rattle.st_kernel_text.specs.inside.Views.{start_of}
 use Rattle.st_kernel.specs.Built.{fault_at}
 use Rattle.st_kernel.proofs.Finishing.{dead_start, no_room_start, whole_start, longer_start}
 use Rattle.st_kernel.proofs.following.finish.Goals as goal

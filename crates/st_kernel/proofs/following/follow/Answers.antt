@@ -1,8 +1,8 @@
 use Rattle.std.proofs.Common.{rules, ◌≡◌, ◌-◌, Ok, Err, length, take, drop, subst, sym}
 use Rattle.st_install.specs.Defining.{installed}
-use Rattle.st_kernel_text.specs.Views.{parts_of}
-use Rattle.st_kernel.specs.Built.{IsFaultOf}
-use Rattle.st_kernel.specs.Following.{side_in, IsUnderway, GoesOn, Finishes}
+use Rattle.st_kernel_text.specs.inside.Views.{parts_of}
+use Rattle.st_kernel.specs.inside.Answered.{IsFaultOf}
+use Rattle.st_kernel.specs.inside.Following.{side_in, IsUnderway, GoesOn, Finishes}
 use Rattle.st_kernel.proofs.Rests.{rest_parts, rest_none}
 use Rattle.st_kernel.proofs.Underway.{not_finished}
 use Rattle.st_kernel.proofs.following.follow.Goals as goal

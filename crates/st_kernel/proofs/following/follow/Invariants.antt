@@ -1,10 +1,10 @@
 use Rattle.std.proofs.Common.{◌≤◌, ◌+◌, ◌-◌, ◌^◌, length}
 use Rattle.std.specs.Prelude.{Result}
 use Rattle.st_install.specs.Defining.{installed}
-use Rattle.st_kernel_text.specs.Views.{parts_of}
+use Rattle.st_kernel_text.specs.inside.Views.{parts_of}
 use Rattle.st_kernel_text.specs.Definitions.{AreDefinitions}
 use Rattle.st_kernel.specs.Built.{Built, Fault, no_side}
-use Rattle.st_kernel.specs.Following.{side_in, IsUnderway, IsQuiet}
+use Rattle.st_kernel.specs.inside.Following.{side_in, IsUnderway, IsQuiet}
 use Rattle.st_kernel.proofs.following.follow.Given as goal
 
 -- what is left comes to what the whole text comes to

@@ -1,8 +1,8 @@
 use Rattle.std.proofs.Common.{rules, ◌≡◌, ◌∷◌, ◌+◌, Err, sym, subst}
 use Rattle.st_install.specs.Defining.{installed}
 use Rattle.st_kernel_text.specs.Parts.{header, method}
-use Rattle.st_kernel_text.specs.Views.{part_of, side_of}
-use Rattle.st_kernel.specs.Following.{side_in, IsUnderway, GoesOn}
+use Rattle.st_kernel_text.specs.inside.Views.{part_of, side_of}
+use Rattle.st_kernel.specs.inside.Following.{side_in, IsUnderway, GoesOn}
 use Rattle.st_kernel.proofs.Underway.{header_passed, plain_passed}
 use Rattle.st_kernel.proofs.part.follow_part.Goals as goal
 

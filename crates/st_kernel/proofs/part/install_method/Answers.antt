@@ -1,7 +1,7 @@
 use Rattle.st_model.specs.Objects.{nil}
 use Rattle.st_model.specs.Machine.{empty_world}
 use Rattle.st_install.specs.Defining.{installed}
-use Rattle.st_kernel.specs.Following.{side_in, idle_frame}
+use Rattle.st_kernel.specs.inside.Following.{side_in, idle_frame}
 use Rattle.st_kernel.proofs.Underway.{installs_idle, accepted, refused}
 use Rattle.st_kernel.proofs.part.install_method.Goals as goal
 

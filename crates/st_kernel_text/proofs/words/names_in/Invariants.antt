@@ -1,7 +1,7 @@
 use Rattle.std.proofs.Common.{◌≡◌, ◌++◌, List, ℕ, length}
 use Rattle.std.specs.Option.{option_map}
 use Rattle.st_kernel_text.specs.Words.{words, names_in}
-use Rattle.st_kernel_text.specs.Lists.{texts_of}
+use Rattle.st_kernel_text.specs.inside.Lists.{texts_of}
 use Rattle.st_kernel_text.proofs.words.names_in.Given as goal
 
 -- the names so far stand before those of the rest

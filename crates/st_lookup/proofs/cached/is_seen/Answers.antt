@@ -5,9 +5,9 @@ use Rattle.st_model.specs.Values.{Value, value, word}
 use Rattle.st_model.specs.Machine.{Went}
 use Rattle.st_model.specs.Lookup.{find}
 use Rattle.st_model.specs.Table.{bounded_table}
-use Rattle.st_model.specs.Calls.{Reads}
-use Rattle.st_lookup.specs.Places.{found_word}
-use Rattle.st_lookup.specs.Remembered.{watched}
+use Rattle.st_model.specs.inside.Calls.{Reads}
+use Rattle.st_lookup.specs.inside.Places.{found_word}
+use Rattle.st_lookup.specs.inside.Remembered.{watched}
 use Rattle.st_memory.proofs.Unbounded.{search_bounded}
 use Rattle.st_lookup.proofs.cached.is_seen.Goals as goal
 use Rattle.st_model.proofs.SameValues.{value_same}

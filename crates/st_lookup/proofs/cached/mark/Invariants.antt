@@ -1,4 +1,4 @@
-use Rattle.st_lookup.specs.Remembered.{Grows}
+use Rattle.st_lookup.specs.inside.Remembered.{Grows}
 use Rattle.st_lookup.proofs.cached.mark.Given as goal
 
 abbrev pub invariant-loop : goal.invariant-loop

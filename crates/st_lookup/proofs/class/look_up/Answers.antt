@@ -2,8 +2,8 @@ use Rattle.std.proofs.Common.{◌≡◌, ◌-◌, ◌∙◌, sym, Option, Ok, Er
 use Rattle.st_model.specs.declared.word.Word.{Word}
 use Rattle.st_model.specs.Values.{word}
 use Rattle.st_model.specs.Lookup.{method_in_class}
-use Rattle.st_model.specs.Calls.{Reads}
-use Rattle.st_lookup.specs.Places.{found_word}
+use Rattle.st_model.specs.inside.Calls.{Reads}
+use Rattle.st_lookup.specs.inside.Places.{found_word}
 use Rattle.st_lookup.proofs.Chain.{LeftClasses, some_left, all_classes, chain_ends, chain_dies, class_dies, class_has, above_dies, above_left}
 use Rattle.st_lookup.proofs.class.look_up.Goals as goal
 

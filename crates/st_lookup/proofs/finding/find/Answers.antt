@@ -3,8 +3,8 @@ use Rattle.st_model.specs.declared.word.Word.{Word}
 use Rattle.st_model.specs.Values.{word}
 use Rattle.st_model.specs.Lookup.{find}
 use Rattle.st_model.specs.Table.{bounded_table}
-use Rattle.st_model.specs.Calls.{Reads}
-use Rattle.st_lookup.specs.Places.{found_word}
+use Rattle.st_model.specs.inside.Calls.{Reads}
+use Rattle.st_lookup.specs.inside.Places.{found_word}
 use Rattle.st_lookup.proofs.Pointers.{dies, finds_none, finds, finds_live}
 use Rattle.st_lookup.proofs.finding.find.Goals as goal
 

@@ -1,7 +1,7 @@
 use Rattle.std.proofs.Common.{◌≡◌, rules, Ok, Err, arith, subst}
 use Rattle.st_model.specs.Values.{word}
 use Rattle.st_lookup.specs.declared.places.Search.{Search}
-use Rattle.st_lookup.specs.Places.{LooksAt}
+use Rattle.st_lookup.specs.inside.Places.{LooksAt}
 use Rattle.st_lookup.proofs.Searching.{all_left, ends_left, dies_left, goes_on_left, no_left}
 use Rattle.st_lookup.proofs.places.look_at_places.Goals as goal
 

@@ -1,7 +1,7 @@
 use Rattle.std.proofs.Common.{◌≡◌, ◌-◌, rules, Ok, Err, arith, subst}
 use Rattle.st_model.specs.Values.{word}
 use Rattle.st_lookup.specs.declared.places.Search.{Search}
-use Rattle.st_lookup.specs.Places.{LooksFrom}
+use Rattle.st_lookup.specs.inside.Places.{LooksFrom}
 use Rattle.st_lookup.proofs.Searching.{ends_first, dies_first, ends_second, dies_second, ends_never}
 use Rattle.st_lookup.proofs.places.search_from.Goals as goal
 

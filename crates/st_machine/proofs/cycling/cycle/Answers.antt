@@ -1,8 +1,8 @@
 use Rattle.std.proofs.Common.{rules, ◌≡◌, Err, sym, subst}
-use Rattle.st_model.specs.Foreseen.{foreseen_cycle}
-use Rattle.st_model.specs.Calls.{transition_of}
-use Rattle.st_frames.specs.Shown.{shown}
-use Rattle.st_machine.specs.Runs.{ending_of}
+use Rattle.st_model.specs.inside.Foreseen.{foreseen_cycle}
+use Rattle.st_model.specs.inside.Calls.{transition_of}
+use Rattle.st_frames.specs.inside.Shown.{shown}
+use Rattle.st_machine.specs.inside.Runs.{ending_of}
 use Rattle.st_machine.proofs.Foreseeing.{from_switch, switch_dies}
 use Rattle.st_machine.proofs.cycling.cycle.Goals as goal
 

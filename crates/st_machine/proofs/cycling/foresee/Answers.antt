@@ -4,10 +4,10 @@ use Rattle.st_model.specs.Outcomes.{Space, outcome_of}
 use Rattle.st_model.specs.Machine.{Went}
 use Rattle.st_model.specs.Table.{table}
 use Rattle.st_model.specs.Settled.{reclaim}
-use Rattle.st_frames.specs.Shown.{shown}
-use Rattle.st_model.specs.Calls.{transition_of}
-use Rattle.st_machine.specs.Cycling.{foreseen_step}
-use Rattle.st_machine.specs.Runs.{ending_of}
+use Rattle.st_frames.specs.inside.Shown.{shown}
+use Rattle.st_model.specs.inside.Calls.{transition_of}
+use Rattle.st_machine.specs.inside.Cycling.{foreseen_step}
+use Rattle.st_machine.specs.inside.Runs.{ending_of}
 use Rattle.st_machine.proofs.Foreseeing.{cycle_dies, cycle_space, cycle_done, not_over, over}
 use Rattle.st_machine.proofs.cycling.foresee.Goals as goal
 

@@ -1,5 +1,5 @@
 use Rattle.std.proofs.Common.{sym, subst}
-use Rattle.st_frames.specs.Shown.{shown}
+use Rattle.st_frames.specs.inside.Shown.{shown}
 use Rattle.st_machine.specs.Prepared.{prepared, PreparedAs}
 use Rattle.st_machine.proofs.Prepares.{prepared_by}
 use Rattle.st_machine.proofs.preparing.prepare.Goals as goal

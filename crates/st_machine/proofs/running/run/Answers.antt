@@ -1,7 +1,7 @@
 use Rattle.std.proofs.Common.{◌≡◌, ◌+◌, ◌<◌, sym, subst, arith}
-use Rattle.st_frames.specs.Shown.{shown, IsReady}
+use Rattle.st_frames.specs.inside.Shown.{shown, IsReady}
 use Rattle.st_machine.specs.declared.ending.RunEnd.TheVariants as ending
-use Rattle.st_machine.specs.Runs.{EndsAs}
+use Rattle.st_machine.specs.inside.Runs.{EndsAs}
 use Rattle.st_machine.proofs.Runs.{none_so_far, next_after, ends_here, goes_further, ran_all, run_counts, goes_ok, lives_ok}
 use Rattle.st_machine.proofs.running.run.Goals as goal
 

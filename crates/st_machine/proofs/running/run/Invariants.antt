@@ -2,8 +2,8 @@ use Rattle.std.proofs.Common.{◌≤◌, ◌-◌}
 use Rattle.st_model.specs.Machine.{State}
 use Rattle.st_model.specs.Births.{Births}
 use Rattle.st_model.specs.Show.{Shows}
-use Rattle.st_frames.specs.Shown.{shown, IsReady}
-use Rattle.st_machine.specs.Strides.{SoFar}
+use Rattle.st_frames.specs.inside.Shown.{shown, IsReady}
+use Rattle.st_machine.specs.inside.Strides.{SoFar}
 use Rattle.st_machine.proofs.running.run.Given as goal
 
 -- what was shown at the start is shown after the cycles so far

@@ -1,8 +1,8 @@
 use Rattle.std.proofs.Common.{rules, ◌≡◌, Err, sym, subst}
 use Rattle.st_model.specs.Births.{births}
 use Rattle.st_model.specs.Saving.{save}
-use Rattle.st_frames.specs.Shown.{shown}
-use Rattle.st_machine.specs.Asked.{SavedAs}
+use Rattle.st_frames.specs.inside.Shown.{shown}
+use Rattle.st_machine.specs.inside.Asked.{SavedAs}
 use Rattle.st_frames.proofs.Settled.{settled_same}
 use Rattle.st_machine.proofs.Asked.{save_dies, saved}
 use Rattle.st_machine.proofs.saving.save.Goals as goal

@@ -1,8 +1,8 @@
 use Rattle.std.proofs.Common.{rules, ◌≡◌, ◌-◌, ◌+◌, ℕ, suc, Err, sym, subst, ap, ◌∙◌, arith, length}
 use Rattle.st_model.specs.Table.{bounded_table}
 use Rattle.st_model.specs.Cycles.{signal_newest}
-use Rattle.st_model.specs.Calls.{Does, itself}
-use Rattle.st_frames.specs.Shown.{shown}
+use Rattle.st_model.specs.inside.Calls.{Does, itself}
+use Rattle.st_frames.specs.inside.Shown.{shown}
 use Rattle.st_machine.proofs.Done.{newest_first, newest_dies, none_left}
 use Rattle.st_machine.proofs.signals.signal_newest.Goals as goal
 

@@ -1,7 +1,7 @@
 use Rattle.std.proofs.Common.{◌≡◌, ◌-◌, ◌≤◌, length}
 use Rattle.st_model.specs.Table.{bounded_table}
 use Rattle.st_model.specs.Cycles.{signal_newest}
-use Rattle.st_frames.specs.Shown.{IsReady, shown}
+use Rattle.st_frames.specs.inside.Shown.{IsReady, shown}
 use Rattle.st_machine.proofs.signals.signal_newest.Given as goal
 
 -- what is left to be done from here is what was to be done from the start

@@ -3,7 +3,7 @@ use Rattle.st_model.specs.Values.{value}
 use Rattle.st_model.specs.Machine.{World}
 use Rattle.st_model.specs.Table.{bounded_table}
 use Rattle.st_model.specs.Processes.{signal}
-use Rattle.st_frames.specs.Shown.{shown}
+use Rattle.st_frames.specs.inside.Shown.{shown}
 use Rattle.st_machine.proofs.Done.{next_made, next_none}
 use Rattle.st_machine.proofs.signals.signal_next.Goals as goal
 

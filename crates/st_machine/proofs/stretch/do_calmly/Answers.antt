@@ -5,15 +5,15 @@ use Rattle.st_model.specs.Deeds.{with_deed}
 use Rattle.st_model.specs.Cycles.{free_space}
 use Rattle.st_model.specs.Table.{Table, table, bounded_table}
 use Rattle.st_model.specs.View.{View}
-use Rattle.st_frames.specs.Rows.{row_state}
-use Rattle.st_frames.specs.Shown.{shown}
+use Rattle.st_frames.specs.inside.Rows.{row_state}
+use Rattle.st_frames.specs.inside.Shown.{shown}
 use Rattle.st_frames.proofs.Stored.{loaded}
 use Rattle.st_at_once.specs.declared.ending.RowEnd.TheVariants.{Stays}
-use Rattle.st_at_once.specs.AtOnce.{was_done, deed_left, GoesOn, step_at_once}
+use Rattle.st_at_once.specs.inside.AtOnce.{was_done, deed_left, GoesOn, step_at_once}
 use Rattle.st_at_once.proofs.Fixed.{same_name}
 use Rattle.st_at_once.proofs.OverMemory.{quick_dies, left_there, left_held, left_kept}
 use Rattle.st_machine.specs.declared.stretch.StretchEnd.TheVariants.{Warns}
-use Rattle.st_machine.specs.Cycling.{GoesCalmly, warns}
+use Rattle.st_machine.specs.inside.Cycling.{GoesCalmly, warns}
 use Rattle.st_machine.proofs.Calm.{calmly_finished}
 use Rattle.st_machine.proofs.Foreseeing.{dies_at_once, goes_by}
 use Rattle.st_machine.proofs.stretch.do_calmly.Goals as goal

@@ -1,7 +1,7 @@
 use Rattle.std.proofs.Common.{rules, ◌≡◌, Ok, Err, Some, None, refl, sym, subst, ap, ◌∙◌}
-use Rattle.st_frames.specs.Shown.{shown, IsReady}
-use Rattle.st_machine.specs.Cycling.{GoesCalmly}
-use Rattle.st_machine.specs.Strides.{SoFar, StretchEnds}
+use Rattle.st_frames.specs.inside.Shown.{shown, IsReady}
+use Rattle.st_machine.specs.inside.Cycling.{GoesCalmly}
+use Rattle.st_machine.specs.inside.Strides.{SoFar, StretchEnds}
 use Rattle.st_machine.proofs.Runs.{none_so_far}
 use Rattle.st_machine.proofs.Strides.{calm_goes, calm_dies, calm_ends}
 use Rattle.st_machine.proofs.stretch.go_on.Goals as goal

@@ -2,9 +2,9 @@ use Rattle.std.proofs.Common.{◌≡◌}
 use Rattle.st_model.specs.Machine.{State}
 use Rattle.st_model.specs.Births.{Births}
 use Rattle.st_model.specs.Show.{Shows}
-use Rattle.st_frames.specs.Rows.{registers_in}
-use Rattle.st_frames.specs.Shown.{shown, registers_of, IsReady}
-use Rattle.st_machine.specs.Strides.{SoFar}
+use Rattle.st_frames.specs.inside.Rows.{registers_in}
+use Rattle.st_frames.specs.inside.Shown.{shown, registers_of, IsReady}
+use Rattle.st_machine.specs.inside.Strides.{SoFar}
 use Rattle.st_machine.proofs.stretch.go_on.Given as goal
 
 -- what was shown at the start is shown after the cycles so far, the registers are those of the frame, and the memory is the one that

@@ -1,6 +1,6 @@
 use Rattle.std.proofs.Common.{sym}
-use Rattle.st_frames.specs.Shown.{shown}
-use Rattle.st_machine.specs.Cycling.{IsCalm}
+use Rattle.st_frames.specs.inside.Shown.{shown}
+use Rattle.st_machine.specs.inside.Cycling.{IsCalm}
 use Rattle.st_machine.proofs.Runs.{none_so_far}
 use Rattle.st_machine.proofs.Strides.{ready_next, after_stretch}
 use Rattle.st_machine.proofs.stride.advance.Goals as goal

@@ -1,5 +1,5 @@
 use Rattle.std.proofs.Common.{rules, ◌≡◌, Err, ◌∙◌}
-use Rattle.st_frames.specs.Shown.{shown, registers_of}
+use Rattle.st_frames.specs.inside.Shown.{shown, registers_of}
 use Rattle.st_machine.proofs.Done.{not_switched, not_stored, stored, fetched_bounded}
 use Rattle.st_machine.proofs.switch_saving.store_process.Goals as goal
 

@@ -1,5 +1,5 @@
 use Rattle.std.proofs.Common.{rules, ◌≡◌, Err, sym, ◌∙◌}
-use Rattle.st_frames.specs.Shown.{shown}
+use Rattle.st_frames.specs.inside.Shown.{shown}
 use Rattle.st_machine.proofs.Done.{signals_die, signals_made, quiet_goes}
 use Rattle.st_machine.proofs.switching.check_process_switch.Goals as goal
 

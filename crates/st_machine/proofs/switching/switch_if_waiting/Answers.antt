@@ -2,7 +2,7 @@ use Rattle.std.proofs.Common.{sym, ap, ◌∙◌}
 use Rattle.st_model.specs.Values.{Value}
 use Rattle.st_model.specs.Table.{bounded_table}
 use Rattle.st_model.specs.Processes.{switch_to_process}
-use Rattle.st_frames.specs.Shown.{shown}
+use Rattle.st_frames.specs.inside.Shown.{shown}
 use Rattle.st_machine.proofs.Done.{waits, waits_not}
 use Rattle.st_machine.proofs.switching.switch_if_waiting.Goals as goal
 

@@ -4,7 +4,7 @@ use Rattle.st_model.specs.Machine.{State, Went}
 use Rattle.st_model.specs.Table.{Table, bounded_table}
 use Rattle.st_model.specs.Processes.{enter_process}
 use Rattle.st_model.specs.View.{View}
-use Rattle.st_frames.specs.Shown.{shown}
+use Rattle.st_frames.specs.inside.Shown.{shown}
 use Rattle.st_machine.proofs.Done.{row_dies, row_ends, switched, not_left, there_after, held_again}
 use Rattle.st_machine.proofs.switching.switch_to.Goals as goal
 

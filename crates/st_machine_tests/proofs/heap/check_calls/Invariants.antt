@@ -1,5 +1,5 @@
-use Rattle.st_heap.specs.Blocks.{IsTied}
-use Rattle.st_heap.specs.Heaps.{blocks_of}
+use Rattle.st_heap.specs.inside.Blocks.{IsTied}
+use Rattle.st_heap.specs.inside.Heaps.{blocks_of}
 use Rattle.st_machine_tests.proofs.heap.check_calls.Given as goal
 
 -- owners and entries are tied

@@ -1,5 +1,5 @@
 use Rattle.std.proofs.Common.{◌≡◌, None}
-use Rattle.st_frames.specs.Shown.{IsReady}
+use Rattle.st_frames.specs.inside.Shown.{IsReady}
 use Rattle.st_machine_tests.proofs.machines.check_calls.Given as goal
 
 -- a machine that is alive is ready

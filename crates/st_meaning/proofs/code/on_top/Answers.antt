@@ -1,7 +1,7 @@
 use Rattle.std.proofs.Common.{List, sym, ap, ◌∙◌, subst}
 use Rattle.std.specs.Prelude.{IfOk}
 use Rattle.st_meaning.specs.declared.deed.Value.{Value}
-use Rattle.st_meaning.specs.Courses.{top_walked, Does}
+use Rattle.st_meaning.specs.inside.Courses.{top_walked, Does}
 use Rattle.st_meaning.proofs.Stacks.{top_none}
 use Rattle.st_meaning.proofs.code.on_top.Goals as goal
 

@@ -1,7 +1,7 @@
 use Rattle.std.proofs.Common.{sym, ap, ◌∙◌, subst}
 use Rattle.std.specs.Prelude.{IfOk, ◌∷◌}
 use Rattle.st_meaning.specs.declared.code.Top.{Top}
-use Rattle.st_meaning.specs.Courses.{top_walked, stack_view, Does}
+use Rattle.st_meaning.specs.inside.Courses.{top_walked, stack_view, Does}
 use Rattle.st_meaning.proofs.Stacks.{top_stored, top_doubled}
 use Rattle.st_meaning.proofs.code.on_value.Goals as goal
 

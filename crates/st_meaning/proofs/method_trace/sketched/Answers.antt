@@ -1,7 +1,7 @@
 use Rattle.std.proofs.Common.{ap, ◌∙◌}
 use Rattle.st_scan.specs.Views.{method_view, statements_view}
 use Rattle.st_emit.specs.declared.names.Around.{Around}
-use Rattle.st_emit.specs.NameViews.{names_view, scope_view}
+use Rattle.st_emit.specs.inside.NameViews.{names_view, scope_view}
 use Rattle.st_meaning.proofs.WholeTrace.{declared_is, few_is, sketch_is}
 use Rattle.st_meaning.proofs.method_trace.sketched.Goals as goal
 

@@ -1,12 +1,12 @@
 use Rattle.std.proofs.Common.{◌≡◌, ◌+◌, List, Err, length, refl, sym, ◌∙◌, subst, rules}
 use Rattle.st_scan.specs.Views.{method_view}
-use Rattle.st_emit.specs.NameViews.{names_view}
+use Rattle.st_emit.specs.inside.NameViews.{names_view}
 use Rattle.st_emit.proofs.Forms.{names_many}
 use Rattle.st_meaning.specs.declared.arena.Node.{Node}
-use Rattle.st_meaning.specs.Deeds.{answers_view, deeds_view}
-use Rattle.st_meaning.specs.Meanings.{Trace}
-use Rattle.st_meaning.specs.Courses.{going_view}
-use Rattle.st_meaning.specs.Traced.{IsOver, IsCut, method_in}
+use Rattle.st_meaning.specs.inside.Deeds.{answers_view, deeds_view}
+use Rattle.st_meaning.specs.inside.Meanings.{Trace}
+use Rattle.st_meaning.specs.inside.Courses.{going_view}
+use Rattle.st_meaning.specs.inside.Traced.{IsOver, IsCut, method_in}
 use Rattle.st_meaning.proofs.Stepping.{faults_so}
 use Rattle.st_meaning.proofs.WholeTrace.{begun_with, trace_is, lists_over, trace_long}
 use Rattle.st_meaning.proofs.method_trace.trace.Goals as goal

@@ -6,22 +6,22 @@ use Rattle.st_scan.specs.declared.tree.Message.{Message as Sent}
 use Rattle.st_scan.specs.declared.tree.Statement.{Statement}
 use Rattle.st_scan.specs.declared.chain.Link.{Link}
 use Rattle.st_scan.specs.Views.{ExpressionView, expression_view, expressions_view, messages_view, statements_view, is_super}
-use Rattle.st_scan.specs.Chains.{linked, link_view, links_view, with_link}
+use Rattle.st_scan.specs.inside.Chains.{linked, link_view, links_view, with_link}
 use Rattle.st_scan.proofs.Chains.{linked_take, link_within, chain_within}
 use Rattle.st_emit.specs.Nodes.{sided, loop, node, nothing, returned, is_above}
 use Rattle.st_emit.specs.Resolving.{by_selector, before, names_in, names_in_all, names_in_messages, names_in_statements, expression_node, plain_tail}
-use Rattle.st_emit.specs.Drafts.{Resolves}
-use Rattle.st_emit.specs.Around.{context, at_number, message_of, link_tail}
-use Rattle.st_emit.specs.Emits.{chained, after, after_all, after_statements}
-use Rattle.st_emit.specs.Shapes.{plain, one_sided, two_sided, repetition_view, repetition_of, first_repetition}
+use Rattle.st_emit.specs.inside.Drafts.{Resolves}
+use Rattle.st_emit.specs.inside.Around.{context, at_number, message_of, link_tail}
+use Rattle.st_emit.specs.inside.Emits.{chained, after, after_all, after_statements}
+use Rattle.st_emit.specs.inside.Shapes.{plain, one_sided, two_sided, repetition_view, repetition_of, first_repetition}
 use Rattle.st_emit.proofs.Follow.{names_behind, super_at, no_loop_at}
 use Rattle.st_meaning.specs.declared.arena.Statements.{Statements}
 use Rattle.st_meaning.specs.declared.arena.Message.{Message}
 use Rattle.st_meaning.specs.declared.arena.Act.{Act}
 use Rattle.st_meaning.specs.declared.arena.Act.TheVariants.{Assign, Send, One}
 use Rattle.st_meaning.specs.declared.arena.Start.TheVariants.{Loop}
-use Rattle.st_meaning.specs.Meant.{IsNode, IsStart, IsChain, IsAct, IsArguments, IsMessage, IsMessages, IsBehind, IsBody}
-use Rattle.st_meaning.specs.Sketches.{literals_of, Builds, node_naming, chain_naming, begun_naming, arguments_naming, message_naming, cascade_naming, messages_naming, sent_naming, link_naming, body_naming, two_naming, loop_naming}
+use Rattle.st_meaning.specs.inside.Meant.{IsNode, IsStart, IsChain, IsAct, IsArguments, IsMessage, IsMessages, IsBehind, IsBody}
+use Rattle.st_meaning.specs.inside.Sketches.{literals_of, Builds, node_naming, chain_naming, begun_naming, arguments_naming, message_naming, cascade_naming, messages_naming, sent_naming, link_naming, body_naming, two_naming, loop_naming}
 use Rattle.st_meaning.proofs.Meant.{chain_none, arguments_none, arguments_one, messages_none, messages_one, behind_none, behind_before, behind_returned, behind_body, one_is, loop_is}
 use Rattle.st_meaning.proofs.Shaped.{begins_loop}
 use Rattle.st_meaning.proofs.Sketching.{GoesOn, goes_first, goes_turn, goes_done, goes_last, drop_item, builds_then, builds_as, builds_map, assign_built, builds_put, message_built, plain_built, shaped_built, two_built, true_first, false_first, empty_built, cascade_built, only_built, link_built, statement_kept, statement_returned, kept_names, last_names, ok_weaker}

@@ -3,12 +3,12 @@ use denote.Param.Weighed.{most}
 use Rattle.st_scan.specs.declared.tree.Expression.{size-Expression}
 use Rattle.st_scan.specs.declared.tree.Message.{size-Message}
 use Rattle.st_scan.specs.declared.tree.Statement.{size-Statement}
-use Rattle.st_scan.specs.Chains.{link_size, links_size}
-use Rattle.st_emit.specs.Around.{at_number}
+use Rattle.st_scan.specs.inside.Chains.{link_size, links_size}
+use Rattle.st_emit.specs.inside.Around.{at_number}
 use Rattle.st_emit.specs.Nodes.{is_above}
-use Rattle.st_emit.specs.Emits.{after_all, after_messages, after_statements, after_begun}
-use Rattle.st_meaning.specs.Meant.{IsArguments, IsMessages, IsBehind, IsChain}
-use Rattle.st_meaning.specs.Sketches.{arguments_naming, cascade_naming, body_naming, begun_naming, Builds}
+use Rattle.st_emit.specs.inside.Emits.{after_all, after_messages, after_statements, after_begun}
+use Rattle.st_meaning.specs.inside.Meant.{IsArguments, IsMessages, IsBehind, IsChain}
+use Rattle.st_meaning.specs.inside.Sketches.{arguments_naming, cascade_naming, body_naming, begun_naming, Builds}
 use Rattle.st_meaning.proofs.Sketching.{GoesOn}
 use Rattle.st_meaning.proofs.sketch.+sketching.Given as goal
 

@@ -1,7 +1,7 @@
 use Rattle.std.proofs.Common.{refl, ap, ◌∙◌}
 use Rattle.st_scan.specs.Views.{expression_view, statements_view, names_view}
 use Rattle.st_scan.proofs.Views.{expression_view-block}
-use Rattle.st_emit.specs.Around.{context}
+use Rattle.st_emit.specs.inside.Around.{context}
 use Rattle.st_meaning.proofs.Sketching.{block_built}
 use Rattle.st_meaning.proofs.sketch.begun.Goals as goal
 

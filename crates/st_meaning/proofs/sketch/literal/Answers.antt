@@ -1,6 +1,6 @@
 use Rattle.std.proofs.Common.{◌≡◌, refl, subst}
 use Rattle.st_emit.specs.Literals.{LiteralView, named_literal}
-use Rattle.st_emit.specs.Drafts.{Resolves}
+use Rattle.st_emit.specs.inside.Drafts.{Resolves}
 use Rattle.st_meaning.proofs.Sketching.{content_built}
 use Rattle.st_meaning.proofs.sketch.literal.Goals as goal
 

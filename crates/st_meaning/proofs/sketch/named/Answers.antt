@@ -4,11 +4,11 @@ use Rattle.st_emit.specs.declared.step.Constant.{Constant as Name}
 use Rattle.st_emit.specs.Names.{constant_named}
 use Rattle.st_emit.specs.Nodes.{constant}
 use Rattle.st_emit.specs.Resolving.{constant_or, place_of_name, name_node}
-use Rattle.st_emit.specs.Around.{context}
+use Rattle.st_emit.specs.inside.Around.{context}
 use Rattle.st_meaning.specs.declared.deed.Value.{Value}
 use Rattle.st_meaning.specs.declared.arena.Start.TheVariants.{Known}
-use Rattle.st_meaning.specs.Runs.{gives}
-use Rattle.st_meaning.specs.Meant.{IsStart}
+use Rattle.st_meaning.specs.inside.Runs.{gives}
+use Rattle.st_meaning.specs.inside.Meant.{IsStart}
 use Rattle.st_meaning.proofs.Sketching.{builds_given, named_built}
 use Rattle.st_meaning.proofs.sketch.named.Goals as goal
 

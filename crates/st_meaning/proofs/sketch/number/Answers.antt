@@ -2,8 +2,8 @@ use Rattle.std.proofs.Common.{◌≡◌, ℕ, Option, None, refl, sym, subst, ru
 use Rattle.st_emit.specs.Literals.{number, small_number}
 use Rattle.st_emit.specs.Resolving.{small_or}
 use Rattle.st_meaning.specs.declared.arena.Start.TheVariants.{Known}
-use Rattle.st_meaning.specs.Meant.{IsStart}
-use Rattle.st_meaning.specs.Sketches.{Builds}
+use Rattle.st_meaning.specs.inside.Meant.{IsStart}
+use Rattle.st_meaning.specs.inside.Sketches.{Builds}
 use Rattle.st_meaning.proofs.Sketching.{literal_built}
 use Rattle.st_meaning.proofs.sketch.number.Goals as goal
 

@@ -6,11 +6,11 @@ use Rattle.st_meaning.specs.declared.arena.Start.{Start}
 use Rattle.st_meaning.specs.declared.arena.Act.{Act}
 use Rattle.st_meaning.specs.declared.arena.Message.{Message}
 use Rattle.st_meaning.specs.declared.tracing.TurnEnd.{TurnEnd}
-use Rattle.st_meaning.specs.Runs.{long, answer_to, assign_to, make_block}
-use Rattle.st_meaning.specs.Meanings.{most}
-use Rattle.st_meaning.specs.Courses.{going_view, stack_view, IsLongTest}
-use Rattle.st_meaning.specs.Arenas.{act_run, message_run, left, runs_of}
-use Rattle.st_meaning.specs.Traced.{IsCut, IsTurnCut, IsRepeatCut, EndsTurn, node_in, start_in, acts_in, act_in, messages_in, message_in, arguments_in, nodes_in, body_in, sided_in, chosen_in, loop_in}
+use Rattle.st_meaning.specs.inside.Runs.{long, answer_to, assign_to, make_block}
+use Rattle.st_meaning.specs.inside.Meanings.{most}
+use Rattle.st_meaning.specs.inside.Courses.{going_view, stack_view, IsLongTest}
+use Rattle.st_meaning.specs.inside.Arenas.{act_run, message_run, left, runs_of}
+use Rattle.st_meaning.specs.inside.Traced.{IsCut, IsTurnCut, IsRepeatCut, EndsTurn, node_in, start_in, acts_in, act_in, messages_in, message_in, arguments_in, nodes_in, body_in, sided_in, chosen_in, loop_in}
 use Rattle.st_meaning.proofs.Continuing.{faulted, still_long}
 use Rattle.st_meaning.proofs.Arenas.{each_went, each_over, each_cut, each_end}
 use Rattle.st_meaning.proofs.Following.{no_node, node_is, behind_goes, behind_long, behind_none, behind_cut, long_cut, goes_so, long_so, some_went, none_over, message_is, message_over, message_cut, tested, untested, sided_is, sided_over, sided_cut, chosen_is, chosen_over, chosen_cut, ended_is, ended_over, ended_cut, turn_left, turn_over, turn_unsure, turn_again, turn_cut, turn_test_cut, turn_again_cut, again_back, again_over, again_cut, again_long, turned_again, turned_left, turned_over, turned_cut, no_turn, returned_over, returned_long}

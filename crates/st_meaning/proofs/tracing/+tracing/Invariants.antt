@@ -1,9 +1,9 @@
 use Rattle.std.proofs.Common.{◌≡◌, ◌+◌, ◌*◌, ◌∷◌, drop, length}
-use Rattle.st_meaning.specs.Meanings.{most}
-use Rattle.st_meaning.specs.Courses.{going_view, stack_view, IsSound}
-use Rattle.st_meaning.specs.Arenas.{each, place_run, act_run, message_run, runs_of}
-use Rattle.st_meaning.specs.Traced.{acts_in, messages_in, arguments_in, nodes_in, loop_in, body_in}
-use Rattle.st_meaning.specs.Traces.{turns}
+use Rattle.st_meaning.specs.inside.Meanings.{most}
+use Rattle.st_meaning.specs.inside.Courses.{going_view, stack_view, IsSound}
+use Rattle.st_meaning.specs.inside.Arenas.{each, place_run, act_run, message_run, runs_of}
+use Rattle.st_meaning.specs.inside.Traced.{acts_in, messages_in, arguments_in, nodes_in, loop_in, body_in}
+use Rattle.st_meaning.specs.inside.Traces.{turns}
 use Rattle.st_meaning.proofs.tracing.+tracing.Given as goal
 
 abbrev pub decreases-node : goal.decreases-node

@@ -1,10 +1,10 @@
 use Rattle.std.proofs.Common.{◌≡◌, true, false, Err, rules}
 use Rattle.st_emit.specs.declared.step.Constant.TheVariants.{Receiver}
-use Rattle.st_meaning.specs.Values.{constant_value}
-use Rattle.st_meaning.specs.Courses.{going_view}
-use Rattle.st_meaning.specs.Meanings.{most}
-use Rattle.st_meaning.specs.Arenas.{runs_of, method_end}
-use Rattle.st_meaning.specs.Traced.{IsCut, nodes_in, method_in}
+use Rattle.st_meaning.specs.inside.Values.{constant_value}
+use Rattle.st_meaning.specs.inside.Courses.{going_view}
+use Rattle.st_meaning.specs.inside.Meanings.{most}
+use Rattle.st_meaning.specs.inside.Arenas.{runs_of, method_end}
+use Rattle.st_meaning.specs.inside.Traced.{IsCut, nodes_in, method_in}
 use Rattle.st_meaning.proofs.Following.{some_went, none_over, ended_is, ended_over, ended_cut, return_goes, return_faults}
 use Rattle.st_meaning.proofs.Continuing.{faulted}
 use Rattle.st_meaning.proofs.tracing.method.Goals as goal

@@ -1,10 +1,10 @@
 use Rattle.std.proofs.Common.{◌≡◌, ℕ, List, Some, drop, refl, ap, ◌∙◌, rules}
 use Rattle.std.proofs.lemmas.List.{take_rest}
 use Rattle.st_resolved.specs.Instructions.{instruction}
-use Rattle.st_code.specs.MethodDrafts.{parts_view}
-use Rattle.st_meaning.specs.Codes.{walk_code}
-use Rattle.st_meaning.specs.Walks.{values_of}
-use Rattle.st_meaning.specs.Courses.{held_of, stack_view, walked_view}
+use Rattle.st_code.specs.inside.MethodDrafts.{parts_view}
+use Rattle.st_meaning.specs.inside.Codes.{walk_code}
+use Rattle.st_meaning.specs.inside.Walks.{values_of}
+use Rattle.st_meaning.specs.inside.Courses.{held_of, stack_view, walked_view}
 use Rattle.st_meaning.proofs.Numbers.{found_short}
 use Rattle.st_meaning.proofs.Continuing.{found_goes, found_faults}
 use Rattle.st_meaning.proofs.walking.advance.Goals as goal

@@ -1,8 +1,8 @@
 use Rattle.std.proofs.Common.{◌≡◌, ℕ, ◌==◌, true, Option, Some, None, Err, length, rules}
 use Rattle.st_meaning.specs.declared.code.Walked.TheVariants.{Went, Stored, Sent, Copied, Returned, Ahead, Back, Tested, Stuck}
-use Rattle.st_meaning.specs.Runs.{long, assign_to, answer_to, make_block}
-use Rattle.st_meaning.specs.Meanings.{most}
-use Rattle.st_meaning.specs.Courses.{going_view, becomes, IsTooLong, IsLongJump}
+use Rattle.st_meaning.specs.inside.Runs.{long, assign_to, answer_to, make_block}
+use Rattle.st_meaning.specs.inside.Meanings.{most}
+use Rattle.st_meaning.specs.inside.Courses.{going_view, becomes, IsTooLong, IsLongJump}
 use Rattle.st_meaning.proofs.Continuing.{faulted, still_long, along, along_long, went_on, stored_on, stored_long, sent_on, sent_long, copied_on, copied_long, returned_over, returned_long, ahead_on, back_on, back_long, stuck_there}
 use Rattle.st_meaning.proofs.walking.done.Goals as goal
 

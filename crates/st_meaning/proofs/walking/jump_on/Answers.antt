@@ -1,5 +1,5 @@
 use Rattle.std.proofs.Common.{Bool, Option, Some, ap, ◌∙◌, subst}
-use Rattle.st_meaning.specs.Courses.{Tests}
+use Rattle.st_meaning.specs.inside.Courses.{Tests}
 use Rattle.st_meaning.proofs.Continuing.{tested_ahead, tested_on}
 use Rattle.st_meaning.proofs.walking.jump_on.Goals as goal
 

@@ -1,6 +1,6 @@
 use Rattle.std.proofs.Common.{◌≡◌, ◌==◌, Bool, true, false, Option, Some, None, Err, length, sym, ap, ◌∙◌, rules}
-use Rattle.st_meaning.specs.Meanings.{most}
-use Rattle.st_meaning.specs.Courses.{boolean, IsLongTest}
+use Rattle.st_meaning.specs.inside.Meanings.{most}
+use Rattle.st_meaning.specs.inside.Courses.{boolean, IsLongTest}
 use Rattle.st_meaning.proofs.Continuing.{on_true, on_false, on_none, on_none_long, faulted}
 use Rattle.st_meaning.proofs.walking.test.Goals as goal
 

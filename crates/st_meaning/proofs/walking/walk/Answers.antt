@@ -1,8 +1,8 @@
 use Rattle.std.proofs.Common.{◌≡◌, ℕ, ◌<◌, Option, Err, ◌∙◌, subst, arith, rules}
-use Rattle.st_code.specs.MethodDrafts.{parts_view}
-use Rattle.st_meaning.specs.Deeds.{answers_view, deeds_view}
-use Rattle.st_meaning.specs.Meanings.{Walk}
-use Rattle.st_meaning.specs.Courses.{Continues, IsTooLong, advances}
+use Rattle.st_code.specs.inside.MethodDrafts.{parts_view}
+use Rattle.st_meaning.specs.inside.Deeds.{answers_view, deeds_view}
+use Rattle.st_meaning.specs.inside.Meanings.{Walk}
+use Rattle.st_meaning.specs.inside.Courses.{Continues, IsTooLong, advances}
 use Rattle.st_meaning.proofs.Stepping.{goes_on, is_over, is_long, is_enough, begins_so, faults_so}
 use Rattle.st_meaning.proofs.walking.walk.Goals as goal
 

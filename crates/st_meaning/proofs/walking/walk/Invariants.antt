@@ -1,8 +1,8 @@
 use Rattle.std.proofs.Common.{◌≡◌}
-use Rattle.st_code.specs.MethodDrafts.{parts_view}
-use Rattle.st_meaning.specs.Deeds.{answers_view}
-use Rattle.st_meaning.specs.Meanings.{Walk}
-use Rattle.st_meaning.specs.Courses.{IsSound}
+use Rattle.st_code.specs.inside.MethodDrafts.{parts_view}
+use Rattle.st_meaning.specs.inside.Deeds.{answers_view}
+use Rattle.st_meaning.specs.inside.Meanings.{Walk}
+use Rattle.st_meaning.specs.inside.Courses.{IsSound}
 use Rattle.st_meaning.proofs.Stepping.{walk_at}
 use Rattle.st_meaning.proofs.walking.walk.Given as goal
 

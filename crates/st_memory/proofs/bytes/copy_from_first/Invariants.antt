@@ -1,6 +1,6 @@
 use Rattle.std.proofs.Common.{◌≡◌, ◌≤◌, ◌-◌}
 use Rattle.st_model.specs.Values.{value}
-use Rattle.st_memory.specs.Copied.{with_bytes_of}
+use Rattle.st_memory.specs.inside.Copied.{with_bytes_of}
 use Rattle.st_memory.proofs.bytes.copy_from_first.Given as goal
 
 abbrev pub invariant-loop-done : goal.invariant-loop-done

@@ -1,6 +1,6 @@
 use Rattle.std.proofs.Common.{◌≡◌, ◌+◌, ◌-◌, ◌≤◌, refl, ap, ◌∙◌, subst, arith}
 use Rattle.st_model.specs.Values.{value}
-use Rattle.st_memory.specs.Copied.{with_bytes_of}
+use Rattle.st_memory.specs.inside.Copied.{with_bytes_of}
 use Rattle.st_memory.proofs.Laying.{both_have, none_laid, last_more}
 use Rattle.st_memory.proofs.bytes.copy_from_last.Goals as goal
 

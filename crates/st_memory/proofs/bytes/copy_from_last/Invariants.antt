@@ -1,6 +1,6 @@
 use Rattle.std.proofs.Common.{◌≡◌, ◌≤◌, ◌+◌, ◌-◌}
 use Rattle.st_model.specs.Values.{value}
-use Rattle.st_memory.specs.Copied.{with_bytes_of}
+use Rattle.st_memory.specs.inside.Copied.{with_bytes_of}
 use Rattle.st_memory.proofs.bytes.copy_from_last.Given as goal
 
 abbrev pub invariant-loop-left : goal.invariant-loop-left

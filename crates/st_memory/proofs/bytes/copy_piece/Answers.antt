@@ -2,7 +2,7 @@ use Rattle.std.proofs.Common.{◌≡◌, ℕ, ◌-◌, List, length, take, ap, �
 use Rattle.std.specs.Prelude.{replicate}
 use Rattle.std.proofs.lemmas.List.{length-take-le}
 use Rattle.st_model.specs.Values.{value}
-use Rattle.st_memory.specs.Copied.{units_from, with_run}
+use Rattle.st_memory.specs.inside.Copied.{units_from, with_run}
 use Rattle.st_memory.proofs.Laying.{first_is_none, above_first}
 use Rattle.st_memory.proofs.bytes.copy_piece.Goals as goal
 

@@ -1,7 +1,7 @@
 use Rattle.std.proofs.Common.{◌≡◌, ◌+◌, ◌≤◌, ◌-◌}
 use Rattle.st_model.specs.Values.{value}
 use Rattle.st_model.specs.View.{with_fields, fields_from}
-use Rattle.st_memory.specs.Places.{KeepsPlaces}
+use Rattle.st_memory.specs.inside.Places.{KeepsPlaces}
 use Rattle.st_memory.proofs.transfer.copy_from_last.Given as goal
 
 abbrev pub invariant-loop-left : goal.invariant-loop-left

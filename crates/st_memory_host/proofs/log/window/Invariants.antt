@@ -1,6 +1,6 @@
 use Rattle.std.proofs.Common.{◌≡◌, length, List, ℕ, Option, None}
 use Rattle.st_host.specs.Files.{bytes_of, length_of}
-use Rattle.st_memory_host.specs.Log.{arena_size, file_of, IsWindow}
+use Rattle.st_memory_host.specs.inside.Log.{arena_size, file_of, IsWindow}
 use Rattle.st_memory_host.proofs.log.window.Given as goal
 
 abbrev pub invariant-loop-log : goal.invariant-loop-log

@@ -1,6 +1,6 @@
 use Rattle.std.proofs.Common.{◌≡◌, ◌++◌, length, reverse}
-use Rattle.st_memory_host.specs.Log.{arena_size, deeds_of}
-use Rattle.st_memory_host.specs.Replay.{IsReplay}
+use Rattle.st_memory_host.specs.inside.Log.{arena_size, deeds_of}
+use Rattle.st_memory_host.specs.inside.Replay.{IsReplay}
 use Rattle.st_memory_host.proofs.replay.replayed.Given as goal
 
 abbrev pub invariant-loop-first : goal.invariant-loop-first

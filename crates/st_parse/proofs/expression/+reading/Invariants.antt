@@ -2,7 +2,7 @@ use Rattle.std.proofs.Common.{◌+◌, ◌*◌, ◌∷◌, [], length}
 use Rattle.st_scan.specs.Views.{expression_view}
 use Rattle.st_grammar.specs.declared.leaf.Kind.TheVariants.{Semicolon}
 use Rattle.st_grammar.specs.Leaves.{among, keywords, operators}
-use Rattle.st_parse.specs.Phrases.{parts_view, body_view}
+use Rattle.st_parse.specs.inside.Phrases.{parts_view, body_view}
 use Rattle.st_grammar.specs.Reading.{array_at, bracket_at, statement_looks, operations_step, operations_at, parts_step, parts_at, cascade_step, cascades_at, statement_step, body_at}
 use Rattle.st_grammar.proofs.Loops.{Going}
 use Rattle.st_parse.proofs.expression.+reading.Given as goal

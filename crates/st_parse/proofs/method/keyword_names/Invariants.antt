@@ -1,6 +1,6 @@
 use Rattle.std.proofs.Common.{length}
 use Rattle.st_grammar.specs.Leaves.{among, keywords}
-use Rattle.st_parse.specs.Parsed.{pattern_view}
+use Rattle.st_parse.specs.inside.Parsed.{pattern_view}
 use Rattle.st_grammar.specs.Reading.{pattern_step, keyword_names_at}
 use Rattle.st_grammar.proofs.Loops.{Going}
 use Rattle.st_parse.proofs.method.keyword_names.Given as goal

@@ -1,11 +1,11 @@
 use Rattle.std.proofs.Common.{◌+◌, Some, sym, ap, subst, ◌∙◌, arith}
 use Rattle.std.specs.Prelude.{option_map}
-use Rattle.st_emit.specs.Views.{literal_view}
+use Rattle.st_emit.specs.inside.Views.{literal_view}
 use Rattle.st_parts.specs.Contents.{contents}
 use Rattle.st_parts.proofs.Turns.{LeftMembers, members_begin, members_end, members_fail, members_more}
 use Rattle.st_model.specs.Values.{value}
-use Rattle.st_scope.specs.Meanings.{values}
-use Rattle.st_parts.specs.Readings.{members_if}
+use Rattle.st_scope.specs.inside.Meanings.{values}
+use Rattle.st_parts.specs.inside.Readings.{members_if}
 use Rattle.st_parts.proofs.Contenting.{no_arrays, array_made, array_none, contents_small, contents_gone, contents_made, made_bytes, made_other, made_array, made_words, made_method}
 use Rattle.st_parts.proofs.contents.+contents.Goals as goal
 

@@ -1,8 +1,8 @@
 use Rattle.std.proofs.Common.{true, false, sym, ap, subst, ◌∙◌}
 use Rattle.std.specs.Prelude.{option_map}
 use Rattle.st_model.specs.Values.{value}
-use Rattle.st_emit.specs.NameViews.{names_view}
-use Rattle.st_scope.specs.Findings.{text_of}
+use Rattle.st_emit.specs.inside.NameViews.{names_view}
+use Rattle.st_scope.specs.inside.Findings.{text_of}
 use Rattle.st_parts.specs.Keys.{key_in}
 use Rattle.st_parts.proofs.KeysIn.{keeps_named, keeps_other}
 use Rattle.st_parts.proofs.naming.keep.Goals as goal

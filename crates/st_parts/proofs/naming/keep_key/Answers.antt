@@ -1,8 +1,8 @@
 use Rattle.std.proofs.Common.{refl, sym, subst}
 use Rattle.std.specs.Prelude.{option_map}
-use Rattle.st_scope.specs.Findings.{text_of}
+use Rattle.st_scope.specs.inside.Findings.{text_of}
 use Rattle.st_scope.proofs.SoughtIn.{shared_noted}
-use Rattle.st_parts.specs.Kept.{Keeps}
+use Rattle.st_parts.specs.inside.Kept.{Keeps}
 use Rattle.st_parts.proofs.naming.keep_key.Goals as goal
 
 pub returns-in_ok-insert-in-Some : goal.returns-in_ok-insert-in-Some

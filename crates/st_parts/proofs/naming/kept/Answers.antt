@@ -1,6 +1,6 @@
 use Rattle.std.proofs.Common.{refl, sym, ap, subst, ◌∙◌, arith, rules}
 use Rattle.st_model.specs.Values.{value}
-use Rattle.st_emit.specs.NameViews.{names_view}
+use Rattle.st_emit.specs.inside.NameViews.{names_view}
 use Rattle.st_parts.specs.Keys.{word_of}
 use Rattle.st_parts.proofs.Taking.{word_is}
 use Rattle.st_parts.proofs.KeysIn.{kept_begin, kept_end, kept_turn}

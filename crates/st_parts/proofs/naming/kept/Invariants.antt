@@ -1,4 +1,4 @@
-use Rattle.st_emit.specs.NameViews.{names_view}
+use Rattle.st_emit.specs.inside.NameViews.{names_view}
 use Rattle.st_parts.proofs.KeysIn.{LeftKept}
 use Rattle.st_parts.proofs.naming.kept.Given as goal
 

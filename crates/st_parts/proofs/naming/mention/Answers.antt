@@ -2,7 +2,7 @@ use Rattle.std.proofs.Common.{sym, ap, ◌∙◌}
 use Rattle.std.specs.Prelude.{option_map}
 use Rattle.st_scan.specs.Views.{statements_view}
 use Rattle.st_scan.proofs.Views.{statements_view-push}
-use Rattle.st_scope.specs.Findings.{text_of}
+use Rattle.st_scope.specs.inside.Findings.{text_of}
 use Rattle.st_parts.specs.Keys.{with_mentioned}
 use Rattle.st_parts.proofs.naming.mention.Goals as goal
 

@@ -2,8 +2,9 @@ use Rattle.std.proofs.Common.{◌≡◌, drop, List, ap, ◌∙◌, subst}
 use Rattle.st_model.specs.Values.{Value, value}
 use Rattle.st_model.specs.Table.{table}
 use Rattle.st_scope.specs.Calls.{names}
-use Rattle.st_scope.specs.Meanings.{values}
-use Rattle.st_parts.specs.Keys.{mentioning, literals_in, AnswersFor}
+use Rattle.st_scope.specs.inside.Meanings.{values}
+use Rattle.st_parts.specs.Keys.{mentioning, literals_in}
+use Rattle.st_parts.specs.inside.NamesFor.{AnswersFor}
 use Rattle.st_parts.proofs.Taking.{behind_values}
 use Rattle.st_parts.proofs.naming.method_names.Goals as goal
 

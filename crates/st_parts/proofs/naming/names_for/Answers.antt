@@ -1,5 +1,5 @@
-use Rattle.st_emit.specs.NameViews.{names_view}
-use Rattle.st_scope.specs.Meanings.{values}
+use Rattle.st_emit.specs.inside.NameViews.{names_view}
+use Rattle.st_scope.specs.inside.Meanings.{values}
 use Rattle.st_parts.proofs.KeysIn.{kept_alike}
 use Rattle.st_parts.proofs.naming.names_for.Goals as goal
 

@@ -3,8 +3,8 @@ use Rattle.st_model.specs.Values.{value}
 use Rattle.st_model.specs.Table.{table}
 use Rattle.st_scan.specs.Views.{MethodView}
 use Rattle.st_scope.specs.Calls.{names}
-use Rattle.st_scope.specs.Meanings.{values}
-use Rattle.st_scope.specs.Seen.{AnswersNames}
+use Rattle.st_scope.specs.inside.Meanings.{values}
+use Rattle.st_scope.specs.inside.Seen.{AnswersNames}
 use Rattle.st_parts.specs.Keys.{mentioning}
 use Rattle.st_parts.proofs.KeysIn.{seen_for, fault_for}
 use Rattle.st_parts.proofs.naming.names_of.Goals as goal

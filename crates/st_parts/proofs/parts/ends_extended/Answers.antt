@@ -1,6 +1,6 @@
 use Rattle.std.proofs.Common.{◌≡◌, ◌+◌, ◌-◌, length, sym, ap, ◌∙◌, arith}
 use Rattle.st_model.specs.Values.{value, is_small}
-use Rattle.st_parts.specs.Places.{place_of}
+use Rattle.st_parts.specs.inside.Places.{place_of}
 use Rattle.st_parts.proofs.Ends.{end_is, extended-none, extended-other, extended-last}
 use Rattle.st_parts.proofs.parts.ends_extended.Goals as goal
 

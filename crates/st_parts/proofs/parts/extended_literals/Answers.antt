@@ -2,13 +2,13 @@ use Rattle.std.proofs.Common.{◌≡◌, ◌+◌, ◌-◌, length, List, [], ◌
 use Rattle.std.proofs.lemmas.List.{map-append}
 use Rattle.st_emit.specs.declared.literal.Literal.TheVariants.{Owner}
 use Rattle.st_emit.specs.Literals.{owner}
-use Rattle.st_emit.specs.NameViews.{names_view}
-use Rattle.st_emit.specs.Views.{literal_view, literals_view}
-use Rattle.st_scope.specs.Meanings.{values}
+use Rattle.st_emit.specs.inside.NameViews.{names_view}
+use Rattle.st_emit.specs.inside.Views.{literal_view, literals_view}
+use Rattle.st_scope.specs.inside.Meanings.{values}
 use Rattle.st_parts.specs.Numbers.{small_number}
 use Rattle.st_parts.specs.Parts.{from_end}
-use Rattle.st_parts.specs.Places.{place_of}
-use Rattle.st_parts.specs.Readings.{literals_if}
+use Rattle.st_parts.specs.inside.Places.{place_of}
+use Rattle.st_parts.specs.inside.Readings.{literals_if}
 use Rattle.st_parts.proofs.Ends.{before-none, before-some, extended-read, end_is, two_more}
 use Rattle.st_parts.proofs.parts.extended_literals.Goals as goal
 

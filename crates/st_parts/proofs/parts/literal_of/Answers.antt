@@ -2,9 +2,9 @@ use Rattle.std.proofs.Common.{sym, ap, ◌∙◌}
 use Rattle.std.specs.Prelude.{option_map}
 use Rattle.std.proofs.lemmas.Result.{IfOk-weaker}
 use Rattle.st_model.specs.Values.{value}
-use Rattle.st_emit.specs.NameViews.{names_view}
-use Rattle.st_emit.specs.Views.{literal_view}
-use Rattle.st_scope.specs.Findings.{text_of}
+use Rattle.st_emit.specs.inside.NameViews.{names_view}
+use Rattle.st_emit.specs.inside.Views.{literal_view}
+use Rattle.st_scope.specs.inside.Findings.{text_of}
 use Rattle.st_parts.proofs.ReadSingly.{read_named, read_contents}
 use Rattle.st_parts.proofs.parts.literal_of.Goals as goal
 

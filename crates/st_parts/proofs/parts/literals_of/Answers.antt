@@ -1,7 +1,7 @@
 use Rattle.std.proofs.Common.{◌+◌, sym, ap, subst, ◌∙◌, arith}
 use Rattle.std.specs.Prelude.{option_map}
-use Rattle.st_emit.specs.NameViews.{names_view}
-use Rattle.st_emit.specs.Views.{literal_view}
+use Rattle.st_emit.specs.inside.NameViews.{names_view}
+use Rattle.st_emit.specs.inside.Views.{literal_view}
 use Rattle.st_parts.proofs.Turns.{LeftLiterals, literals_begin, literals_end, literals_fail, literals_more}
 use Rattle.st_parts.proofs.parts.literals_of.Goals as goal
 

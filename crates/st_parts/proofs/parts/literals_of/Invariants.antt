@@ -1,4 +1,4 @@
-use Rattle.st_emit.specs.NameViews.{names_view}
+use Rattle.st_emit.specs.inside.NameViews.{names_view}
 use Rattle.st_parts.proofs.Turns.{LeftLiterals}
 use Rattle.st_parts.proofs.parts.literals_of.Given as goal
 

@@ -1,12 +1,12 @@
 use Rattle.std.proofs.Common.{◌≡◌, ◌≤◌, List, Option, Some, None, length, drop, get_or, refl, sym, ap, ap₂, ◌∙◌, subst}
 use Rattle.st_model.specs.declared.oop.Oop.{Oop}
-use Rattle.st_emit.specs.NameViews.{names_view}
-use Rattle.st_emit.specs.Views.{literals_view}
+use Rattle.st_emit.specs.inside.NameViews.{names_view}
+use Rattle.st_emit.specs.inside.Views.{literals_view}
 use Rattle.st_code.specs.Methods.{PartsView}
-use Rattle.st_scope.specs.Meanings.{values}
+use Rattle.st_scope.specs.inside.Meanings.{values}
 use Rattle.st_parts.specs.Parts.{ending_of, all_read}
-use Rattle.st_parts.specs.Places.{place_of}
-use Rattle.st_parts.specs.Readings.{literals_if}
+use Rattle.st_parts.specs.inside.Places.{place_of}
+use Rattle.st_parts.specs.inside.Readings.{literals_if}
 use Rattle.st_parts.proofs.PartsRead.{made_of, parts_told}
 use Rattle.st_parts.proofs.parts.parts_of.Goals as goal
 

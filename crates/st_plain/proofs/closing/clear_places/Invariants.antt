@@ -1,6 +1,6 @@
 use Rattle.std.proofs.Common.{◌≡◌, ℕ, ◌<◌, ◌≤◌}
 use Rattle.std.specs.Prelude.{None}
-use Rattle.st_plain.specs.Lists.{slot}
+use Rattle.st_plain.specs.inside.Lists.{slot}
 use Rattle.st_plain.proofs.closing.clear_places.Given as goal
 
 -- the places so far are empty

@@ -4,8 +4,8 @@ use Rattle.std.proofs.lemmas.Grind.{common_steps}
 use Rattle.st_model.specs.Values.{value, value_of}
 use Rattle.st_model.specs.Machine.{device_roots}
 use Rattle.st_model.specs.Settled.{or, any_names, is_marked}
-use Rattle.st_counted.specs.Held.{held_of}
-use Rattle.st_plain.specs.Held.{register_roots}
+use Rattle.st_counted.specs.inside.Held.{held_of}
+use Rattle.st_plain.specs.inside.Held.{register_roots}
 use Rattle.st_plain.proofs.Marking.{any_names-append, or_step}
 use Rattle.st_plain.proofs.Holding.{any_names-end}
 use Rattle.st_plain.proofs.roots.mark_roots.Goals as goal

@@ -6,14 +6,14 @@ use Rattle.st_scan.specs.declared.tree.Statement.{Statement}
 use Rattle.st_scan.specs.declared.tree.Name.{Name}
 use Rattle.st_scan.specs.declared.chain.Link.{Link}
 use Rattle.st_scan.specs.Views.{names_view, expression_view, expressions_view, statements_view, messages_view, block, ExpressionView}
-use Rattle.st_scan.specs.Chains.{IsStart, link_view, links_view}
+use Rattle.st_scan.specs.inside.Chains.{IsStart, link_view, links_view}
 use Rattle.st_scan.proofs.Views.{expression_view-block}
 use Rattle.st_scan.proofs.Chains.{link_within, chain_within}
 use Rattle.st_print.specs.declared.rank.Rank.{Rank}
 use Rattle.st_print.specs.declared.rank.Rank.TheVariants.{Binary}
 use Rattle.st_print.specs.Words.{Word, name, mark, keyword, spaced, first_keyword, other_keywords}
 use Rattle.st_print.specs.Printed.{is_loose, parameters_words, return_words, expression_words, statements_words, next_statements, messages_words, next_messages, message_words, keyword_words, placed}
-use Rattle.st_print.specs.Chained.{rank_of_link, wanted_by, link_words, closed, behind_link, before_links, behind_links}
+use Rattle.st_print.specs.inside.Chained.{rank_of_link, wanted_by, link_words, closed, behind_link, before_links, behind_links}
 use Rattle.st_print.proofs.Turning.{put_word, put_then, turn, turn_at, first_then, drop_at, take_rest}
 use Rattle.st_print.proofs.Chained.{chained}
 use Rattle.st_print.proofs.Firsts.{some_statements, some_messages}

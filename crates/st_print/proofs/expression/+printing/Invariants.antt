@@ -5,9 +5,9 @@ use Rattle.st_scan.specs.declared.tree.Expression.{size-Expression}
 use Rattle.st_scan.specs.declared.tree.Statement.{size-Statement}
 use Rattle.st_scan.specs.declared.tree.Message.{size-Message}
 use Rattle.st_scan.specs.Views.{expressions_view, statements_view, messages_view}
-use Rattle.st_scan.specs.Chains.{links_view, link_size, links_size}
+use Rattle.st_scan.specs.inside.Chains.{links_view, link_size, links_size}
 use Rattle.st_print.specs.Printed.{keyword_words, next_statements, next_messages}
-use Rattle.st_print.specs.Chained.{behind_links}
+use Rattle.st_print.specs.inside.Chained.{behind_links}
 use Rattle.st_print.proofs.expression.+printing.Given as goal
 
 -- A measure is eight times the size of what is printed, and more the further out a function stands.

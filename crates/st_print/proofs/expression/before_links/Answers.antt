@@ -1,8 +1,8 @@
 use Rattle.std.proofs.Common.{◌≡◌, ◌+◌, ◌-◌, ◌∷◌, ◌++◌, drop, sym, ap, ◌∙◌, arith}
-use Rattle.st_scan.specs.Chains.{link_view, links_view}
+use Rattle.st_scan.specs.inside.Chains.{link_view, links_view}
 use Rattle.st_print.specs.declared.rank.Rank.{Rank}
 use Rattle.st_print.specs.Words.{spaced}
-use Rattle.st_print.specs.Chained.{wanted_by, before_link, before_links}
+use Rattle.st_print.specs.inside.Chained.{wanted_by, before_link, before_links}
 use Rattle.st_print.proofs.Turning.{put_then, drop_at, take_rest}
 use Rattle.st_print.proofs.expression.before_links.Goals as goal
 

@@ -1,7 +1,7 @@
 use Rattle.std.proofs.Common.{◌≡◌, ◌≤◌, ◌++◌, drop, length}
 use Rattle.st_print.specs.Words.{spaced}
-use Rattle.st_scan.specs.Chains.{links_view}
-use Rattle.st_print.specs.Chained.{before_links}
+use Rattle.st_scan.specs.inside.Chains.{links_view}
+use Rattle.st_print.specs.inside.Chained.{before_links}
 use Rattle.st_print.proofs.expression.before_links.Given as goal
 
 abbrev pub invariant-loop-at : goal.invariant-loop-at

@@ -1,9 +1,9 @@
 use Rattle.std.proofs.Common.{length, sym, ap, ◌∙◌}
 use Rattle.std.specs.Prelude.{◌==◌}
 use Rattle.st_scan.specs.Views.{expression_view}
-use Rattle.st_scan.specs.Chains.{links_view}
+use Rattle.st_scan.specs.inside.Chains.{links_view}
 use Rattle.st_print.specs.declared.rank.Rank.TheVariants.{Any}
-use Rattle.st_print.specs.Chained.{before_links}
+use Rattle.st_print.specs.inside.Chained.{before_links}
 use Rattle.st_print.proofs.Signed.{put_before, signed_bare, signed_never, no_words, some_words}
 use Rattle.st_print.proofs.method.first_signed.Goals as goal
 

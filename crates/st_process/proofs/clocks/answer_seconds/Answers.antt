@@ -1,7 +1,7 @@
 use Rattle.std.proofs.Common.{arith}
 use Rattle.st_frames.proofs.Doing.{rows}
 use Rattle.st_process.proofs.Worlds.{worlds}
-use Rattle.st_frames.specs.Answering.{succeed_by}
+use Rattle.st_frames.specs.inside.Answering.{succeed_by}
 use Rattle.st_model.specs.Input.{store_seconds}
 use Rattle.st_process.proofs.clocks.answer_seconds.Goals as goal
 

@@ -1,7 +1,7 @@
 use Rattle.st_process.proofs.InputTries.{tried-be_device}
 use Rattle.std.proofs.Common.{arith}
 use Rattle.st_frames.proofs.Tries.{effects}
-use Rattle.st_process.specs.Devices.{be_device}
+use Rattle.st_process.specs.inside.Devices.{be_device}
 use Rattle.st_process.proofs.devices.be_device.Goals as goal
 
 pub returns-in-Ok-clause-does : goal.returns-in-Ok-clause-does

@@ -2,7 +2,7 @@ use Rattle.st_process.proofs.InputTries.{tried-set_device}
 use Rattle.std.proofs.Common.{arith}
 use Rattle.st_frames.proofs.Tries.{tries}
 use Rattle.st_process.proofs.Changing.{same}
-use Rattle.st_process.specs.Devices.{set_device}
+use Rattle.st_process.specs.inside.Devices.{set_device}
 use Rattle.st_process.proofs.devices.set_device.Goals as goal
 
 pub returns-in-Ok-clause-does : goal.returns-in-Ok-clause-does

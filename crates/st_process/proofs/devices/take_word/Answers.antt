@@ -1,5 +1,5 @@
 use Rattle.std.proofs.Common.{◌≡◌, rules, Err, refl}
-use Rattle.st_frames.specs.Rows.{row_state}
+use Rattle.st_frames.specs.inside.Rows.{row_state}
 use Rattle.st_frames.proofs.Leaves.{leaves-died}
 use Rattle.st_process.proofs.Taking.{wide-left, wide-died}
 use Rattle.st_process.proofs.devices.take_word.Goals as goal

@@ -1,7 +1,7 @@
 use Rattle.st_process.proofs.ProcessTries.{suspended-by}
 use Rattle.std.proofs.Common.{arith}
 use Rattle.st_frames.proofs.Doing.{rows, pages}
-use Rattle.st_frames.specs.Answering.{succeed_by}
+use Rattle.st_frames.specs.inside.Answering.{succeed_by}
 use Rattle.st_model.specs.Processes.{suspend_and_answer}
 use Rattle.st_process.proofs.processes.answer_suspend.Goals as goal
 

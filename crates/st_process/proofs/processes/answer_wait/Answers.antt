@@ -4,7 +4,7 @@ use Rattle.std.proofs.lemmas.Int.{to_z-of_z}
 use Rattle.st_frames.proofs.Leaves.{leaves-died, left}
 use Rattle.st_process.proofs.ProcessTries.{waited-died}
 use Rattle.st_frames.proofs.Doing.{rows}
-use Rattle.st_frames.specs.Answering.{succeed_by}
+use Rattle.st_frames.specs.inside.Answering.{succeed_by}
 use Rattle.st_model.specs.Processes.{wait_and_answer}
 use Rattle.st_process.proofs.processes.answer_wait.Goals as goal
 

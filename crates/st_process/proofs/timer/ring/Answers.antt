@@ -1,6 +1,6 @@
 use Rattle.std.proofs.Common.{◌∙◌, sym, ap, refl}
 use Rattle.st_model.specs.Machine.{is_there}
-use Rattle.st_frames.specs.Rows.{row_state}
+use Rattle.st_frames.specs.inside.Rows.{row_state}
 use Rattle.st_frames.proofs.Doing.{row-memory}
 use Rattle.st_process.proofs.Timers.{ring-left, ring-gone, ring-without}
 use Rattle.st_process.proofs.timer.ring.Goals as goal

@@ -3,7 +3,7 @@ use Rattle.std.proofs.lemmas.Result.{err_from_is_err_and}
 use Rattle.st_host.specs.Files.{Files}
 use Rattle.st_host.proofs.Joining.{reads_narrow, narrows_join}
 use Rattle.st_model.specs.Image.{image_head}
-use Rattle.st_image.specs.Reading.{IsStart}
+use Rattle.st_image.specs.inside.Reading.{IsStart}
 use Rattle.st_store.specs.Stored.{IsOpening, stored_in}
 use Rattle.st_changes.specs.Lists.{Lists}
 use Rattle.st_recover.specs.Openings.{IsReadable, by_store}

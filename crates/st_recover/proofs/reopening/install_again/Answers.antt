@@ -1,6 +1,6 @@
 use Rattle.std.proofs.Common.{length, sym, subst, arith}
 use Rattle.std.proofs.Math.ListN.{length-map}
-use Rattle.st_changes.specs.Views.{definition_of, definitions_of}
+use Rattle.st_changes.specs.inside.Views.{definition_of, definitions_of}
 use Rattle.st_changes.specs.Last.{FindsEach}
 use Rattle.st_changes.proofs.Superseding.{many_bytes}
 use Rattle.st_install.specs.Defining.{installed}

@@ -1,7 +1,7 @@
 use Rattle.std.proofs.Common.{◌≡◌, ◌≤◌, List, ℕ, length, sym, subst, ◌∙◌}
 use Rattle.st_model.specs.Limits.{longest_image}
 use Rattle.st_image.specs.HeadValues.{no_values, head_over}
-use Rattle.st_image.specs.Rows.{IsReadFault}
+use Rattle.st_image.specs.inside.Rows.{IsReadFault}
 use Rattle.st_image.specs.declared.error.ReadImage.{ReadImage}
 use Rattle.st_recover.proofs.Started.{readable, started, faulty}
 use Rattle.st_recover.proofs.reopening.read_image.Goals as goal

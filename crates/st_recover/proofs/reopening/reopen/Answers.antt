@@ -8,10 +8,10 @@ use Rattle.st_store.specs.Stored.{IsOpening, stored_in}
 use Rattle.st_store.specs.declared.root.Root.{Root}
 use Rattle.st_store.proofs.Opening.{as_before}
 use Rattle.st_chunk.specs.Definitions.{IsDefinition, entries}
-use Rattle.st_changes.specs.States.{ChangesState}
+use Rattle.st_changes.specs.inside.States.{ChangesState}
 use Rattle.st_changes.specs.Lists.{Lists, StandsAt}
 use Rattle.st_install.specs.Defining.{installed}
-use Rattle.st_recover.specs.Replays.{ReplaysFrom}
+use Rattle.st_recover.specs.inside.Replayings.{ReplaysFrom}
 use Rattle.st_recover.proofs.Fetching.{left_now}
 use Rattle.st_recover.proofs.Restoring.{ready_empty, quiet_empty, commit_at, reopened}
 use Rattle.st_recover.proofs.reopening.reopen.Goals as goal

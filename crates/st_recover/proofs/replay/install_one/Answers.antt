@@ -1,13 +1,13 @@
 use Rattle.std.proofs.Common.{◌≡◌, ◌∙◌, Err, refl, sym, subst}
-use Rattle.st_frames.specs.Shown.{shown}
+use Rattle.st_frames.specs.inside.Shown.{shown}
 use Rattle.st_chunk.specs.Definitions.{Definition}
-use Rattle.st_chunk.specs.ScriptDefinitions.{definition_of}
-use Rattle.st_protocol.specs.Installations.{InstallsAs}
+use Rattle.st_chunk.specs.inside.ScriptDefinitions.{definition_of}
+use Rattle.st_protocol.specs.inside.Installations.{InstallsAs}
 use Rattle.st_protocol.specs.declared.installation.Installation.TheVariants as installation
 use Rattle.st_install.specs.Defining.{installed}
-use Rattle.st_install.specs.Prepareds.{IsPrepared, PreparesAs}
+use Rattle.st_install.specs.inside.Prepareds.{IsPrepared, PreparesAs}
 use Rattle.st_install.proofs.Compiling.{refused_as}
-use Rattle.st_changes.specs.Views.{definition_of as kept_definition}
+use Rattle.st_changes.specs.inside.Views.{definition_of as kept_definition}
 use Rattle.st_changes.specs.Last.{HasSelector}
 use Rattle.st_recover.proofs.Selectors.{prepared_selector}
 use Rattle.st_recover.proofs.replay.install_one.Goals as goal

@@ -1,7 +1,7 @@
 use Rattle.std.proofs.Common.{◌+◌, ◌-◌, length, take, drop, refl, sym, ap, subst, arith}
-use Rattle.st_frames.specs.Shown.{shown}
+use Rattle.st_frames.specs.inside.Shown.{shown}
 use Rattle.st_chunk.specs.Definitions.{IsDefinition}
-use Rattle.st_changes.specs.Views.{definition_of, definitions_of}
+use Rattle.st_changes.specs.inside.Views.{definition_of, definitions_of}
 use Rattle.st_install.specs.Defining.{installed}
 use Rattle.st_recover.specs.Replays.{replay}
 use Rattle.st_recover.proofs.Rests.{rest_definitions, rest_length, first_good, later_good, rest_none, counted, listed}

@@ -4,9 +4,9 @@ use Rattle.st_model.specs.Machine.{State, World}
 use Rattle.st_model.specs.Births.{Births}
 use Rattle.st_model.specs.Show.{Shows}
 use Rattle.st_frames.specs.declared.frame.Frame.{Frame}
-use Rattle.st_frames.specs.Shown.{IsReady, shown}
+use Rattle.st_frames.specs.inside.Shown.{IsReady, shown}
 use Rattle.st_chunk.specs.Definitions.{IsDefinition}
-use Rattle.st_changes.specs.Views.{definitions_of}
+use Rattle.st_changes.specs.inside.Views.{definitions_of}
 use Rattle.st_install.specs.Defining.{installed}
 use Rattle.st_recover.specs.Replays.{replay}
 use Rattle.st_recover.proofs.Replaying.{IsUnderway}

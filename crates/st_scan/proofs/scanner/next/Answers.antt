@@ -1,6 +1,6 @@
 use Rattle.std.proofs.Common.{ap, ◌∙◌}
 use Rattle.st_scan.specs.Scans.{signs}
-use Rattle.st_scan.specs.Contexts.{context_of}
+use Rattle.st_scan.specs.inside.Contexts.{context_of}
 use Rattle.st_scan.specs.Fronts.{shown, front_of}
 use Rattle.st_scan.proofs.Scanning.{within}
 use Rattle.st_scan.proofs.scanner.next.Goals as goal

@@ -1,6 +1,6 @@
 use Rattle.std.proofs.Common.{refl}
 use Rattle.std.proofs.lemmas.List.{take_rest}
-use Rattle.st_scan.specs.Contexts.{context_of}
+use Rattle.st_scan.specs.inside.Contexts.{context_of}
 use Rattle.st_scan.proofs.Scanning.{kept_gap, kept_token, kept_fault, kept_end}
 use Rattle.st_scan.proofs.Spans.{spans}
 use Rattle.st_scan.proofs.scanner.scan.Goals as goal

@@ -1,5 +1,5 @@
 use Rattle.std.proofs.Common.{◌-◌, length}
-use Rattle.st_scan.specs.Contexts.{context_of}
+use Rattle.st_scan.specs.inside.Contexts.{context_of}
 use Rattle.st_scan.proofs.Scanning.{Kept}
 use Rattle.st_scan.proofs.scanner.scan.Given as goal
 

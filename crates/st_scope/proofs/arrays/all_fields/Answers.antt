@@ -1,6 +1,6 @@
 use Rattle.std.proofs.Common.{rules}
-use Rattle.st_model.specs.Calls.{itself}
-use Rattle.st_scope.specs.Meanings.{values_of}
+use Rattle.st_model.specs.inside.Calls.{itself}
+use Rattle.st_scope.specs.inside.Meanings.{values_of}
 use Rattle.st_scope.specs.Variables.{fields_unless}
 use Rattle.st_scope.proofs.Finding.{first_dies, then_finds}
 use Rattle.st_scope.proofs.arrays.all_fields.Goals as goal

@@ -3,7 +3,7 @@ use Rattle.st_model.specs.Values.{value}
 use Rattle.st_model.specs.Machine.{Went}
 use Rattle.st_model.specs.Table.{table}
 use Rattle.st_scope.specs.Variables.{fields_unless, fields_or_none}
-use Rattle.st_scope.specs.Meanings.{values, values_of}
+use Rattle.st_scope.specs.inside.Meanings.{values, values_of}
 use Rattle.st_scope.proofs.Finding.{finds_same}
 use Rattle.st_scope.proofs.FieldsOf.{no_fields, its_fields}
 use Rattle.st_scope.proofs.arrays.fields_or_none.Goals as goal

@@ -1,6 +1,6 @@
 use Rattle.std.proofs.Common.{◌-◌, sym, subst, rules}
 use Rattle.st_model.specs.Values.{value}
-use Rattle.st_scope.specs.Meanings.{values, values_of}
+use Rattle.st_scope.specs.inside.Meanings.{values, values_of}
 use Rattle.st_scope.proofs.Lineages.{LeftChain, chain_begins, chain_ends, chain_too_long, chain_dies, chain_pushed}
 use Rattle.st_scope.proofs.Finding.{finds_death}
 use Rattle.st_scope.proofs.chains.chain.Goals as goal

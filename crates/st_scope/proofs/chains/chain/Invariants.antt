@@ -1,5 +1,5 @@
 use Rattle.st_model.specs.Values.{value}
-use Rattle.st_scope.specs.Meanings.{values_of}
+use Rattle.st_scope.specs.inside.Meanings.{values_of}
 use Rattle.st_scope.proofs.Lineages.{LeftChain}
 use Rattle.st_scope.proofs.chains.chain.Given as goal
 

@@ -2,7 +2,7 @@ use Rattle.std.proofs.Common.{◌≡◌, Ok, Err, Option, rules, subst, arith}
 use Rattle.st_model.specs.declared.oop.Oop.{Oop}
 use Rattle.st_model.specs.Values.{value}
 use Rattle.st_model.specs.Table.{table}
-use Rattle.st_model.specs.Calls.{Reads}
+use Rattle.st_model.specs.inside.Calls.{Reads}
 use Rattle.st_scope.specs.Tables.{member_named}
 use Rattle.st_scope.specs.Texts.{found}
 use Rattle.st_scope.proofs.ClassesOf.{value_dies, no_class, is_class}

@@ -5,7 +5,7 @@ use Rattle.st_model.specs.Machine.{Went}
 use Rattle.st_model.specs.Table.{table}
 use Rattle.st_model.specs.View.{object_of}
 use Rattle.st_scope.specs.Tables.{bytes_of}
-use Rattle.st_scope.specs.Findings.{text_of}
+use Rattle.st_scope.specs.inside.Findings.{text_of}
 use Rattle.st_scope.proofs.Finding.{first_dies}
 use Rattle.st_scope.proofs.TextsOf.{no_bytes, its_bytes}
 use Rattle.st_scope.proofs.fields.bytes_of.Goals as goal

@@ -4,7 +4,7 @@ use Rattle.st_model.specs.Machine.{Went}
 use Rattle.st_model.specs.Table.{table}
 use Rattle.st_scope.specs.Tables.{bytes_of}
 use Rattle.st_scope.specs.Variables.{name_of}
-use Rattle.st_scope.specs.Findings.{text_of}
+use Rattle.st_scope.specs.inside.Findings.{text_of}
 use Rattle.st_scope.proofs.Finding.{finds_same}
 use Rattle.st_scope.proofs.FieldsOf.{no_name, its_name}
 use Rattle.st_scope.proofs.fields.name_of.Goals as goal

@@ -2,8 +2,8 @@ use Rattle.std.proofs.Common.{rules, subst}
 use Rattle.st_model.specs.Values.{value}
 use Rattle.st_model.specs.Table.{table}
 use Rattle.st_scope.specs.Variables.{own_names, names_of}
-use Rattle.st_scope.specs.Meanings.{values, values_of}
-use Rattle.st_scope.specs.Findings.{Finds, texts_of}
+use Rattle.st_scope.specs.inside.Meanings.{values, values_of}
+use Rattle.st_scope.specs.inside.Findings.{Finds, texts_of}
 use Rattle.st_scope.proofs.Finding.{first_dies, first_fails, then_finds}
 use Rattle.st_scope.proofs.fields.own_names.Goals as goal
 

@@ -1,8 +1,8 @@
 use Rattle.std.proofs.Common.{rules}
 use Rattle.st_model.specs.Values.{value}
 use Rattle.st_scope.specs.Classes.{instance_lineage}
-use Rattle.st_scope.specs.Meanings.{values_of}
-use Rattle.st_scope.specs.Lineages.{lineage_of}
+use Rattle.st_scope.specs.inside.Meanings.{values_of}
+use Rattle.st_scope.specs.inside.Lineages.{lineage_of}
 use Rattle.st_scope.proofs.Finding.{first_fails}
 use Rattle.st_scope.proofs.LineageOf.{one_chain}
 use Rattle.st_scope.proofs.lineage.instance_lineage.Goals as goal

@@ -2,8 +2,8 @@ use Rattle.std.proofs.Common.{sym, subst}
 use Rattle.st_model.specs.Values.{value}
 use Rattle.st_model.specs.Table.{table}
 use Rattle.st_scope.specs.Classes.{lineage}
-use Rattle.st_scope.specs.Findings.{Finds}
-use Rattle.st_scope.specs.Lineages.{lineage_of}
+use Rattle.st_scope.specs.inside.Findings.{Finds}
+use Rattle.st_scope.specs.inside.Lineages.{lineage_of}
 use Rattle.st_scope.proofs.lineage.lineage.Goals as goal
 
 pub returns-then-meta : goal.returns-then-meta

@@ -1,11 +1,11 @@
 use Rattle.std.proofs.Common.{◌≡◌, ◌++◌, sym, ap, ◌∙◌, subst, arith}
 use Rattle.std.specs.Prelude.{OnOk}
 use Rattle.st_scan.specs.Views.{names_view, expression_view, statements_view, block}
-use Rattle.st_scan.specs.Chains.{link_size, links_view}
+use Rattle.st_scan.specs.inside.Chains.{link_size, links_view}
 use Rattle.st_scan.proofs.Views.{expression_view-block}
 use Rattle.st_scan.proofs.Chains.{link_within, chain_within}
 use Rattle.st_scope.specs.Mentions.{mentioned}
-use Rattle.st_scope.specs.Walks.{mentions_of}
+use Rattle.st_scope.specs.inside.Walks.{mentions_of}
 use Rattle.st_scope.proofs.Walking.{chain_walked}
 use Rattle.st_scope.proofs.mentions.+mentions.Goals as goal
 

@@ -4,9 +4,9 @@ use Rattle.st_scan.specs.declared.tree.Expression.{size-Expression}
 use Rattle.st_scan.specs.declared.tree.Message.{size-Message}
 use Rattle.st_scan.specs.declared.tree.Statement.{size-Statement}
 use Rattle.st_scan.specs.Views.{expressions_view, messages_view, statements_view}
-use Rattle.st_scan.specs.Chains.{links_view, links_size}
+use Rattle.st_scan.specs.inside.Chains.{links_view, links_size}
 use Rattle.st_scope.specs.Mentions.{mentioned_among, mentioned_by, mentioned_in}
-use Rattle.st_scope.specs.Walks.{mentions_of, all_sent_mentioned}
+use Rattle.st_scope.specs.inside.Walks.{mentions_of, all_sent_mentioned}
 use Rattle.st_scope.proofs.mentions.+mentions.Given as goal
 
 abbrev pub decreases-statements : goal.decreases-statements

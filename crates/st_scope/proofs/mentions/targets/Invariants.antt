@@ -1,6 +1,6 @@
 use Rattle.std.proofs.Common.{◌≡◌, ◌≤◌, ◌++◌, take, length}
-use Rattle.st_scan.specs.Chains.{links_view}
-use Rattle.st_scope.specs.Walks.{mentions_of, targets_mentioned}
+use Rattle.st_scan.specs.inside.Chains.{links_view}
+use Rattle.st_scope.specs.inside.Walks.{mentions_of, targets_mentioned}
 use Rattle.st_scope.proofs.mentions.targets.Given as goal
 
 abbrev pub invariant-loop-left : goal.invariant-loop-left

@@ -3,7 +3,7 @@ use Rattle.st_model.specs.Values.{value}
 use Rattle.st_model.specs.Table.{table}
 use Rattle.st_scan.specs.Views.{method_view}
 use Rattle.st_scope.specs.Calls.{names_seen}
-use Rattle.st_scope.specs.Seen.{FindsNames}
+use Rattle.st_scope.specs.inside.Seen.{FindsNames}
 use Rattle.st_scope.proofs.SeenIn.{answers_seen, answers_shape}
 use Rattle.st_scope.proofs.naming.names.Goals as goal
 

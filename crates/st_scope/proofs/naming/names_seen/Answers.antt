@@ -2,18 +2,18 @@ use Rattle.std.proofs.Common.{Ok, Err, refl, ap, ◌∙◌, subst, rules}
 use Rattle.st_model.specs.Values.{value}
 use Rattle.st_model.specs.Machine.{◌>>◌}
 use Rattle.st_model.specs.Table.{table}
-use Rattle.st_model.specs.Calls.{Reads, itself}
+use Rattle.st_model.specs.inside.Calls.{Reads, itself}
 use Rattle.st_scan.specs.Views.{method_view}
 use Rattle.st_emit.specs.Names.{NamesView}
 use Rattle.st_scope.specs.declared.unread.Unread.TheVariants.{Dies}
 use Rattle.st_scope.specs.Calls.{names_seen}
 use Rattle.st_scope.specs.Mentions.{mentioned_in}
 use Rattle.st_scope.specs.Variables.{field_names, pools}
-use Rattle.st_scope.specs.Meanings.{values, values_of}
-use Rattle.st_scope.specs.Findings.{Finds, texts_of}
-use Rattle.st_scope.specs.Lineages.{lineage_of}
-use Rattle.st_scope.specs.Walks.{mentions_of}
-use Rattle.st_scope.specs.Sought.{AreShared}
+use Rattle.st_scope.specs.inside.Meanings.{values, values_of}
+use Rattle.st_scope.specs.inside.Findings.{Finds, texts_of}
+use Rattle.st_scope.specs.inside.Lineages.{lineage_of}
+use Rattle.st_scope.specs.inside.Walks.{mentions_of}
+use Rattle.st_scope.specs.inside.Sought.{AreShared}
 use Rattle.st_scope.proofs.Finding.{first_dies, first_fails, then_finds}
 use Rattle.st_scope.proofs.SeenIn.{all_seen, names_fail, seen_behind}
 use Rattle.st_scope.proofs.naming.names_seen.Goals as goal

@@ -1,7 +1,7 @@
 use Rattle.std.proofs.Common.{rules}
 use Rattle.st_model.specs.Values.{value}
 use Rattle.st_scope.specs.Variables.{own_pools}
-use Rattle.st_scope.specs.Meanings.{values_of}
+use Rattle.st_scope.specs.inside.Meanings.{values_of}
 use Rattle.st_scope.proofs.Finding.{first_dies, first_fails, then_finds}
 use Rattle.st_scope.proofs.PoolsOf.{own_and_shared}
 use Rattle.st_scope.proofs.pools.own_pools.Goals as goal

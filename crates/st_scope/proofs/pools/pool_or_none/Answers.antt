@@ -3,7 +3,7 @@ use Rattle.st_model.specs.Values.{value}
 use Rattle.st_model.specs.Machine.{Went}
 use Rattle.st_model.specs.Table.{table}
 use Rattle.st_scope.specs.Variables.{pool_or_none}
-use Rattle.st_scope.specs.Meanings.{values}
+use Rattle.st_scope.specs.inside.Meanings.{values}
 use Rattle.st_scope.proofs.Finding.{finds_death}
 use Rattle.st_scope.proofs.PoolsOf.{no_pool, pool_uncounted, pool_counted}
 use Rattle.st_scope.proofs.pools.pool_or_none.Goals as goal

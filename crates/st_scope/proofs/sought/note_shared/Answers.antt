@@ -1,5 +1,5 @@
 use Rattle.std.proofs.Common.{sym, subst}
-use Rattle.st_scope.specs.Sought.{NotesShared}
+use Rattle.st_scope.specs.inside.Sought.{NotesShared}
 use Rattle.st_scope.proofs.SoughtIn.{shared_noted, none_noted}
 use Rattle.st_scope.proofs.sought.note_shared.Goals as goal
 

@@ -1,6 +1,6 @@
 use Rattle.std.proofs.Common.{take}
-use Rattle.st_scope.specs.Walks.{mentions_of}
-use Rattle.st_scope.specs.Sought.{AreSought}
+use Rattle.st_scope.specs.inside.Walks.{mentions_of}
+use Rattle.st_scope.specs.inside.Sought.{AreSought}
 use Rattle.st_scope.proofs.sought.shared_names.Given as goal
 
 -- the names so far were sought

@@ -5,8 +5,8 @@ use Rattle.st_model.specs.Table.{Table}
 use Rattle.st_model.specs.Show.{show}
 use Rattle.st_model.proofs.Showing.{show_is}
 use Rattle.st_debug.specs.Stack.{stack_text}
-use Rattle.st_call.specs.Telling.{Tells}
-use Rattle.st_session.specs.Standing.{shown_by}
+use Rattle.st_call.specs.inside.Telling.{Tells}
+use Rattle.st_session.specs.inside.Standing.{shown_by}
 use Rattle.st_protocol.specs.declared.status.Status.TheVariants as status
 use Rattle.st_session.specs.Answers.{line_course}
 use Rattle.st_session.specs.Keeping.{in_a_store}

@@ -7,7 +7,7 @@ use Rattle.st_model.proofs.Showing.{show_is}
 use Rattle.st_call.proofs.Pushing.{push_as}
 use Rattle.st_session.specs.Points.{alive}
 use Rattle.st_call.specs.Replies.{machine_text}
-use Rattle.st_session.specs.Standing.{shown_by, StandsAt}
+use Rattle.st_session.specs.inside.Standing.{shown_by, StandsAt}
 use Rattle.st_session.proofs.Stretches.{all_ok, course_replies}
 use Rattle.st_session.proofs.answering.push_answer.Goals as goal
 

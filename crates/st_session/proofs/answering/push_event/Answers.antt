@@ -1,6 +1,6 @@
 use Rattle.st_model.specs.Births.{births}
 use Rattle.st_model.specs.Events.{event}
-use Rattle.st_session.specs.Standing.{shown_by, StandsAt}
+use Rattle.st_session.specs.inside.Standing.{shown_by, StandsAt}
 use Rattle.st_session.proofs.Lines.{came, full}
 use Rattle.st_session.proofs.answering.push_event.Goals as goal
 

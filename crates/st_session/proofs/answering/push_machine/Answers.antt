@@ -1,6 +1,6 @@
 use Rattle.std.proofs.Common.{ap, ◌∙◌}
 use Rattle.st_model.specs.Text.{registers_text, input_text, held_text}
-use Rattle.st_frames.specs.Shown.{registers_of}
+use Rattle.st_frames.specs.inside.Shown.{registers_of}
 use Rattle.st_call.proofs.Pushing.{push_then, push_begun, push_as}
 use Rattle.st_session.proofs.answering.push_machine.Goals as goal
 

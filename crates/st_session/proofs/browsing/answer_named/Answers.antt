@@ -4,11 +4,12 @@ use Rattle.st_chunk.specs.Definitions.{Definition}
 use Rattle.st_chunk.specs.Asks.{Source, ask_of, side_of}
 use Rattle.st_recover.specs.Commits.{all_of}
 use Rattle.st_session.specs.Answers.{browse_course}
-use Rattle.st_session.specs.Browsing.{asked_text, memory_of, TellsOrStarves}
+use Rattle.st_session.specs.Browsing.{asked_text, memory_of}
+use Rattle.st_session.specs.inside.Starving.{TellsOrStarves}
 use Rattle.st_session.specs.Keeping.{in_a_store}
 use Rattle.st_session.specs.Points.{alive}
 use Rattle.st_session.specs.Sources.{last_text, shown_text}
-use Rattle.st_call.specs.Telling.{Tells}
+use Rattle.st_call.specs.inside.Telling.{Tells}
 use Rattle.st_session.proofs.Lines.{look_is, unsourced}
 use Rattle.st_session.proofs.Looking.{memory_shown}
 use Rattle.st_session.proofs.Points.{GoesAs, living_answers}

@@ -1,7 +1,7 @@
 use Rattle.std.proofs.Common.{Err, inl, inr, refl, sym, ap, subst, ◌∙◌}
 use Rattle.st_chunk.specs.Asks.{Source, side_of}
 use Rattle.st_browse.specs.declared.saying.SourceFault.{SourceFault}
-use Rattle.st_browse.specs.SourceFaults.{IsCaused}
+use Rattle.st_browse.specs.inside.SourceFaults.{IsCaused}
 use Rattle.st_browse.specs.Asked.{reply}
 use Rattle.st_call.specs.Replies.{missing_text}
 use Rattle.st_session.specs.Sources.{shown_text}

@@ -8,8 +8,8 @@ use Rattle.st_model.specs.Show.{Shows}
 use Rattle.st_model.specs.Text.{state_text}
 use Rattle.st_model.specs.View.{View}
 use Rattle.st_frames.specs.declared.frame.Frame.{Frame}
-use Rattle.st_frames.specs.Shown.{shown}
-use Rattle.st_image.specs.Reading.{IsStart}
+use Rattle.st_frames.specs.inside.Shown.{shown}
+use Rattle.st_image.specs.inside.Reading.{IsStart}
 use Rattle.st_session.specs.Commands.{IsReport}
 use Rattle.st_session.specs.Reports.{run_text}
 use Rattle.st_session.proofs.Points.{shown_births}

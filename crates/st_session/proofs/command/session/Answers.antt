@@ -6,7 +6,7 @@ use Rattle.st_protocol.specs.Courses.{deeds_of, commits_of}
 use Rattle.st_install.specs.Defining.{installed}
 use Rattle.st_recover.specs.Commits.{Commit, OpensAs}
 use Rattle.st_recover.specs.Openings.{Reopens}
-use Rattle.st_recover.specs.Replays.{losses_of}
+use Rattle.st_recover.specs.inside.Replayings.{losses_of}
 use Rattle.st_recover.proofs.Determined.{same_commit}
 use Rattle.st_session.specs.Opening.{session_so_far_over}
 use Rattle.st_session.specs.StoreSessions.{course_over, commits_over, IsOfSession, KeepsPromise}

@@ -2,7 +2,7 @@ use Rattle.std.proofs.Common.{ℕ, List, subst}
 use Rattle.std.specs.Prelude.{Ok, Err}
 use Rattle.st_protocol.specs.declared.status.Status.TheVariants as status
 use Rattle.st_call.proofs.Saying.{tells_all, tells_part}
-use Rattle.st_call.specs.Telling.{Tells}
+use Rattle.st_call.specs.inside.Telling.{Tells}
 use Rattle.st_session.proofs.Looking.{same_stack}
 use Rattle.st_session.proofs.debugging.say_stack.Goals as goal
 

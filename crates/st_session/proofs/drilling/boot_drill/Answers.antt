@@ -1,7 +1,7 @@
 use Rattle.std.proofs.Common.{rules, ◌≡◌, ◌≤◌, ◌^◌, ◌∙◌, List, ℕ, length, Err, sym, ap, subst}
 use Rattle.std.specs.Prelude.{IfErr}
 use Rattle.st_model.specs.Machine.{World}
-use Rattle.st_frames.specs.Shown.{filled}
+use Rattle.st_frames.specs.inside.Shown.{filled}
 use Rattle.st_session.specs.Drills.{IsNoDrill}
 use Rattle.st_session.proofs.Drilled.{surely_fetched, builds_drill, begins_drill, booted, none_drilled}
 use Rattle.st_session.proofs.drilling.boot_drill.Goals as goal

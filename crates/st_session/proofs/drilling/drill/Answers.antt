@@ -1,4 +1,4 @@
-use Rattle.st_session.specs.Standing.{shown_by}
+use Rattle.st_session.specs.inside.Standing.{shown_by}
 use Rattle.st_session.proofs.Built.{wrong_cause}
 use Rattle.st_session.proofs.Drilled.{drill_done, drill_unsaid, drill_reads, drill_refused}
 use Rattle.st_session.proofs.drilling.drill.Goals as goal

@@ -4,7 +4,7 @@ use Rattle.st_call.proofs.Pushing.{push_then, push_begun, push_as}
 use Rattle.st_session.specs.Drills.{use_text}
 use Rattle.st_session.specs.Makings.{contents_in, made_text}
 use Rattle.st_session.specs.Reports.{run_text}
-use Rattle.st_session.specs.Standing.{shown_by}
+use Rattle.st_session.specs.inside.Standing.{shown_by}
 use Rattle.st_session.proofs.Reported.{reported, unreported}
 use Rattle.st_session.proofs.drilling.push_drill.Goals as goal
 

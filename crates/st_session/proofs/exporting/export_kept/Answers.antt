@@ -4,7 +4,7 @@ use Rattle.st_recover.proofs.Images.{image_is}
 use Rattle.st_session.specs.Exports.{exporting, ExportsImage}
 use Rattle.st_session.specs.declared.extent.Extent.TheVariants.{Kept}
 use Rattle.st_call.specs.Replies.{exported_text}
-use Rattle.st_call.specs.Telling.{Tells}
+use Rattle.st_call.specs.inside.Telling.{Tells}
 use Rattle.st_session.proofs.Exported.{export_told, export_failed}
 use Rattle.st_session.proofs.exporting.export_kept.Goals as goal
 

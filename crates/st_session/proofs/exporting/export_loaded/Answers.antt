@@ -3,8 +3,8 @@ use Rattle.st_model.specs.Machine.{State, empty_world}
 use Rattle.st_model.specs.Objects.{nil}
 use Rattle.st_model.specs.Show.{Shows}
 use Rattle.st_model.specs.Table.{Table}
-use Rattle.st_frames.specs.Shown.{shown}
-use Rattle.st_session.specs.Standing.{shown_by}
+use Rattle.st_frames.specs.inside.Shown.{shown}
+use Rattle.st_session.specs.inside.Standing.{shown_by}
 use Rattle.st_session.proofs.Exported.{others_none}
 use Rattle.st_session.proofs.Points.{ready_new}
 use Rattle.st_session.proofs.exporting.export_loaded.Goals as goal

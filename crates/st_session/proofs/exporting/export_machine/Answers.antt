@@ -5,7 +5,7 @@ use Rattle.st_model.specs.Saving.{save}
 use Rattle.st_model.specs.Text.{dead_text}
 use Rattle.st_model.proofs.Showing.{show_is}
 use Rattle.st_session.specs.Exports.{ExportsImage, ExportsState, HasExported}
-use Rattle.st_session.specs.Standing.{shown_by}
+use Rattle.st_session.specs.inside.Standing.{shown_by}
 use Rattle.st_session.proofs.Exported.{saved_export, died_export, exported_as, others_none, others_said, told_kind, has_told}
 use Rattle.st_session.proofs.exporting.export_machine.Goals as goal
 

@@ -1,6 +1,6 @@
 use Rattle.std.proofs.Common.{◌<◌, length, arith}
 use Rattle.st_call.proofs.Pushing.{push_none, push_next, push_stopped, mapped_at}
-use Rattle.st_recover.specs.Replays.{loss_of, losses_of}
+use Rattle.st_recover.specs.inside.Replayings.{loss_of, losses_of}
 use Rattle.st_session.specs.FirstLines.{lost_text}
 use Rattle.st_session.proofs.first_lines.push_all_lost.Goals as goal
 

@@ -1,8 +1,8 @@
 use Rattle.std.proofs.Common.{take, Ok}
 use Rattle.std.specs.List.{flat_map}
 use Rattle.st_host.specs.declared.host.SayFault.{SayFault}
-use Rattle.st_call.specs.Saying.{Pushes}
-use Rattle.st_recover.specs.Replays.{losses_of}
+use Rattle.st_call.specs.inside.Saying.{Pushes}
+use Rattle.st_recover.specs.inside.Replayings.{losses_of}
 use Rattle.st_session.specs.FirstLines.{lost_text}
 use Rattle.st_session.proofs.first_lines.push_all_lost.Given as goal
 

@@ -1,7 +1,7 @@
 use Rattle.std.proofs.Common.{ap, sym}
 use Rattle.std.proofs.lemmas.List.{length-map}
 use Rattle.st_call.proofs.Pushing.{push_then, push_begun, push_as}
-use Rattle.st_recover.specs.Replays.{loss_of}
+use Rattle.st_recover.specs.inside.Replayings.{loss_of}
 use Rattle.st_session.specs.FirstLines.{opened_text}
 use Rattle.st_session.proofs.first_lines.push_opening.Goals as goal
 

@@ -14,7 +14,7 @@ use Rattle.st_recover.specs.Commits.{Commit, OpensAs}
 use Rattle.st_session.specs.Keeping.{in_a_store}
 use Rattle.st_session.specs.Points.{Point}
 use Rattle.st_session.specs.Sessions.{follow, longest, asked_in}
-use Rattle.st_session.specs.Standing.{IsAt}
+use Rattle.st_session.specs.inside.Standing.{IsAt}
 use Rattle.st_session.proofs.Following.{follows, rest_of, told_both, told_more, read_both, rest_then, rest_err, rest_none, rest_over}
 use Rattle.st_session.proofs.Points.{GoesAs, named_so}
 use Rattle.st_session.proofs.Responding.{stays_now, fails_now}

@@ -6,7 +6,7 @@ use Rattle.st_recover.specs.Commits.{Commit}
 use Rattle.st_session.specs.Keeping.{in_a_store}
 use Rattle.st_session.specs.Points.{Point}
 use Rattle.st_session.specs.Sessions.{follow, longest}
-use Rattle.st_session.specs.Standing.{MayGoOn, IsAt}
+use Rattle.st_session.specs.inside.Standing.{MayGoOn, IsAt}
 use Rattle.st_session.proofs.Points.{GoesAs}
 use Rattle.st_session.proofs.reading.follow.Given as goal
 

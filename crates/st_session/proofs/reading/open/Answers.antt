@@ -5,12 +5,12 @@ use Rattle.st_protocol.specs.Courses.{Reply}
 use Rattle.st_protocol.proofs.Joins.{obeys_behind, counts_behind, counts_wider, no_read}
 use Rattle.st_install.specs.Defining.{installed}
 use Rattle.st_recover.specs.Commits.{Commit, OpensAs}
-use Rattle.st_recover.specs.Replays.{losses_of}
+use Rattle.st_recover.specs.inside.Replayings.{losses_of}
 use Rattle.st_session.specs.Keeping.{in_a_store}
 use Rattle.st_session.specs.Points.{Point}
 use Rattle.st_session.specs.FirstLines.{opening_text}
 use Rattle.st_session.specs.Sessions.{asked_in, follow_script, follow_told, session}
-use Rattle.st_session.specs.Standing.{IsAt}
+use Rattle.st_session.specs.inside.Standing.{IsAt}
 use Rattle.st_session.proofs.Ending.{did_reply, unsaid_before, told_behind}
 use Rattle.st_session.proofs.Holding.{holds_said, holds_rest}
 use Rattle.st_session.proofs.Responding.{fails_now}

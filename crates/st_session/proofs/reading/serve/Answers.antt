@@ -7,21 +7,22 @@ use Rattle.st_model.specs.Machine.{State, empty_world}
 use Rattle.st_model.specs.Objects.{nil}
 use Rattle.st_model.specs.Show.{Shows}
 use Rattle.st_model.specs.Table.{Table}
-use Rattle.st_frames.specs.Shown.{shown}
+use Rattle.st_frames.specs.inside.Shown.{shown}
 use Rattle.st_store.specs.Names.{IsNoFileOf}
 use Rattle.st_protocol.specs.declared.status.Status.{Status}
 use Rattle.st_protocol.specs.declared.status.Status.TheVariants as status
 use Rattle.st_protocol.proofs.Joins.{obeys_fault}
 use Rattle.st_install.specs.Defining.{installed}
-use Rattle.st_recover.specs.Archives.{ArchiveState, Holds}
+use Rattle.st_recover.specs.inside.Archives.{ArchiveState, Holds}
 use Rattle.st_recover.specs.Commits.{Commit, OpensAs}
-use Rattle.st_recover.specs.Replays.{Loss, losses_of}
+use Rattle.st_recover.specs.Replays.{Loss}
+use Rattle.st_recover.specs.inside.Replayings.{losses_of}
 use Rattle.st_recover.proofs.Gates.{own_gate}
 use Rattle.st_session.specs.Ends.{SessionEnds, status_in}
 use Rattle.st_session.specs.Keeping.{in_a_store}
 use Rattle.st_session.specs.Opening.{session_over, session_so_far_over}
 use Rattle.st_session.specs.Points.{Point, alive}
-use Rattle.st_session.specs.Standing.{IsAt, shown_by}
+use Rattle.st_session.specs.inside.Standing.{IsAt, shown_by}
 use Rattle.st_session.proofs.Ending.{session_ends, ends_of, complete_of}
 use Rattle.st_session.proofs.Holding.{holds_rest}
 use Rattle.st_session.proofs.Lawful.{session_law}

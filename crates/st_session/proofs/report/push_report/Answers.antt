@@ -1,5 +1,5 @@
 use Rattle.st_model.specs.Text.{state_text}
-use Rattle.st_session.specs.Standing.{shown_by}
+use Rattle.st_session.specs.inside.Standing.{shown_by}
 use Rattle.st_session.proofs.Reported.{reported, unreported}
 use Rattle.st_session.proofs.report.push_report.Goals as goal
 

@@ -2,7 +2,7 @@ use Rattle.std.proofs.Common.{◌≡◌, Some, sym, ap, ◌∙◌}
 use Rattle.st_model.specs.Text.{state_text}
 use Rattle.st_call.proofs.Pushing.{push_none, push_as}
 use Rattle.st_session.specs.Reports.{text_of}
-use Rattle.st_session.specs.Standing.{shown_by}
+use Rattle.st_session.specs.inside.Standing.{shown_by}
 use Rattle.st_session.proofs.report.push_shown.Goals as goal
 
 pub returns-in-Some : goal.returns-in-Some

@@ -1,6 +1,6 @@
 use Rattle.std.proofs.Common.{◌≡◌, [], ⊎_elim, sym, ap}
 use Rattle.st_call.proofs.Pushing.{push_none, push_as}
-use Rattle.st_session.specs.Runs.{end_text}
+use Rattle.st_session.specs.inside.Runs.{end_text}
 use Rattle.st_session.proofs.running.push_end.Goals as goal
 
 pub returns-in-Snapshot : goal.returns-in-Snapshot

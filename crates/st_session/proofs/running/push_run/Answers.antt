@@ -1,8 +1,8 @@
 use Rattle.std.proofs.Common.{◌≡◌, ◌-◌, ◌≤◌, ◌<◌, ℕ, None, subst, arith}
 use Rattle.std.specs.Prelude.{Option, Ok, IfSome}
 use Rattle.st_host.specs.declared.host.SayFault.{SayFault}
-use Rattle.st_session.specs.Standing.{shown_by, StandsAt}
-use Rattle.st_session.specs.Stretches.{PushesStretch, stretch}
+use Rattle.st_session.specs.inside.Standing.{shown_by, StandsAt}
+use Rattle.st_session.specs.inside.Stretches.{PushesStretch, stretch}
 use Rattle.st_session.proofs.Stretches.{none_pushed, pushed_on, pushed_all, pushed_part}
 use Rattle.st_session.proofs.running.push_run.Goals as goal
 

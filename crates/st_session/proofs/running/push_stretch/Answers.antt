@@ -1,10 +1,10 @@
 use Rattle.std.proofs.Common.{◌+◌, sym, ap, subst, ◌∙◌, arith}
 use Rattle.st_model.specs.Values.{value}
-use Rattle.st_machine.specs.Runs.{death_of}
-use Rattle.st_call.specs.Saying.{said_in}
+use Rattle.st_machine.specs.inside.Runs.{death_of}
+use Rattle.st_call.specs.inside.Saying.{said_in}
 use Rattle.st_call.proofs.Pushing.{push_as}
-use Rattle.st_session.specs.Runs.{end_text}
-use Rattle.st_session.specs.Standing.{shown_by}
+use Rattle.st_session.specs.inside.Runs.{end_text}
+use Rattle.st_session.specs.inside.Standing.{shown_by}
 use Rattle.st_session.proofs.Cycles.{SaidSoFar, none_so_far, ends_here, end_unsaid, stops_here, said_on, cut_short}
 use Rattle.st_session.proofs.running.push_stretch.Goals as goal
 

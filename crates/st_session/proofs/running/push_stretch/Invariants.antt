@@ -2,8 +2,8 @@ use Rattle.std.proofs.Common.{◌≡◌, ◌≤◌, ◌-◌, None}
 use Rattle.st_model.specs.Machine.{State}
 use Rattle.st_model.specs.Births.{Births}
 use Rattle.st_model.specs.Show.{Shows}
-use Rattle.st_frames.specs.Shown.{IsReady}
-use Rattle.st_session.specs.Standing.{shown_by}
+use Rattle.st_frames.specs.inside.Shown.{IsReady}
+use Rattle.st_session.specs.inside.Standing.{shown_by}
 use Rattle.st_session.proofs.Cycles.{SaidSoFar}
 use Rattle.st_session.proofs.running.push_stretch.Given as goal
 

@@ -1,9 +1,9 @@
 use Rattle.std.proofs.Common.{subst}
 use Rattle.st_store.specs.Names.{IsNoFileOf}
-use Rattle.st_recover.specs.Archives.{Holds}
+use Rattle.st_recover.specs.inside.Archives.{Holds}
 use Rattle.st_recover.specs.Commits.{OpensAs, imaged, image_with}
 use Rattle.st_call.specs.Replies.{snapshot_text}
-use Rattle.st_call.specs.Telling.{Tells}
+use Rattle.st_call.specs.inside.Telling.{Tells}
 use Rattle.st_session.proofs.Holding.{holds_said}
 use Rattle.st_session.proofs.Saying.{when_ok}
 use Rattle.st_session.proofs.Snapshots.{image_said, image_unkept}

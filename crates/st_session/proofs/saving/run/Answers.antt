@@ -5,9 +5,9 @@ use Rattle.st_protocol.specs.declared.status.Status.TheVariants.{OutOfMemory}
 use Rattle.st_protocol.proofs.Joins.{counts_behind}
 use Rattle.st_session.specs.Answers.{going_on, watched_course}
 use Rattle.st_session.specs.Keeping.{in_a_store}
-use Rattle.st_session.specs.Standing.{shown_by}
-use Rattle.st_session.specs.Stretches.{SaysStretch}
-use Rattle.st_session.specs.Watched.{watched_stretch}
+use Rattle.st_session.specs.inside.Standing.{shown_by}
+use Rattle.st_session.specs.inside.Stretches.{SaysStretch}
+use Rattle.st_session.specs.inside.Watched.{watched_stretch}
 use Rattle.st_session.specs.Watching.{look_of}
 use Rattle.st_session.proofs.Points.{living_answers}
 use Rattle.st_session.proofs.Snapshots.{ran_none, run_over, run_unsaid, snapshot_failed, snapshot_died, snapshot_kept}

@@ -2,9 +2,9 @@ use Rattle.std.proofs.Common.{◌≡◌, ◌≤◌, ◌-◌, None}
 use Rattle.st_model.specs.Machine.{State}
 use Rattle.st_model.specs.Births.{Births}
 use Rattle.st_model.specs.Show.{Shows}
-use Rattle.st_recover.specs.Archives.{Holds}
+use Rattle.st_recover.specs.inside.Archives.{Holds}
 use Rattle.st_recover.specs.Commits.{Commit}
-use Rattle.st_session.specs.Standing.{MayGoOn, shown_by}
+use Rattle.st_session.specs.inside.Standing.{MayGoOn, shown_by}
 use Rattle.st_session.specs.Watching.{look_of}
 use Rattle.st_session.proofs.Snapshots.{RanSoFar}
 use Rattle.st_session.proofs.saving.run.Given as goal

@@ -1,6 +1,6 @@
 use Rattle.std.proofs.Common.{◌≡◌, ◌-◌, ap, Err}
-use Rattle.st_session.specs.Standing.{shown_by}
-use Rattle.st_session.specs.Watched.{watched_stretch}
+use Rattle.st_session.specs.inside.Standing.{shown_by}
+use Rattle.st_session.specs.inside.Watched.{watched_stretch}
 use Rattle.st_session.specs.Watching.{look_of}
 use Rattle.st_session.proofs.Points.{shown_births}
 use Rattle.st_session.proofs.Saying.{stretch_said, stretch_unsaid, stretch_cut}

@@ -2,15 +2,15 @@ use Rattle.std.proofs.Common.{◌∙◌, refl, ap, sym, subst}
 use Rattle.st_model.specs.Births.{births}
 use Rattle.st_model.specs.Saving.{save}
 use Rattle.st_model.proofs.Showing.{show_is}
-use Rattle.st_image.specs.Back.{CanStart}
-use Rattle.st_machine.specs.Asked.{death_by}
+use Rattle.st_image.specs.inside.Back.{CanStart}
+use Rattle.st_machine.specs.inside.Asked.{death_by}
 use Rattle.st_store.specs.Names.{IsNoFileOf}
-use Rattle.st_protocol.specs.Obeying.{Obeys}
-use Rattle.st_recover.specs.Archives.{Holds}
+use Rattle.st_protocol.specs.inside.Obeying.{Obeys}
+use Rattle.st_recover.specs.inside.Archives.{Holds}
 use Rattle.st_recover.specs.Commits.{Commit, OpensAs, image_with}
 use Rattle.st_session.specs.Answers.{going_on}
 use Rattle.st_session.specs.Keeping.{in_a_store, imaging}
-use Rattle.st_session.specs.Standing.{shown_by}
+use Rattle.st_session.specs.inside.Standing.{shown_by}
 use Rattle.st_session.proofs.Points.{living_answers, shown_births}
 use Rattle.st_session.proofs.Served.{on_ok_then, served_said}
 use Rattle.st_session.proofs.Snapshots.{saved_can_start, saved_kept, saved_died}

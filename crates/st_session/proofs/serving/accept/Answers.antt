@@ -1,9 +1,9 @@
 use Rattle.std.proofs.Common.{ap, sym, subst}
 use Rattle.st_model.specs.Show.{Shows}
-use Rattle.st_frames.specs.Shown.{IsReady, shown}
-use Rattle.st_chunk.specs.ScriptDefinitions.{definition_of}
+use Rattle.st_frames.specs.inside.Shown.{IsReady, shown}
+use Rattle.st_chunk.specs.inside.ScriptDefinitions.{definition_of}
 use Rattle.st_install.specs.Defining.{installed}
-use Rattle.st_install.specs.Prepareds.{IsPrepared}
+use Rattle.st_install.specs.inside.Prepareds.{IsPrepared}
 use Rattle.st_changes.specs.Last.{HasSelector}
 use Rattle.st_session.specs.Answers.{definition_course}
 use Rattle.st_session.specs.Keeping.{in_a_store}

@@ -1,6 +1,6 @@
 use Rattle.std.proofs.Common.{sym, subst}
 use Rattle.st_chunk.specs.Asks.{ask_of}
-use Rattle.st_chunk.specs.ScriptDefinitions.{definition_of}
+use Rattle.st_chunk.specs.inside.ScriptDefinitions.{definition_of}
 use Rattle.st_install.specs.Defining.{installed}
 use Rattle.st_session.specs.Answers.{answer}
 use Rattle.st_session.specs.Keeping.{in_a_store}

@@ -1,11 +1,11 @@
 use Rattle.std.proofs.Common.{Err, refl, subst}
 use Rattle.st_protocol.specs.declared.status.Status.TheVariants as status
-use Rattle.st_chunk.specs.ScriptDefinitions.{definition_of}
+use Rattle.st_chunk.specs.inside.ScriptDefinitions.{definition_of}
 use Rattle.st_install.specs.Defining.{installed}
-use Rattle.st_install.specs.Prepareds.{PreparesAs}
+use Rattle.st_install.specs.inside.Prepareds.{PreparesAs}
 use Rattle.st_session.specs.Answers.{definition_course, defined_course}
 use Rattle.st_session.specs.Keeping.{in_a_store}
-use Rattle.st_session.specs.Standing.{shown_by}
+use Rattle.st_session.specs.inside.Standing.{shown_by}
 use Rattle.st_session.proofs.Accepting.{refused_said}
 use Rattle.st_session.proofs.Points.{living_answers}
 use Rattle.st_session.proofs.Responding.{fails_now}

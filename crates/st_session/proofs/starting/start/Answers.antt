@@ -3,7 +3,7 @@ use Rattle.st_host.specs.Files.{bytes_of}
 use Rattle.st_model.specs.Image.{image_head}
 use Rattle.st_model.specs.View.{View}
 use Rattle.st_frames.specs.declared.frame.Frame.{Frame}
-use Rattle.st_image.specs.Reading.{IsStart}
+use Rattle.st_image.specs.inside.Reading.{IsStart}
 use Rattle.st_session.proofs.Points.{ready_new}
 use Rattle.st_session.proofs.Started.{own_readable, own_start, own_refused}
 use Rattle.st_session.proofs.starting.start.Goals as goal

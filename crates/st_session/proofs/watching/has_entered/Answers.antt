@@ -1,9 +1,9 @@
 use Rattle.std.proofs.Common.{◌<◌, sym, ap, ◌∙◌, arith}
 use Rattle.st_model.specs.Values.{value}
-use Rattle.st_frames.specs.Shown.{shown}
+use Rattle.st_frames.specs.inside.Shown.{shown}
 use Rattle.st_debug.specs.Watched.{is_entered}
-use Rattle.st_session.specs.Standing.{shown_by}
-use Rattle.st_session.specs.Watched.{is_stop}
+use Rattle.st_session.specs.inside.Standing.{shown_by}
+use Rattle.st_session.specs.inside.Watched.{is_stop}
 use Rattle.st_session.specs.Watching.{entry_seen}
 use Rattle.st_session.proofs.Seen.{first_goes, later_stops}
 use Rattle.st_session.proofs.watching.has_entered.Goals as goal

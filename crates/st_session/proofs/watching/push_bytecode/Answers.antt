@@ -2,7 +2,7 @@ use Rattle.std.proofs.Common.{refl, sym, ap, ◌∙◌, append-nil}
 use Rattle.std.specs.Prelude.{option_map}
 use Rattle.st_call.proofs.Pushing.{push_none, push_as}
 use Rattle.st_debug.specs.Watched.{at_of, at_text}
-use Rattle.st_session.specs.Stretches.{words_of}
+use Rattle.st_session.specs.inside.Stretches.{words_of}
 use Rattle.st_session.specs.Watching.{bytecode_texts}
 use Rattle.st_session.proofs.Looking.{same_watched}
 use Rattle.st_session.proofs.watching.push_bytecode.Goals as goal

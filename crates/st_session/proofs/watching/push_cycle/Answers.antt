@@ -1,10 +1,10 @@
 use Rattle.std.proofs.Common.{◌+◌, ap, ◌∙◌}
 use Rattle.st_model.specs.Values.{value}
-use Rattle.st_machine.specs.Runs.{death_of}
-use Rattle.st_call.specs.Saying.{said_in}
+use Rattle.st_machine.specs.inside.Runs.{death_of}
+use Rattle.st_call.specs.inside.Saying.{said_in}
 use Rattle.st_call.proofs.Pushing.{push_as}
-use Rattle.st_session.specs.Runs.{end_text}
-use Rattle.st_session.specs.Standing.{shown_by}
+use Rattle.st_session.specs.inside.Runs.{end_text}
+use Rattle.st_session.specs.inside.Standing.{shown_by}
 use Rattle.st_session.proofs.Seen.{goes_on, asks, says_bytes, bytes_unsaid, is_over, over_unsaid}
 use Rattle.st_session.proofs.watching.push_cycle.Goals as goal
 

@@ -1,10 +1,10 @@
 use Rattle.std.proofs.Common.{◌≡◌, ◌-◌, None, subst, arith}
 use Rattle.std.specs.Prelude.{Ok, Some}
 use Rattle.st_host.specs.declared.host.SayFault.{SayFault}
-use Rattle.st_session.specs.Standing.{shown_by}
-use Rattle.st_session.specs.Stretches.{PushesStretch}
+use Rattle.st_session.specs.inside.Standing.{shown_by}
+use Rattle.st_session.specs.inside.Stretches.{PushesStretch}
 use Rattle.st_session.specs.Watching.{look_of}
-use Rattle.st_session.specs.Watched.{watched_stretch}
+use Rattle.st_session.specs.inside.Watched.{watched_stretch}
 use Rattle.st_session.proofs.Points.{shown_births}
 use Rattle.st_session.proofs.Seen.{SeenSoFar, none_seen, seen_on, seen_asked, seen_over, seen_cut, all_ran, ran_unsaid, cycled_so, goes_alive, asks_alive, one_later}
 use Rattle.st_session.proofs.watching.push_cycles.Goals as goal

@@ -1,9 +1,9 @@
 use Rattle.std.proofs.Common.{◌≡◌, [], sym, ap, ◌∙◌, append-nil}
 use Rattle.st_model.specs.Values.{value}
 use Rattle.st_call.proofs.Pushing.{push_none, push_as}
-use Rattle.st_session.specs.Standing.{shown_by}
-use Rattle.st_session.specs.Stretches.{words_of}
-use Rattle.st_session.specs.Watched.{texts_seen, is_stop}
+use Rattle.st_session.specs.inside.Standing.{shown_by}
+use Rattle.st_session.specs.inside.Stretches.{words_of}
+use Rattle.st_session.specs.inside.Watched.{texts_seen, is_stop}
 use Rattle.st_session.specs.Watching.{Says, Stops, entry_seen, stopped_text}
 use Rattle.st_session.proofs.Seen.{unentered, enters}
 use Rattle.st_session.proofs.watching.push_entry.Goals as goal

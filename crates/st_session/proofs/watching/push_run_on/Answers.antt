@@ -1,6 +1,6 @@
 use Rattle.std.proofs.Common.{◌-◌, sym, subst}
-use Rattle.st_session.specs.Standing.{shown_by}
-use Rattle.st_session.specs.Stretches.{PushesStretch}
+use Rattle.st_session.specs.inside.Standing.{shown_by}
+use Rattle.st_session.specs.inside.Stretches.{PushesStretch}
 use Rattle.st_session.proofs.Watches.{stretch_is_watched}
 use Rattle.st_session.proofs.watching.push_run_on.Goals as goal
 

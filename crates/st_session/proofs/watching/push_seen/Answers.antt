@@ -1,6 +1,6 @@
 use Rattle.std.proofs.Common.{sym, ap, ◌∙◌}
 use Rattle.st_model.proofs.Showing.{show_is}
-use Rattle.st_session.specs.Standing.{shown_by}
+use Rattle.st_session.specs.inside.Standing.{shown_by}
 use Rattle.st_session.specs.Watching.{look_of}
 use Rattle.st_session.proofs.Seen.{stops_here, seen_then, seen_unsaid}
 use Rattle.st_session.proofs.watching.push_seen.Goals as goal

@@ -1,6 +1,6 @@
 use Rattle.std.proofs.Common.{subst, ◌∙◌}
 use Rattle.st_machine.specs.Prepared.{prepared, PreparedAs}
-use Rattle.st_session.specs.Standing.{shown_by}
+use Rattle.st_session.specs.inside.Standing.{shown_by}
 use Rattle.st_session.specs.Watching.{look_of}
 use Rattle.st_session.proofs.Seen.{dead_before, went_before, watched_by}
 use Rattle.st_session.proofs.watching.push_watched.Goals as goal

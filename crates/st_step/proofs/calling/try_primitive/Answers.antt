@@ -3,9 +3,9 @@ use Rattle.std.specs.Prelude.{Option}
 use Rattle.st_model.specs.declared.outcome.StepEnd.{StepEnd}
 use Rattle.st_model.specs.Machine.{Died, Went}
 use Rattle.st_model.specs.View.{View}
-use Rattle.st_frames.specs.Rows.{row_state, with_left}
-use Rattle.st_frames.specs.Shown.{shown}
-use Rattle.st_step.specs.Trying.{deed_if_any}
+use Rattle.st_frames.specs.inside.Rows.{row_state, with_left}
+use Rattle.st_frames.specs.inside.Shown.{shown}
+use Rattle.st_step.specs.inside.Trying.{deed_if_any}
 use Rattle.st_step.proofs.Stepped.{done_after}
 use Rattle.st_step.proofs.Called.{dies, ends, registers_gone, said_gone, too_many, row_as, view_still, fails}
 use Rattle.st_step.proofs.calling.try_primitive.Goals as goal

@@ -1,6 +1,6 @@
 use Rattle.std.proofs.Common.{arith}
 use Rattle.st_frames.proofs.Doing.{rows}
-use Rattle.st_step.specs.Responding.{by_flag}
+use Rattle.st_step.specs.inside.Responding.{by_flag}
 use Rattle.st_model.specs.Executing.{goes_on}
 use Rattle.st_step.proofs.flags.by_flag.Goals as goal
 

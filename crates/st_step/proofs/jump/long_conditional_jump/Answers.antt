@@ -1,6 +1,6 @@
 use Rattle.std.proofs.Common.{arith}
 use Rattle.st_frames.proofs.Doing.{rows}
-use Rattle.st_step.specs.Jumping.{long_conditional_jump}
+use Rattle.st_step.specs.inside.Jumping.{long_conditional_jump}
 use Rattle.st_model.specs.Executing.{executed_if_any}
 use Rattle.st_step.proofs.jump.long_conditional_jump.Goals as goal
 

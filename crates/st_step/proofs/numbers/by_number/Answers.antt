@@ -1,7 +1,7 @@
 use Rattle.st_step.proofs.NumberChanges.{responds_within}
 use Rattle.std.proofs.Common.{arith}
 use Rattle.st_frames.proofs.Doing.{rows}
-use Rattle.st_step.specs.Trying.{by_number}
+use Rattle.st_step.specs.inside.Trying.{by_number}
 use Rattle.st_step.proofs.numbers.by_number.Goals as goal
 
 pub returns-clause-takes : goal.returns-clause-takes

@@ -1,6 +1,6 @@
 use Rattle.std.proofs.Common.{arith}
 use Rattle.st_frames.proofs.Doing.{rows}
-use Rattle.st_step.specs.Trying.{last_number}
+use Rattle.st_step.specs.inside.Trying.{last_number}
 use Rattle.st_step.proofs.numbers.last_number.Goals as goal
 
 pub returns-then-is_with-clause-does : goal.returns-then-is_with-clause-does

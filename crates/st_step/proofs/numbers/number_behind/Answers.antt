@@ -1,6 +1,6 @@
 use Rattle.std.proofs.Common.{arith}
 use Rattle.st_frames.proofs.Doing.{rows}
-use Rattle.st_step.specs.Trying.{number_behind, succeeds}
+use Rattle.st_step.specs.inside.Trying.{number_behind, succeeds}
 use Rattle.st_model.specs.Executing.{goes_on}
 use Rattle.st_step.proofs.numbers.number_behind.Goals as goal
 

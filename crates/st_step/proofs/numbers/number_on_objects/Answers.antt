@@ -1,6 +1,6 @@
 use Rattle.std.proofs.Common.{arith}
 use Rattle.st_step.proofs.NumberChanges.{trials}
-use Rattle.st_step.specs.Trying.{number_on_objects, if_done}
+use Rattle.st_step.specs.inside.Trying.{number_on_objects, if_done}
 use Rattle.st_step.proofs.numbers.number_on_objects.Goals as goal
 
 pub returns-in_err-try_storage-clause-does : goal.returns-in_err-try_storage-clause-does

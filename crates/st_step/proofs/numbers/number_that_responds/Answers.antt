@@ -1,6 +1,6 @@
 use Rattle.std.proofs.Common.{arith}
 use Rattle.st_step.proofs.NumberChanges.{trials}
-use Rattle.st_step.specs.Trying.{number_that_responds, if_done}
+use Rattle.st_step.specs.inside.Trying.{number_that_responds, if_done}
 use Rattle.st_step.proofs.numbers.number_that_responds.Goals as goal
 
 pub returns-then-is_arithmetic-clause-does : goal.returns-then-is_arithmetic-clause-does

@@ -1,6 +1,6 @@
 use Rattle.std.proofs.Common.{arith}
 use Rattle.st_frames.proofs.Doing.{rows}
-use Rattle.st_step.specs.Trying.{says}
+use Rattle.st_step.specs.inside.Trying.{says}
 use Rattle.st_step.proofs.numbers.says.Goals as goal
 
 pub returns-in_err-receiver-clause-does : goal.returns-in_err-receiver-clause-does

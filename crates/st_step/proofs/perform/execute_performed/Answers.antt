@@ -1,8 +1,8 @@
 use Rattle.std.proofs.Common.{arith}
 use Rattle.st_step.proofs.Executes.{responses}
 use Rattle.st_model.specs.Executing.{execute_performed, execute_by, respond_by_extension}
-use Rattle.st_step.specs.Responding.{by_flag}
-use Rattle.st_step.specs.Trying.{or_activated}
+use Rattle.st_step.specs.inside.Responding.{by_flag}
+use Rattle.st_step.specs.inside.Trying.{or_activated}
 use Rattle.st_step.proofs.perform.execute_performed.Goals as goal
 
 pub returns-in_err-method_header-clause-does : goal.returns-in_err-method_header-clause-does

@@ -1,6 +1,6 @@
 use Rattle.std.proofs.Common.{arith}
 use Rattle.st_frames.proofs.Doing.{rows}
-use Rattle.st_step.specs.Trying.{performs, perform_if_fits, succeeds}
+use Rattle.st_step.specs.inside.Trying.{performs, perform_if_fits, succeeds}
 use Rattle.st_step.proofs.perform.performs_above.Goals as goal
 
 pub returns-in_err-class-clause-does : goal.returns-in_err-class-clause-does

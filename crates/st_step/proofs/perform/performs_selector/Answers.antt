@@ -1,6 +1,6 @@
 use Rattle.std.proofs.Common.{arith}
 use Rattle.st_step.proofs.Performed.{selectors}
-use Rattle.st_step.specs.Trying.{performs_first}
+use Rattle.st_step.specs.inside.Trying.{performs_first}
 use Rattle.st_step.proofs.perform.performs_selector.Goals as goal
 
 pub returns-then-arguments-eq0-clause-does : goal.returns-then-arguments-eq0-clause-does

@@ -1,7 +1,7 @@
 use Rattle.std.proofs.Common.{refl, arith}
 use Rattle.st_step.proofs.Performed.{spread-performs, spread-fails}
 use Rattle.st_frames.proofs.Doing.{rows}
-use Rattle.st_step.specs.Trying.{performs_with}
+use Rattle.st_step.specs.inside.Trying.{performs_with}
 use Rattle.st_step.proofs.perform.performs_with.Goals as goal
 
 pub returns-in-Ok-clause-does : goal.returns-in-Ok-clause-does

@@ -1,7 +1,7 @@
 use Rattle.std.proofs.Common.{arith}
 use Rattle.st_frames.proofs.Doing.{rows}
 use Rattle.st_model.specs.Bytecodes.{bytecode, long_jump_on_true, long_jump_on_false, return_receiver}
-use Rattle.st_step.specs.Jumping.{long_conditional_jump}
+use Rattle.st_step.specs.inside.Jumping.{long_conditional_jump}
 use Rattle.st_model.specs.Executing.{goes_on, executed_if_any}
 use Rattle.st_step.proofs.rows.bytecode.Goals as goal
 

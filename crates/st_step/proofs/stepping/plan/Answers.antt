@@ -3,9 +3,9 @@ use Rattle.st_model.specs.Machine.{used}
 use Rattle.st_model.specs.Table.{table, apart}
 use Rattle.st_model.specs.Bytecodes.{step}
 use Rattle.st_model.specs.View.{View}
-use Rattle.st_draft.specs.Noted.{drafted}
-use Rattle.st_frames.specs.Shown.{shown}
-use Rattle.st_step.specs.Planned.{Plans}
+use Rattle.st_draft.specs.inside.Noted.{drafted}
+use Rattle.st_frames.specs.inside.Shown.{shown}
+use Rattle.st_step.specs.inside.Planned.{Plans}
 use Rattle.st_step.proofs.Stepped.{loaded_as, used_after, plan_done, plan_dies, plan_births}
 use Rattle.st_step.proofs.stepping.plan.Goals as goal
 

@@ -1,5 +1,5 @@
 use Rattle.st_model.specs.Values.{value}
-use Rattle.st_frames.specs.Shown.{shown}
+use Rattle.st_frames.specs.inside.Shown.{shown}
 use Rattle.st_step.proofs.Said.{said_is, none_said}
 use Rattle.st_step.proofs.stepping.say_top.Goals as goal
 

@@ -5,7 +5,7 @@ use Rattle.st_model.specs.Values.{word}
 use Rattle.st_model.specs.Outcomes.{end_of, outcome_of}
 use Rattle.st_model.specs.Machine.{Went}
 use Rattle.st_simulation.proofs.Going.{step_names_top}
-use Rattle.st_frames.specs.Shown.{shown}
+use Rattle.st_frames.specs.inside.Shown.{shown}
 use Rattle.st_step.proofs.stepping.step.Goals as goal
 
 pub returns-in-Ok-Says-clause-step : goal.returns-in-Ok-Says-clause-step

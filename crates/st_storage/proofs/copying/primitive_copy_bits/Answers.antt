@@ -1,7 +1,7 @@
 use Rattle.std.proofs.Common.{rules, ◌≡◌, Err, true, refl, arith}
 use Rattle.std.specs.Prelude.{nat_le}
 use Rattle.std.proofs.lemmas.Bool.Decides.{nat_tests}
-use Rattle.st_bitblt.specs.Reading.{copy_in}
+use Rattle.st_bitblt.specs.inside.Reading.{copy_in}
 use Rattle.st_frames.proofs.Leaves.{leaves-died}
 use Rattle.st_storage.proofs.CopyingTries.{bits-unseen, copy-left, copy-refused}
 use Rattle.st_storage.proofs.copying.primitive_copy_bits.Goals as goal

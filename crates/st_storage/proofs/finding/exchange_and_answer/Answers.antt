@@ -1,6 +1,6 @@
 use Rattle.std.proofs.Common.{arith}
 use Rattle.st_frames.proofs.Doing.{rows}
-use Rattle.st_frames.specs.Answering.{succeed_by}
+use Rattle.st_frames.specs.inside.Answering.{succeed_by}
 use Rattle.st_model.specs.Storage.{exchange_and_answer}
 use Rattle.st_storage.proofs.finding.exchange_and_answer.Goals as goal
 

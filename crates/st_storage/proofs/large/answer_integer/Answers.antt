@@ -1,6 +1,6 @@
 use Rattle.std.proofs.Common.{rules, arith}
 use Rattle.st_frames.proofs.Doing.{rows}
-use Rattle.st_frames.specs.Answering.{succeed_by}
+use Rattle.st_frames.specs.inside.Answering.{succeed_by}
 use Rattle.st_frames.proofs.Leaves.{left}
 use Rattle.st_storage.proofs.large.answer_integer.Goals as goal
 

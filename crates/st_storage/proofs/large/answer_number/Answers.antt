@@ -1,6 +1,6 @@
 use Rattle.std.proofs.Common.{arith}
 use Rattle.st_frames.proofs.Doing.{rows}
-use Rattle.st_frames.specs.Answering.{succeed_by}
+use Rattle.st_frames.specs.inside.Answering.{succeed_by}
 use Rattle.st_storage.proofs.large.answer_number.Goals as goal
 
 pub returns-in_err-answer-clause-does : goal.returns-in_err-answer-clause-does

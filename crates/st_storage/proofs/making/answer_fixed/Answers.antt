@@ -1,7 +1,7 @@
 use Rattle.std.proofs.Common.{arith}
 use Rattle.st_frames.proofs.Doing.{rows}
 use Rattle.st_storage.proofs.Makeable.{makeable}
-use Rattle.st_frames.specs.Answering.{succeed_by}
+use Rattle.st_frames.specs.inside.Answering.{succeed_by}
 use Rattle.st_storage.proofs.making.answer_fixed.Goals as goal
 
 pub returns-in_err-answer-clause-does : goal.returns-in_err-answer-clause-does

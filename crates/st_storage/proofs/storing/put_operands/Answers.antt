@@ -1,6 +1,6 @@
 use Rattle.std.proofs.Common.{arith}
 use Rattle.st_frames.proofs.Doing.{rows}
-use Rattle.st_storage.specs.Storing.{put_operands}
+use Rattle.st_storage.specs.inside.Storing.{put_operands}
 use Rattle.st_storage.proofs.storing.put_operands.Goals as goal
 
 pub returns-in_err-object-clause-does : goal.returns-in_err-object-clause-does

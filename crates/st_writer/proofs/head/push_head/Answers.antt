@@ -1,6 +1,6 @@
 use Rattle.std.proofs.Common.{◌≡◌, ◌*◌, ℕ, List, [], ◌∷◌, subst, ◌∙◌}
 use Rattle.std.specs.List.{flat_map}
-use Rattle.st_host.specs.Pieces.{Pushes}
+use Rattle.st_host.specs.inside.Pieces.{Pushes}
 use Rattle.st_writer.specs.Written.{long_bytes, root_word}
 use Rattle.st_writer.proofs.Places.{root_back}
 use Rattle.st_writer.proofs.head.push_head.Goals as goal

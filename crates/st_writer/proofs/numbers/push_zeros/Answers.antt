@@ -1,6 +1,6 @@
 use Rattle.std.proofs.Common.{◌≡◌, ◌≤◌, ℕ, List, take, replicate, subst}
 use Rattle.std.proofs.lemmas.List.{take-replicate}
-use Rattle.st_host.specs.Pieces.{Pushes}
+use Rattle.st_host.specs.inside.Pieces.{Pushes}
 use Rattle.st_writer.specs.Written.{zeros}
 use Rattle.st_writer.proofs.numbers.push_zeros.Goals as goal
 

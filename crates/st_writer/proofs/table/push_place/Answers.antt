@@ -1,7 +1,7 @@
 use Rattle.std.proofs.Common.{sym, ap, ◌∙◌, subst, ℕ, List, Ok}
 use Rattle.st_host.specs.declared.host.HostFault.{HostFault}
 use Rattle.st_model.specs.Values.{value}
-use Rattle.st_host.specs.Pieces.{Pushes}
+use Rattle.st_host.specs.inside.Pieces.{Pushes}
 use Rattle.st_host.proofs.Pushing.{push_none}
 use Rattle.st_writer.specs.Written.{bytes_at}
 use Rattle.st_writer.proofs.Places.{there, absent}

@@ -2,7 +2,7 @@ use Rattle.std.proofs.Common.{◌≡◌, ◌++◌, ℕ, Ok, Err, subst, refl, ar
 use Rattle.st_host.specs.declared.host.HostFault.{HostFault}
 use Rattle.st_model.specs.Objects.{words_of}
 use Rattle.st_model.specs.Table.{total_used}
-use Rattle.st_host.specs.Pieces.{Pushes}
+use Rattle.st_host.specs.inside.Pieces.{Pushes}
 use Rattle.st_host.proofs.Pushing.{push_then, push_cut}
 use Rattle.st_writer.specs.Written.{head_bytes, zeros, padding, space_below, entries_below}
 use Rattle.st_writer.proofs.Placing.{length-zeros}

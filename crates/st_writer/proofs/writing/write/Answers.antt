@@ -1,6 +1,6 @@
 use Rattle.std.proofs.Common.{◌≡◌, [], refl, sym, ap, subst, arith}
 use Rattle.st_host.proofs.Pushing.{from_adds}
-use Rattle.st_host.specs.Pieces.{Held, end_of, Holds}
+use Rattle.st_host.specs.inside.Pieces.{Held, end_of, Holds}
 use Rattle.st_writer.specs.Written.{image_of}
 use Rattle.st_writer.proofs.Rows.{image_small}
 use Rattle.st_writer.proofs.writing.write.Goals as goal

@@ -5,7 +5,7 @@ use base.Logic.{via, mono_r}
 use denote.Triple.Entry.{on_entry}
 use borrow.Fn.Kinds.{sig_of}
 use contract.Monad.{fact_mono}
-use Rattle.st_at_once.specs.Known.{ArePlaced}
+use Rattle.st_at_once.specs.inside.Known.{ArePlaced}
 use Rattle.st_at_once.proofs.near.Near.stand.Statement.{statement}
 use Rattle.st_at_once.proofs.near.Near.stand.Lts as lts
 use Rattle.st_at_once.proofs.near.Near.stand.Reads as reads

@@ -3,7 +3,7 @@ use Rattle.std.specs.Prelude.{slice_get, Some, nat_abs}
 use Rattle.st_model.specs.Values.{value, word}
 use Rattle.st_model.specs.Objects.{first_unit}
 use Rattle.st_model.specs.View.{object_of}
-use Rattle.st_at_once.specs.Known.{IsCodeAt}
+use Rattle.st_at_once.specs.inside.Known.{IsCodeAt}
 use Rattle.st_at_once.proofs.Direct.{code_read}
 use Rattle.st_at_once.proofs.objects.NearObjects.byte_at.Goals as goal
 

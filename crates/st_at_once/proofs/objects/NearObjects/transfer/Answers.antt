@@ -2,7 +2,7 @@ use Rattle.std.proofs.Common.{rules}
 use Rattle.st_model.specs.Values.{word}
 use Rattle.st_model.specs.Steps.{transfer}
 use Rattle.st_model.specs.Table.{bounded_table}
-use Rattle.st_model.specs.Calls.{itself}
+use Rattle.st_model.specs.inside.Calls.{itself}
 use Rattle.st_at_once.proofs.Keeping.{near_unless, transfer_stays}
 use Rattle.st_at_once.proofs.Placed.{placed_kept}
 use Rattle.st_at_once.proofs.objects.NearObjects.transfer.Goals as goal

@@ -1,6 +1,6 @@
 use Rattle.std.proofs.Common.{take, Ok}
 use Rattle.st_host.specs.declared.host.SayFault.{SayFault}
-use Rattle.st_call.specs.Saying.{Pushes}
+use Rattle.st_call.specs.inside.Saying.{Pushes}
 use Rattle.st_call.proofs.output.Output.push.Given as goal
 
 -- the bytes so far were added

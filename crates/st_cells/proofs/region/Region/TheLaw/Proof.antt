@@ -15,7 +15,7 @@ use denote.Struct.Laws.{RawPtr-copy, usize-copy}
 use denote.Struct.Lending.{lent_at, lent_at_shr_laws, Lends-lies, Lends-said, Lends-first, Lends-both, of_Lends}
 use Rattle.std.specs.contracts.impls.GlobalAllocator.TheImpl.{ghosts}
 use base.Fml.{fsep}
-use Rattle.st_cells.specs.Owned.{is_small, words_type}
+use Rattle.st_cells.specs.inside.Owned.{is_small, words_type}
 use Rattle.st_cells.specs.contracts.region.Region as region
 use Rattle.st_cells.proofs.region.Region.TheLaw.Statement.{statement}
 

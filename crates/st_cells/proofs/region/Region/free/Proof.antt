@@ -35,7 +35,7 @@ use Rattle.std.specs.contracts.alloc.Global as heap
 use Rattle.std.specs.contracts.impls.GlobalAllocator.deallocate as gives
 use Rattle.std.specs.contracts.impls.GlobalAllocator.TheImpl.{ghosts}
 use Rattle.std.proofs.impls.GlobalAllocator.deallocate.Met as gives_met
-use Rattle.st_cells.specs.Owned.{words_type}
+use Rattle.st_cells.specs.inside.Owned.{words_type}
 use Rattle.st_cells.specs.contracts.region.Region as region
 use Rattle.st_cells.specs.contracts.region.Region.free as f
 use Rattle.st_cells.proofs.Fields.{region_val, told}

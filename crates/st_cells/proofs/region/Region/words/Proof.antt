@@ -25,7 +25,7 @@ use denote.Steps.{nothing, heard, peeks, looks, shuts}
 use denote.Struct.Lending.{lent_out, in_block_says}
 use denote.Triple.Walked.{Stays, stay_dropped, walk_of, Goes-dropped}
 use Rattle.std.proofs.Shapes.{after}
-use Rattle.st_cells.specs.Owned.{words_lent}
+use Rattle.st_cells.specs.inside.Owned.{words_lent}
 use Rattle.st_cells.specs.contracts.region.Region as region
 use Rattle.st_cells.specs.contracts.region.Region.words as f
 use Rattle.st_cells.proofs.Fields.{Data, region_val, told, opened}

@@ -34,8 +34,8 @@ use denote.Triple.Walked.{Stays, stay_dropped, walk_of, Goes-spent_ref}
 use denote.Signature.{mut_ref_to}
 use Rattle.std.proofs.Shapes.{after}
 use Rattle.std.specs.contracts.impls.GlobalAllocator.TheImpl.{ghosts}
-use Rattle.st_cells.specs.Lent.{with_words}
-use Rattle.st_cells.specs.Owned.{words_owned, words_type}
+use Rattle.st_cells.specs.inside.Lent.{with_words}
+use Rattle.st_cells.specs.inside.Owned.{words_owned, words_type}
 use Rattle.st_cells.specs.contracts.region.Region as region
 use Rattle.st_cells.specs.contracts.region.Region.words_mut as f
 use Rattle.st_cells.proofs.Fields.{Data, region_val, told}

@@ -42,7 +42,7 @@ use Rattle.std.specs.contracts.alloc.AllocError as AE
 use Rattle.std.specs.contracts.impls.GlobalAllocator.allocate as takes
 use Rattle.std.specs.contracts.impls.GlobalAllocator.TheImpl.{ghosts}
 use Rattle.std.proofs.impls.GlobalAllocator.allocate.Met as takes_met
-use Rattle.st_cells.specs.Owned.{words_type}
+use Rattle.st_cells.specs.inside.Owned.{words_type}
 use Rattle.st_cells.specs.contracts.region.Region as region
 use Rattle.st_cells.specs.contracts.region.write_zeros as fills
 use Rattle.st_cells.specs.contracts.region.Region.zeros as f

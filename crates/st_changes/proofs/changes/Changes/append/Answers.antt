@@ -6,10 +6,10 @@ use Rattle.st_host.proofs.Joining.{makes_then, makes_failed, makes_of}
 use Rattle.st_store.specs.Stored.{Opens, IsFirm}
 use Rattle.st_store.proofs.Settling.{when_err, kept_rest}
 use Rattle.st_chunk.specs.Definitions.{Definition, IsDefinition, entry, entries}
-use Rattle.st_changes.specs.Views.{definition_of, definitions_of}
-use Rattle.st_changes.specs.States.{ChangesState, grown}
-use Rattle.st_changes.specs.Readying.{reserved_of}
-use Rattle.st_changes.specs.IndexStates.{found}
+use Rattle.st_changes.specs.inside.Views.{definition_of, definitions_of}
+use Rattle.st_changes.specs.inside.States.{ChangesState, grown}
+use Rattle.st_changes.specs.inside.Readying.{reserved_of}
+use Rattle.st_changes.specs.inside.IndexStates.{found}
 use Rattle.st_changes.specs.Last.{Answers}
 use Rattle.st_changes.specs.declared.changes.Ready.{Ready}
 use Rattle.st_changes.proofs.ListTexts.{entries_more, all_more}

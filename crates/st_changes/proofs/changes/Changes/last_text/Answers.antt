@@ -1,7 +1,7 @@
 use Rattle.std.proofs.Common.{List, ap, subst, ◌∙◌}
 use Rattle.st_chunk.specs.Definitions.{Definition}
-use Rattle.st_changes.specs.Views.{definition_of, definitions_of}
-use Rattle.st_changes.specs.States.{ChangesState}
+use Rattle.st_changes.specs.inside.Views.{definition_of, definitions_of}
+use Rattle.st_changes.specs.inside.States.{ChangesState}
 use Rattle.st_changes.specs.Lists.{IsAt}
 use Rattle.st_changes.proofs.Texts.{last_text_is}
 use Rattle.st_changes.proofs.changes.Changes.last_text.Goals as goal

@@ -2,10 +2,11 @@ use Rattle.std.proofs.Common.{◌≡◌, List, sym, ap, subst, arith, Some}
 use Rattle.std.specs.Prelude.{All, Option, unwrap_or}
 use Rattle.std.specs.Option.{option_map}
 use Rattle.st_chunk.specs.Definitions.{Definition, IsDefinition}
-use Rattle.st_changes.specs.IndexStates.{found}
-use Rattle.st_changes.specs.Views.{definition_of, definitions_of}
-use Rattle.st_changes.specs.States.{IsTotal}
-use Rattle.st_changes.specs.Last.{Answers, IsReady}
+use Rattle.st_changes.specs.inside.IndexStates.{found}
+use Rattle.st_changes.specs.inside.Views.{definition_of, definitions_of}
+use Rattle.st_changes.specs.inside.States.{IsTotal}
+use Rattle.st_changes.specs.Last.{Answers}
+use Rattle.st_changes.specs.inside.Prepared.{IsReady}
 use Rattle.st_changes.specs.declared.changes.Ready.{Ready}
 use Rattle.st_changes.proofs.Lasts.{answers_same, ready_on, ready_of}
 use Rattle.st_changes.proofs.changes.Changes.reserve_as.Goals as goal

@@ -1,6 +1,6 @@
 use Rattle.std.proofs.Common.{None, Some, ap, sym, ◌∙◌}
 use Rattle.std.specs.HashMap.{spare}
-use Rattle.st_changes.specs.IndexStates.{IndexState, found}
+use Rattle.st_changes.specs.inside.IndexStates.{IndexState, found}
 use Rattle.st_changes.proofs.Names.{looked}
 use Rattle.st_changes.proofs.index.Index.find.Goals as goal
 

@@ -2,7 +2,7 @@ use Rattle.std.proofs.Common.{is_some, ap, sym, ◌∙◌, true≢false}
 use Rattle.std.specs.Prelude.{bytes_eq}
 use Rattle.std.specs.HashMap.{spare}
 use Rattle.std.specs.List.{list_any}
-use Rattle.st_changes.specs.IndexStates.{IndexState, found, updated}
+use Rattle.st_changes.specs.inside.IndexStates.{IndexState, found, updated}
 use Rattle.st_changes.proofs.Names.{noted, bounded}
 use Rattle.st_changes.proofs.index.Index.note.Goals as goal
 use Rattle.st_changes.proofs.index.Index.note.Goals.{in_default-via-in-Some+in_default, in_default-via-in_default}

@@ -1,5 +1,5 @@
 use Rattle.std.proofs.Common.{◌∙◌}
-use Rattle.st_chunk.specs.Progress.{reading_of}
+use Rattle.st_chunk.specs.inside.Progress.{reading_of}
 use Rattle.st_chunk.proofs.Told.{header_chunk}
 use Rattle.st_chunk.proofs.progress.Progress.header_byte.Goals as goal
 

@@ -1,4 +1,4 @@
-use Rattle.st_chunk.specs.Progress.{reading_of}
+use Rattle.st_chunk.specs.inside.Progress.{reading_of}
 use Rattle.st_chunk.proofs.Places.{sound_read, browsed_read, defined_read, range_read}
 use Rattle.st_chunk.proofs.reader.Reader.feed.Goals as goal
 

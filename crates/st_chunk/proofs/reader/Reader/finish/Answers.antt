@@ -1,4 +1,4 @@
-use Rattle.st_chunk.specs.Progress.{reading_of}
+use Rattle.st_chunk.specs.inside.Progress.{reading_of}
 use Rattle.st_chunk.proofs.Places.{sound_end, browsed_end, defined_end, range_end}
 use Rattle.st_chunk.proofs.reader.Reader.finish.Goals as goal
 

@@ -3,7 +3,7 @@ use Rattle.std.proofs.lemmas.Grind.{common_steps}
 use Rattle.st_model.specs.Values.{value, is_small, Ref}
 use Rattle.st_model.specs.Settled.{is_marked}
 use Rattle.st_model.proofs.Pointers.{value_of-even}
-use Rattle.st_clean.specs.Found.{Notes}
+use Rattle.st_clean.specs.inside.Found.{Notes}
 use Rattle.st_clean.proofs.Steps.{notes_small, notes_again, notes_one}
 use Rattle.st_clean.proofs.state.Found.note.Goals as goal
 

@@ -2,7 +2,7 @@ use Rattle.std.proofs.Common.{[], ◌∷◌, take, map, take_all, subst, arith, 
 use Rattle.std.proofs.lemmas.Grind.{common_steps}
 use Rattle.std.proofs.lemmas.List.{map_more}
 use Rattle.st_model.specs.Values.{value}
-use Rattle.st_clean.specs.Found.{Notes}
+use Rattle.st_clean.specs.inside.Found.{Notes}
 use Rattle.st_clean.proofs.Steps.{notes_none, notes_join}
 use Rattle.st_clean.proofs.state.Found.note_all.Goals as goal
 

@@ -1,6 +1,6 @@
 use Rattle.std.proofs.Common.{take, map}
 use Rattle.st_model.specs.Values.{value}
-use Rattle.st_clean.specs.Found.{Notes}
+use Rattle.st_clean.specs.inside.Found.{Notes}
 use Rattle.st_clean.proofs.state.Found.note_all.Given as goal
 
 -- the words so far

@@ -2,7 +2,7 @@ use Rattle.std.proofs.Common.{◌≡◌, take_all, subst, arith, length}
 use Rattle.std.proofs.lemmas.Grind.{common_steps}
 use Rattle.st_model.specs.Values.{value}
 use Rattle.st_model.specs.View.{object_of}
-use Rattle.st_clean.specs.Found.{Notes}
+use Rattle.st_clean.specs.inside.Found.{Notes}
 use Rattle.st_clean.proofs.Steps.{notes_none, notes_more}
 use Rattle.st_clean.proofs.state.Found.note_fields.Goals as goal
 

@@ -1,7 +1,7 @@
 use Rattle.std.proofs.Common.{take}
 use Rattle.st_model.specs.Values.{value}
 use Rattle.st_model.specs.View.{object_of}
-use Rattle.st_clean.specs.Found.{Notes}
+use Rattle.st_clean.specs.inside.Found.{Notes}
 use Rattle.st_clean.proofs.state.Found.note_fields.Given as goal
 
 -- the fields so far

@@ -1,6 +1,6 @@
 use Rattle.std.proofs.Common.{◌++◌, subst}
 use Rattle.st_model.specs.Machine.{table_root}
-use Rattle.st_clean.specs.Found.{Notes, page_names}
+use Rattle.st_clean.specs.inside.Found.{Notes, page_names}
 use Rattle.st_clean.proofs.Steps.{notes_join}
 use Rattle.st_clean.proofs.state.Found.note_first.Goals as goal
 

@@ -1,7 +1,7 @@
 use Rattle.std.proofs.Common.{[], ◌∷◌, subst}
 use Rattle.st_model.specs.Values.{value, Ref}
 use Rattle.st_model.specs.View.{object_of}
-use Rattle.st_clean.specs.Found.{Notes}
+use Rattle.st_clean.specs.inside.Found.{Notes}
 use Rattle.st_clean.proofs.Steps.{notes_join}
 use Rattle.st_clean.proofs.state.Found.note_references.Goals as goal
 

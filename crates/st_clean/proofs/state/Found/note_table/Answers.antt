@@ -1,6 +1,6 @@
 use Rattle.std.proofs.Common.{sym, subst, arith}
 use Rattle.std.proofs.lemmas.Grind.{common_steps}
-use Rattle.st_clean.specs.Found.{Notes}
+use Rattle.st_clean.specs.inside.Found.{Notes}
 use Rattle.st_clean.proofs.Steps.{notes_none}
 use Rattle.st_clean.proofs.Tables.{no_table, a_table}
 use Rattle.st_clean.proofs.state.Found.note_table.Goals as goal

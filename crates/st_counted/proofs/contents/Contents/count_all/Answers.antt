@@ -1,9 +1,9 @@
 use Rattle.std.proofs.Common.{◌≡◌, [], sym, ap, ◌∙◌, subst}
 use Rattle.st_model.specs.View.{IsWhole, held_at}
-use Rattle.st_heap.specs.Tables.{objects_of}
+use Rattle.st_heap.specs.inside.Tables.{objects_of}
 use Rattle.st_counted.specs.declared.contents.Contents.{Contents}
-use Rattle.st_counted.specs.References.{all_roots, uses, IsTallied, IsCounted}
-use Rattle.st_counted.specs.Counted.{counted_view, numbers_of}
+use Rattle.st_counted.specs.inside.References.{all_roots, uses, IsTallied, IsCounted}
+use Rattle.st_counted.specs.inside.Counted.{counted_view, numbers_of}
 use Rattle.st_counted.proofs.Moved.{moved_whole, same_counts, same_twice}
 use Rattle.st_counted.proofs.contents.Contents.count_all.Goals as goal
 

@@ -4,16 +4,16 @@ use Rattle.st_model.specs.declared.oop.Oop.{Oop}
 use Rattle.st_model.specs.Values.{Ref, value}
 use Rattle.st_model.specs.Table.{Table}
 use Rattle.st_model.specs.View.{is_live, object_of}
-use Rattle.st_counted.specs.Counts.{is_unused}
-use Rattle.st_counted.specs.Contents.{counts_of}
+use Rattle.st_counted.specs.inside.Counts.{is_unused}
+use Rattle.st_counted.specs.inside.Contents.{counts_of}
 use Rattle.st_heap.specs.declared.objects.Objects.{Objects}
-use Rattle.st_heap.specs.Tables.{objects_of}
+use Rattle.st_heap.specs.inside.Tables.{objects_of}
 use Rattle.st_heap.proofs.Placing.{length-objects}
 use Rattle.st_counted.specs.declared.contents.Contents.{Contents}
 use Rattle.st_counted.specs.declared.contents.Head.{Head}
-use Rattle.st_counted.specs.Held.{held_of}
-use Rattle.st_counted.specs.References.{all_roots, references, IsCounted}
-use Rattle.st_counted.specs.Counted.{counted_view, numbers_of, AllCounted}
+use Rattle.st_counted.specs.inside.Held.{held_of}
+use Rattle.st_counted.specs.inside.References.{all_roots, references, IsCounted}
+use Rattle.st_counted.specs.inside.Counted.{counted_view, numbers_of, AllCounted}
 use Rattle.st_counted.proofs.Swept.{place_value, live_entry}
 use Rattle.st_counted.proofs.Tallying.{hand_counted, hand_some}
 use Rattle.st_counted.proofs.Dropping.{unused_live, counted_dropped}

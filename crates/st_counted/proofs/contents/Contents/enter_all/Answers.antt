@@ -5,9 +5,9 @@ use Rattle.st_model.specs.Objects.{Object}
 use Rattle.st_model.specs.Table.{entry}
 use Rattle.st_model.specs.View.{IsWhole}
 use Rattle.st_model.proofs.TableLemmas.{entry_past}
-use Rattle.st_heap.specs.Tables.{objects_of}
+use Rattle.st_heap.specs.inside.Tables.{objects_of}
 use Rattle.st_counted.specs.declared.contents.Contents.{Contents}
-use Rattle.st_counted.specs.Counted.{counted_view, numbers_of}
+use Rattle.st_counted.specs.inside.Counted.{counted_view, numbers_of}
 use Rattle.st_counted.proofs.Finishing.{entered_more}
 use Rattle.st_counted.proofs.contents.Contents.enter_all.Goals as goal
 

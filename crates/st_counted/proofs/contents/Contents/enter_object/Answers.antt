@@ -4,8 +4,8 @@ use Rattle.std.proofs.lemmas.List.{get_or-set_same, get_or-set_other}
 use Rattle.st_model.specs.Values.{value}
 use Rattle.st_model.specs.Objects.{Object}
 use Rattle.st_model.specs.Table.{entry}
-use Rattle.st_counted.specs.Counts.{count_at}
-use Rattle.st_counted.specs.Counted.{counted_view, numbers_of}
+use Rattle.st_counted.specs.inside.Counts.{count_at}
+use Rattle.st_counted.specs.inside.Counted.{counted_view, numbers_of}
 use Rattle.st_counted.proofs.Swept.{place_value, live_entry, dead_entry}
 use Rattle.st_counted.proofs.contents.Contents.enter_object.Goals as goal
 

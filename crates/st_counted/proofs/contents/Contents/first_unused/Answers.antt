@@ -1,6 +1,6 @@
 use Rattle.std.proofs.Common.{◌≡◌, ◌/◌, true, sym, subst, arith}
-use Rattle.st_counted.specs.Counts.{is_unused}
-use Rattle.st_counted.specs.Counted.{numbers_of}
+use Rattle.st_counted.specs.inside.Counts.{is_unused}
+use Rattle.st_counted.specs.inside.Counted.{numbers_of}
 use Rattle.st_counted.proofs.ZeroList.{first_passes, none_passes}
 use Rattle.st_counted.proofs.contents.Contents.first_unused.Goals as goal
 

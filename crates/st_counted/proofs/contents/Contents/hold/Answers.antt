@@ -2,11 +2,11 @@ use Rattle.std.proofs.Common.{◌≡◌, ◌∙◌, ap, ◌/◌, [], refl, sym, 
 use Rattle.std.proofs.lemmas.Bool.{eqb-true}
 use Rattle.st_model.specs.Table.{Table}
 use Rattle.st_model.specs.View.{with_held}
-use Rattle.st_counted.specs.Held.{held_of}
+use Rattle.st_counted.specs.inside.Held.{held_of}
 use Rattle.st_model.specs.Values.{value, value_of}
-use Rattle.st_counted.specs.Contents.{counts_of}
-use Rattle.st_counted.specs.References.{all_roots, IsCounted}
-use Rattle.st_counted.specs.Counted.{counted_view, numbers_of}
+use Rattle.st_counted.specs.inside.Contents.{counts_of}
+use Rattle.st_counted.specs.inside.References.{all_roots, IsCounted}
+use Rattle.st_counted.specs.inside.Counted.{counted_view, numbers_of}
 use Rattle.st_counted.proofs.Tallying.{hand_counted, hand_some}
 use Rattle.st_counted.proofs.Rooting.{counted_few, held_already}
 use Rattle.st_counted.proofs.Storing.{name_counted, held, lowered_to}

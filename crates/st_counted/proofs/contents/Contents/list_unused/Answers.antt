@@ -1,12 +1,12 @@
 use Rattle.std.proofs.Common.{◌≡◌, ◌+◌, true, false, [], refl, sym, ap, ◌∙◌, subst, is_some, arith}
 use Rattle.st_model.specs.Table.{Table, entry}
-use Rattle.st_table.specs.Entries.{place}
-use Rattle.st_heap.specs.Tables.{objects_of}
+use Rattle.st_table.specs.inside.Entries.{place}
+use Rattle.st_heap.specs.inside.Tables.{objects_of}
 use Rattle.st_counted.specs.declared.contents.Contents.{Contents}
-use Rattle.st_counted.specs.Counts.{is_unused}
-use Rattle.st_counted.specs.Links.{Holds}
-use Rattle.st_counted.specs.References.{all_roots, references, IsTallied}
-use Rattle.st_counted.specs.Counted.{counted_view, numbers_of, SameButLinks}
+use Rattle.st_counted.specs.inside.Counts.{is_unused}
+use Rattle.st_counted.specs.inside.Links.{Holds}
+use Rattle.st_counted.specs.inside.References.{all_roots, references, IsTallied}
+use Rattle.st_counted.specs.inside.Counted.{counted_view, numbers_of, SameButLinks}
 use Rattle.st_counted.proofs.ZeroList.{holds_nothing}
 use Rattle.st_counted.proofs.Dropping.{no_reference}
 use Rattle.st_counted.proofs.Listing.{tally_stored}

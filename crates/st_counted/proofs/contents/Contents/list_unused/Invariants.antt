@@ -1,7 +1,7 @@
 use Rattle.std.proofs.Common.{◌≡◌}
-use Rattle.st_table.specs.Entries.{place}
-use Rattle.st_counted.specs.Links.{Holds}
-use Rattle.st_counted.specs.Counted.{numbers_of, SameButLinks}
+use Rattle.st_table.specs.inside.Entries.{place}
+use Rattle.st_counted.specs.inside.Links.{Holds}
+use Rattle.st_counted.specs.inside.Counted.{numbers_of, SameButLinks}
 use Rattle.st_counted.proofs.Below.{unused_below}
 use Rattle.st_counted.proofs.contents.Contents.list_unused.Given as goal
 

@@ -4,14 +4,14 @@ use Rattle.st_model.specs.Values.{Value, value, value_of}
 use Rattle.st_model.specs.Objects.{nil}
 use Rattle.st_model.specs.Table.{Table}
 use Rattle.st_model.specs.View.{is_live, object_of}
-use Rattle.st_table.specs.Entries.{place}
-use Rattle.st_counted.specs.Contents.{counts_of}
-use Rattle.st_heap.specs.Places.{SamePlaces}
-use Rattle.st_heap.specs.Tables.{objects_of}
+use Rattle.st_table.specs.inside.Entries.{place}
+use Rattle.st_counted.specs.inside.Contents.{counts_of}
+use Rattle.st_heap.specs.inside.Places.{SamePlaces}
+use Rattle.st_heap.specs.inside.Tables.{objects_of}
 use Rattle.st_counted.specs.declared.contents.Contents.{Contents}
-use Rattle.st_counted.specs.References.{all_roots, IsCounted}
-use Rattle.st_counted.specs.Counted.{counted_view, numbers_of, SameButLinks}
-use Rattle.st_counted.specs.Links.{IsListed}
+use Rattle.st_counted.specs.inside.References.{all_roots, IsCounted}
+use Rattle.st_counted.specs.inside.Counted.{counted_view, numbers_of, SameButLinks}
+use Rattle.st_counted.specs.inside.Links.{IsListed}
 use Rattle.st_counted.proofs.Moved.{moved}
 use Rattle.st_counted.proofs.Placed.{all_stand}
 use Rattle.st_counted.proofs.Tallying.{hand_counted, hand_some}

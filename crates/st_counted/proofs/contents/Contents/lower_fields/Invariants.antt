@@ -3,11 +3,11 @@ use Rattle.std.specs.Prelude.{None, slice_set}
 use Rattle.st_model.specs.Values.{value}
 use Rattle.st_model.specs.Objects.{nil}
 use Rattle.st_model.specs.View.{object_of}
-use Rattle.st_table.specs.Entries.{place}
-use Rattle.st_heap.specs.Places.{SamePlaces}
-use Rattle.st_counted.specs.References.{all_roots, IsCounted}
-use Rattle.st_counted.specs.Counted.{counted_view, numbers_of, SameButLinks}
-use Rattle.st_counted.specs.Links.{IsListed}
+use Rattle.st_table.specs.inside.Entries.{place}
+use Rattle.st_heap.specs.inside.Places.{SamePlaces}
+use Rattle.st_counted.specs.inside.References.{all_roots, IsCounted}
+use Rattle.st_counted.specs.inside.Counted.{counted_view, numbers_of, SameButLinks}
+use Rattle.st_counted.specs.inside.Links.{IsListed}
 use Rattle.st_counted.proofs.contents.Contents.lower_fields.Given as goal
 
 -- what is left of the fields is in hand, and nil as often as it was met

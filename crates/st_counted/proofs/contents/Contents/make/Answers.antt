@@ -9,11 +9,11 @@ use Rattle.st_model.specs.Formed.{fresh}
 use Rattle.st_model.specs.Table.{Table, first_free, placed, total_used}
 use Rattle.st_model.specs.View.{View, is_live, IsWhole}
 use Rattle.st_model.proofs.Making.{first_free_within, live_even}
-use Rattle.st_counted.specs.Contents.{counts_of}
-use Rattle.st_heap.specs.Tables.{objects_of}
-use Rattle.st_counted.specs.Counts.{raised}
-use Rattle.st_counted.specs.References.{all_roots, references, raised_by, IsCounted}
-use Rattle.st_counted.specs.Counted.{counted_view, numbers_of}
+use Rattle.st_counted.specs.inside.Contents.{counts_of}
+use Rattle.st_heap.specs.inside.Tables.{objects_of}
+use Rattle.st_counted.specs.inside.Counts.{raised}
+use Rattle.st_counted.specs.inside.References.{all_roots, references, raised_by, IsCounted}
+use Rattle.st_counted.specs.inside.Counted.{counted_view, numbers_of}
 use Rattle.st_counted.proofs.Tallying.{known_counted, live_known, tally_entered}
 use Rattle.st_counted.proofs.Listing.{new_stored, listed_new}
 use Rattle.st_counted.proofs.Rooting.{counted_few}

@@ -4,11 +4,11 @@ use Rattle.std.proofs.lemmas.Grind.{common_steps}
 use Rattle.std.proofs.lemmas.List.{length-take-le, length-map}
 use Rattle.std.proofs.lemmas.Option.{slice_get-get_or}
 use Rattle.st_model.specs.Values.{value}
-use Rattle.st_counted.specs.Counts.{number_at}
-use Rattle.st_counted.specs.Contents.{counts_of}
+use Rattle.st_counted.specs.inside.Counts.{number_at}
+use Rattle.st_counted.specs.inside.Contents.{counts_of}
 use Rattle.st_counted.specs.declared.contents.Contents.{Contents}
-use Rattle.st_counted.specs.References.{times, raised_by}
-use Rattle.st_counted.specs.Counted.{counted_view, numbers_of}
+use Rattle.st_counted.specs.inside.References.{times, raised_by}
+use Rattle.st_counted.specs.inside.Counted.{counted_view, numbers_of}
 use Rattle.st_counted.proofs.Tallying.{known_counted, tally_most}
 use Rattle.st_counted.proofs.Rooting.{times_few}
 use Rattle.st_counted.proofs.Finishing.{times_words, adds_none, adds_more}

@@ -1,7 +1,7 @@
 use Rattle.std.proofs.Common.{◌≡◌, map, take}
 use Rattle.st_model.specs.Values.{value}
-use Rattle.st_counted.specs.References.{AddsReferences}
-use Rattle.st_counted.specs.Counted.{counted_view, numbers_of}
+use Rattle.st_counted.specs.inside.References.{AddsReferences}
+use Rattle.st_counted.specs.inside.Counted.{counted_view, numbers_of}
 use Rattle.st_counted.proofs.contents.Contents.raise_all.Given as goal
 
 -- what the words so far name is counted

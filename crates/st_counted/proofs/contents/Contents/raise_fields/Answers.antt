@@ -5,13 +5,13 @@ use Rattle.std.proofs.Math.Seq.{take-length}
 use Rattle.st_model.specs.Values.{Value, value}
 use Rattle.st_model.specs.View.{is_live, object_of}
 use Rattle.st_model.proofs.WholeLemmas.{formed_live, field_known}
-use Rattle.st_counted.specs.Counts.{number_at}
-use Rattle.st_counted.specs.Contents.{counts_of}
-use Rattle.st_heap.specs.Tables.{objects_of}
+use Rattle.st_counted.specs.inside.Counts.{number_at}
+use Rattle.st_counted.specs.inside.Contents.{counts_of}
+use Rattle.st_heap.specs.inside.Tables.{objects_of}
 use Rattle.st_heap.specs.declared.objects.Objects.{Objects}
 use Rattle.st_counted.specs.declared.contents.Contents.{Contents}
-use Rattle.st_counted.specs.References.{times, AddsReferences}
-use Rattle.st_counted.specs.Counted.{counted_view, numbers_of}
+use Rattle.st_counted.specs.inside.References.{times, AddsReferences}
+use Rattle.st_counted.specs.inside.Counted.{counted_view, numbers_of}
 use Rattle.st_counted.proofs.Tallying.{known_counted, tally_most}
 use Rattle.st_counted.proofs.Rooting.{times_few}
 use Rattle.st_counted.proofs.Finishing.{few_fields, times_more, adds_none, adds_more}

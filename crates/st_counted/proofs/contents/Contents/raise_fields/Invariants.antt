@@ -1,8 +1,8 @@
 use Rattle.std.proofs.Common.{◌≡◌, take}
 use Rattle.st_model.specs.Values.{value}
 use Rattle.st_model.specs.View.{object_of}
-use Rattle.st_counted.specs.References.{AddsReferences}
-use Rattle.st_counted.specs.Counted.{counted_view, numbers_of}
+use Rattle.st_counted.specs.inside.References.{AddsReferences}
+use Rattle.st_counted.specs.inside.Counted.{counted_view, numbers_of}
 use Rattle.st_counted.proofs.contents.Contents.raise_fields.Given as goal
 
 -- what the fields so far name is counted

@@ -3,12 +3,12 @@ use Rattle.st_model.specs.declared.oop.Oop.{Oop}
 use Rattle.st_model.specs.Values.{Ref, value}
 use Rattle.st_model.specs.Table.{entry}
 use Rattle.st_model.specs.View.{IsWhole, IsKnown, is_live, object_of}
-use Rattle.st_heap.specs.Tables.{objects_of}
+use Rattle.st_heap.specs.inside.Tables.{objects_of}
 use Rattle.st_counted.specs.declared.contents.Contents.{Contents}
-use Rattle.st_counted.specs.Counts.{number_at}
-use Rattle.st_counted.specs.Contents.{counts_of}
-use Rattle.st_counted.specs.References.{object_uses}
-use Rattle.st_counted.specs.Counted.{counted_view, numbers_of}
+use Rattle.st_counted.specs.inside.Counts.{number_at}
+use Rattle.st_counted.specs.inside.Contents.{counts_of}
+use Rattle.st_counted.specs.inside.References.{object_uses}
+use Rattle.st_counted.specs.inside.Counted.{counted_view, numbers_of}
 use Rattle.st_counted.proofs.Swept.{place_value, live_entry, dead_entry}
 use Rattle.st_counted.proofs.Tallying.{known_counted, entered_tally, tally_entered, tally_same}
 use Rattle.st_counted.proofs.Finishing.{class_known, raised_tally, raised_few, adds_object}

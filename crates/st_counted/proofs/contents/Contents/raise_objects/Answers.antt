@@ -1,11 +1,11 @@
 use Rattle.std.proofs.Common.{◌≡◌, ◌+◌, refl, sym, ap, ◌∙◌, subst, length, arith}
 use Rattle.st_model.specs.Table.{Table, entry}
 use Rattle.st_model.specs.View.{IsWhole}
-use Rattle.st_counted.specs.Counts.{number_at}
-use Rattle.st_heap.specs.Tables.{objects_of}
+use Rattle.st_counted.specs.inside.Counts.{number_at}
+use Rattle.st_heap.specs.inside.Tables.{objects_of}
 use Rattle.st_counted.specs.declared.contents.Contents.{Contents}
-use Rattle.st_counted.specs.References.{object_uses, uses, uses_below, IsTallied, IsEntered}
-use Rattle.st_counted.specs.Counted.{counted_view, numbers_of}
+use Rattle.st_counted.specs.inside.References.{object_uses, uses, uses_below, IsTallied, IsEntered}
+use Rattle.st_counted.specs.inside.Counted.{counted_view, numbers_of}
 use Rattle.st_counted.proofs.Tallying.{tally_entered, tally_most, tally_same}
 use Rattle.st_counted.proofs.Rooting.{uses_few}
 use Rattle.st_counted.proofs.Finishing.{tallied_more, below_all, below_few}

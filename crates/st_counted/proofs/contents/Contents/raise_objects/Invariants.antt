@@ -1,6 +1,6 @@
 use Rattle.std.proofs.Common.{◌≡◌}
-use Rattle.st_counted.specs.References.{uses_below, IsTallied}
-use Rattle.st_counted.specs.Counted.{counted_view, numbers_of}
+use Rattle.st_counted.specs.inside.References.{uses_below, IsTallied}
+use Rattle.st_counted.specs.inside.Counted.{counted_view, numbers_of}
 use Rattle.st_counted.proofs.contents.Contents.raise_objects.Given as goal
 
 -- what the objects so far refer to is counted

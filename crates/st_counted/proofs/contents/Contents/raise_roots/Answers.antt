@@ -9,11 +9,11 @@ use Rattle.st_model.specs.Machine.{table_root}
 use Rattle.st_model.specs.Table.{Table}
 use Rattle.st_model.specs.Settled.{names}
 use Rattle.st_model.specs.View.{is_live, table_of, IsKnown, IsWhole}
-use Rattle.st_counted.specs.Contents.{counts_of}
-use Rattle.st_heap.specs.Tables.{objects_of}
+use Rattle.st_counted.specs.inside.Contents.{counts_of}
+use Rattle.st_heap.specs.inside.Tables.{objects_of}
 use Rattle.st_counted.specs.declared.contents.Contents.{Contents}
-use Rattle.st_counted.specs.References.{times, uses, page_values, all_roots, raised_by, IsTallied, IsEntered, AddsReferences, IsCounted}
-use Rattle.st_counted.specs.Counted.{counted_view, numbers_of}
+use Rattle.st_counted.specs.inside.References.{times, uses, page_values, all_roots, raised_by, IsTallied, IsEntered, AddsReferences, IsCounted}
+use Rattle.st_counted.specs.inside.Counted.{counted_view, numbers_of}
 use Rattle.st_counted.proofs.Tallying.{known_counted, tally_entered, tally_most, tally_raised}
 use Rattle.st_counted.proofs.Rooting.{times_few, uses_few}
 use Rattle.st_counted.proofs.Finishing.{adds_to, page_known, all_counted}

@@ -2,10 +2,10 @@ use Rattle.std.proofs.Common.{◌≡◌, ◌+◌, ◌/◌, ap, cond, arith, [], 
 use Rattle.std.specs.Prelude.{◌==◌, Some, None}
 use Rattle.st_model.specs.Values.{value}
 use Rattle.st_model.specs.Machine.{table_root}
-use Rattle.st_counted.specs.Counts.{number_at}
-use Rattle.st_counted.specs.Contents.{counts_of}
-use Rattle.st_counted.specs.References.{times}
-use Rattle.st_counted.specs.Counted.{counted_view, numbers_of}
+use Rattle.st_counted.specs.inside.Counts.{number_at}
+use Rattle.st_counted.specs.inside.Contents.{counts_of}
+use Rattle.st_counted.specs.inside.References.{times}
+use Rattle.st_counted.specs.inside.Counted.{counted_view, numbers_of}
 use Rattle.st_counted.proofs.Linked.{test_other}
 use Rattle.st_counted.proofs.Tallying.{known_counted, entered_tally, tally_same}
 use Rattle.st_counted.proofs.Finishing.{raised_tally}

@@ -6,10 +6,10 @@ use Rattle.st_model.specs.View.{IsKnown, is_live, object_of, with_stored}
 use Rattle.st_heap.specs.declared.objects.Objects.{Objects}
 use Rattle.st_counted.specs.declared.contents.Contents.{Contents}
 use Rattle.st_model.specs.Table.{Table}
-use Rattle.st_counted.specs.Contents.{counts_of}
-use Rattle.st_heap.specs.Tables.{objects_of}
-use Rattle.st_counted.specs.References.{all_roots, raised_by, IsCounted}
-use Rattle.st_counted.specs.Counted.{counted_view, numbers_of, AllCounted}
+use Rattle.st_counted.specs.inside.Contents.{counts_of}
+use Rattle.st_heap.specs.inside.Tables.{objects_of}
+use Rattle.st_counted.specs.inside.References.{all_roots, raised_by, IsCounted}
+use Rattle.st_counted.specs.inside.Counted.{counted_view, numbers_of, AllCounted}
 use Rattle.st_counted.proofs.Tallying.{hand_counted, hand_some}
 use Rattle.st_counted.proofs.Listing.{stored_listed}
 use Rattle.st_counted.proofs.Rooting.{counted_few}

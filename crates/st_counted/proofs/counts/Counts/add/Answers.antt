@@ -1,5 +1,5 @@
 use Rattle.std.proofs.Common.{◌+◌, Some}
-use Rattle.st_counted.specs.Slots.{counts_in}
+use Rattle.st_counted.specs.inside.Slots.{counts_in}
 use Rattle.st_counted.proofs.Slots.{counts_still}
 use Rattle.st_counted.proofs.counts.Counts.add.Goals as goal
 

@@ -1,11 +1,11 @@
 use Rattle.std.proofs.Common.{◌<◌, Some, refl, sym, ◌∙◌, subst}
 use Rattle.st_model.specs.declared.oop.Oop.{Oop}
-use Rattle.st_table.specs.Entries.{place}
-use Rattle.st_counted.specs.Counts.{count_at, is_unused}
-use Rattle.st_counted.specs.Links.{Holds, IsEnd}
+use Rattle.st_table.specs.inside.Entries.{place}
+use Rattle.st_counted.specs.inside.Counts.{count_at, is_unused}
+use Rattle.st_counted.specs.inside.Links.{Holds, IsEnd}
 use Rattle.st_counted.proofs.Listing.{first_end, listed_with, some_place}
 use Rattle.st_counted.proofs.ZeroList.{absent_zero}
-use Rattle.st_counted.specs.Slots.{counts_in}
+use Rattle.st_counted.specs.inside.Slots.{counts_in}
 use Rattle.st_counted.proofs.counts.Counts.enter.Goals as goal
 
 pub start-requires-clause-some : goal.start-requires-clause-some

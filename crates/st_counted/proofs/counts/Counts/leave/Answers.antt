@@ -1,11 +1,11 @@
 use Rattle.std.proofs.Common.{None, refl, ap, ◌∙◌, false, arith}
-use Rattle.st_heap.specs.Tables.{objects_of}
+use Rattle.st_heap.specs.inside.Tables.{objects_of}
 use Rattle.st_model.specs.View.{is_live}
-use Rattle.st_counted.specs.Counts.{count_at}
+use Rattle.st_counted.specs.inside.Counts.{count_at}
 use Rattle.st_counted.proofs.Swept.{place_value}
 use Rattle.st_counted.proofs.Listing.{half_of, live_place, next_end, before_end, listed_without}
 use Rattle.st_counted.proofs.ZeroList.{zero_counted}
-use Rattle.st_counted.specs.Slots.{counts_in}
+use Rattle.st_counted.specs.inside.Slots.{counts_in}
 use Rattle.st_counted.proofs.Slots.{counted_slot, counts_set, counts_still}
 use Rattle.st_counted.proofs.counts.Counts.leave.Goals as goal
 

@@ -1,8 +1,8 @@
 use Rattle.std.proofs.Common.{◌/◌, ap, sym, ◌∙◌, subst, is_some}
 use Rattle.st_model.specs.declared.oop.Oop.{Oop}
 use Rattle.st_model.specs.Table.{entry}
-use Rattle.st_heap.specs.Tables.{objects_of}
-use Rattle.st_counted.specs.Links.{Holds, with_member}
+use Rattle.st_heap.specs.inside.Tables.{objects_of}
+use Rattle.st_counted.specs.inside.Links.{Holds, with_member}
 use Rattle.st_counted.proofs.Listing.{half_of}
 use Rattle.st_counted.proofs.counts.Counts.list.Goals as goal
 

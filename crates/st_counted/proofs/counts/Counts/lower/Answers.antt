@@ -1,10 +1,10 @@
 use Rattle.std.proofs.Common.{◌-◌, false, Some, refl, ◌∙◌}
-use Rattle.st_table.specs.Entries.{place}
-use Rattle.st_counted.specs.Counts.{is_unused}
+use Rattle.st_table.specs.inside.Entries.{place}
+use Rattle.st_counted.specs.inside.Counts.{is_unused}
 use Rattle.st_counted.proofs.Linked.{test_other}
 use Rattle.st_counted.proofs.Listing.{first_end, listed_with, listed_still_with}
 use Rattle.st_counted.proofs.ZeroList.{counted_within, lowered_used, test_of}
-use Rattle.st_counted.specs.Slots.{counts_in}
+use Rattle.st_counted.specs.inside.Slots.{counts_in}
 use Rattle.st_counted.proofs.Slots.{counts_still}
 use Rattle.st_counted.proofs.counts.Counts.lower.Goals as goal
 

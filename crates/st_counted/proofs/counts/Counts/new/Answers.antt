@@ -1,6 +1,6 @@
 use Rattle.std.proofs.Common.{ℕ, List, Option, None, ap, ◌∙◌, length}
-use Rattle.st_counted.specs.Counts.{count_at}
-use Rattle.st_counted.specs.Slots.{counts_in}
+use Rattle.st_counted.specs.inside.Counts.{count_at}
+use Rattle.st_counted.specs.inside.Slots.{counts_in}
 use Rattle.st_counted.proofs.Slots.{counts_none}
 use Rattle.st_counted.proofs.ZeroList.{nothing_counted}
 use Rattle.std.proofs.lemmas.List.{length-replicate}

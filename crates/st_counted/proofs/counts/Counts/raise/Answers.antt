@@ -1,11 +1,11 @@
 use Rattle.std.proofs.Common.{◌≢◌, ◌+◌, false, Some, refl, ap, ◌∙◌, arith}
-use Rattle.st_heap.specs.Tables.{objects_of}
+use Rattle.st_heap.specs.inside.Tables.{objects_of}
 use Rattle.st_model.specs.View.{is_live}
 use Rattle.st_counted.proofs.Linked.{test_other}
 use Rattle.st_counted.proofs.Swept.{place_value}
 use Rattle.st_counted.proofs.Listing.{half_of, live_place, next_end, before_end, listed_without, listed_still_with}
 use Rattle.st_counted.proofs.ZeroList.{zero_unused, some_used}
-use Rattle.st_counted.specs.Slots.{counts_in}
+use Rattle.st_counted.specs.inside.Slots.{counts_in}
 use Rattle.st_counted.proofs.Slots.{counts_still}
 use Rattle.st_counted.proofs.counts.Counts.raise.Goals as goal
 

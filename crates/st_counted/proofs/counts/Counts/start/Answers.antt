@@ -1,5 +1,5 @@
 use Rattle.std.proofs.Common.{Some, true, arith}
-use Rattle.st_counted.specs.Slots.{counts_in}
+use Rattle.st_counted.specs.inside.Slots.{counts_in}
 use Rattle.st_counted.proofs.Slots.{within_slots, counts_set, as_many, none_first_still}
 use Rattle.st_counted.proofs.counts.Counts.start.Goals as goal
 

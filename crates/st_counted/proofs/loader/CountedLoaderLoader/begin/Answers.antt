@@ -1,6 +1,6 @@
 use Rattle.std.proofs.Common.{sym, subst}
 use Rattle.st_model.specs.View.{head_of}
-use Rattle.st_model.specs.Loading.{IsLoading}
+use Rattle.st_model.specs.inside.Loading.{IsLoading}
 use Rattle.st_model.proofs.LoadingLemmas.{loading_empty}
 use Rattle.st_counted.proofs.loader.CountedLoaderLoader.begin.Goals as goal
 

@@ -2,7 +2,7 @@ use Rattle.std.proofs.Common.{sym, ap, ◌∙◌, subst}
 use Rattle.st_model.specs.View.{IsWhole}
 use Rattle.st_model.proofs.LoadingLemmas.{whole_loaded}
 use Rattle.st_counted.specs.declared.contents.Head.{Head}
-use Rattle.st_counted.specs.Counted.{counted_view}
+use Rattle.st_counted.specs.inside.Counted.{counted_view}
 use Rattle.st_counted.proofs.Moved.{same_view}
 use Rattle.st_counted.proofs.loader.CountedLoaderLoader.finish.Goals as goal
 

@@ -1,5 +1,5 @@
 use Rattle.std.proofs.Common.{◌/◌, refl, arith}
-use Rattle.st_counted.specs.Counted.{counted_view}
+use Rattle.st_counted.specs.inside.Counted.{counted_view}
 use Rattle.st_counted.proofs.Kept.{filled}
 use Rattle.st_counted.proofs.Units.{loading_fresh}
 use Rattle.st_counted.proofs.loader.CountedLoaderLoader.place.Goals as goal

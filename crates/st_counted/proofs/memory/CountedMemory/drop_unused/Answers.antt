@@ -7,8 +7,8 @@ use Rattle.st_model.specs.View.{view_roots, head_of}
 use Rattle.st_model.proofs.Settling.{DropsTo, drops_none, left}
 use Rattle.st_model.proofs.Rounds.{KeepsNeeded, drops_all, whole_settled, moved_roots}
 use Rattle.st_counted.specs.declared.contents.Head.{Head}
-use Rattle.st_counted.specs.References.{all_roots, references}
-use Rattle.st_counted.specs.Counted.{counted_view, numbers_of}
+use Rattle.st_counted.specs.inside.References.{all_roots, references}
+use Rattle.st_counted.specs.inside.Counted.{counted_view, numbers_of}
 use Rattle.st_counted.proofs.Dropping.{no_reference, keeps_left, without_is, fewer, settles_to, unused_within}
 use Rattle.st_counted.proofs.Placed.{left_live, left_stand}
 use Rattle.st_counted.proofs.memory.CountedMemory.drop_unused.Goals as goal

@@ -3,9 +3,9 @@ use Rattle.st_model.specs.Objects.{one}
 use Rattle.st_model.specs.Table.{total_used}
 use Rattle.st_model.specs.View.{view_roots}
 use Rattle.st_model.proofs.Settling.{DropsTo}
-use Rattle.st_memory.specs.Places.{KeepsPlacesIn}
-use Rattle.st_heap.specs.Places.{Stands}
-use Rattle.st_counted.specs.Counted.{counted_view}
+use Rattle.st_memory.specs.inside.Places.{KeepsPlacesIn}
+use Rattle.st_heap.specs.inside.Places.{Stands}
+use Rattle.st_counted.specs.inside.Counted.{counted_view}
 use Rattle.st_counted.proofs.memory.CountedMemory.drop_unused.Given as goal
 
 -- no object is lost that a set has which supports itself

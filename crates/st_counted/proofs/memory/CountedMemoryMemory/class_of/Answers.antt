@@ -2,7 +2,7 @@ use Rattle.std.proofs.Common.{◌≡◌, true, sym, subst}
 use Rattle.st_model.specs.Values.{Value, value}
 use Rattle.st_model.specs.View.{is_live}
 use Rattle.st_model.proofs.WholeLemmas.{class_live}
-use Rattle.st_counted.specs.Counted.{counted_view}
+use Rattle.st_counted.specs.inside.Counted.{counted_view}
 use Rattle.st_counted.proofs.memory.CountedMemoryMemory.class_of.Goals as goal
 
 pub returns-clause-known : goal.returns-clause-known

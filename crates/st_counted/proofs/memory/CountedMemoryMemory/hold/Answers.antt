@@ -3,7 +3,7 @@ use Rattle.st_model.specs.View.{head_of}
 use Rattle.st_counted.specs.declared.contents.Head.{Head}
 use Rattle.st_model.specs.Values.{value}
 use Rattle.st_model.proofs.WholeLemmas.{whole_held}
-use Rattle.st_counted.specs.Counted.{counted_view}
+use Rattle.st_counted.specs.inside.Counted.{counted_view}
 use Rattle.st_counted.proofs.Placed.{all_stand}
 use Rattle.st_counted.proofs.memory.CountedMemoryMemory.hold.Goals as goal
 

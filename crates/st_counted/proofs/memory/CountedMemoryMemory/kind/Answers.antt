@@ -2,7 +2,7 @@ use Rattle.std.proofs.Common.{ap, sym, ◌∙◌}
 use Rattle.st_model.specs.Objects.{is_method}
 use Rattle.st_model.specs.Values.{value}
 use Rattle.st_model.proofs.WholeLemmas.{formed_live}
-use Rattle.st_counted.specs.Counted.{counted_view}
+use Rattle.st_counted.specs.inside.Counted.{counted_view}
 use Rattle.st_counted.proofs.memory.CountedMemoryMemory.kind.Goals as goal
 
 pub returns-clause-method : goal.returns-clause-method

@@ -2,7 +2,7 @@ use Rattle.std.proofs.Common.{ap, ◌/◌}
 use Rattle.st_model.specs.View.{head_of}
 use Rattle.st_model.proofs.Making.{whole_made}
 use Rattle.st_counted.specs.declared.contents.Head.{Head}
-use Rattle.st_counted.specs.Counted.{counted_view}
+use Rattle.st_counted.specs.inside.Counted.{counted_view}
 use Rattle.st_counted.proofs.Instances.{live_half}
 use Rattle.st_counted.proofs.memory.CountedMemoryMemory.make.Goals as goal
 

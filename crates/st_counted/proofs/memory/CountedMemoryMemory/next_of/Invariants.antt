@@ -1,6 +1,6 @@
 use Rattle.std.proofs.Common.{◌-◌}
 use Rattle.st_model.specs.Values.{value}
-use Rattle.st_counted.specs.Counted.{counted_view}
+use Rattle.st_counted.specs.inside.Counted.{counted_view}
 use Rattle.st_counted.proofs.Instances.{HasNone}
 use Rattle.st_counted.proofs.memory.CountedMemoryMemory.next_of.Given as goal
 

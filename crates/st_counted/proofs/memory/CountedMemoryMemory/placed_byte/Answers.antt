@@ -1,6 +1,6 @@
 use Rattle.std.proofs.Common.{arith}
 use Rattle.st_model.specs.Values.{value}
-use Rattle.st_counted.specs.Counted.{counted_view}
+use Rattle.st_counted.specs.inside.Counted.{counted_view}
 use Rattle.st_counted.proofs.Units.{byte_small}
 use Rattle.st_counted.proofs.memory.CountedMemoryMemory.placed_byte.Goals as goal
 

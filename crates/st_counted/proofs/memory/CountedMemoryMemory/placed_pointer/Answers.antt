@@ -1,6 +1,6 @@
 use Rattle.st_model.specs.Values.{value}
 use Rattle.st_model.proofs.WholeLemmas.{field_known}
-use Rattle.st_counted.specs.Counted.{counted_view}
+use Rattle.st_counted.specs.inside.Counted.{counted_view}
 use Rattle.st_counted.proofs.Units.{header_read}
 use Rattle.st_counted.proofs.memory.CountedMemoryMemory.placed_pointer.Goals as goal
 

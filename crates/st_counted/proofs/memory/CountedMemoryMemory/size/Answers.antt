@@ -2,7 +2,7 @@ use Rattle.std.proofs.Common.{◌≤◌, subst, sym}
 use Rattle.st_model.specs.Values.{value}
 use Rattle.st_model.specs.View.{object_of}
 use Rattle.st_model.proofs.WholeLemmas.{formed_live}
-use Rattle.st_counted.specs.Counted.{counted_view}
+use Rattle.st_counted.specs.inside.Counted.{counted_view}
 use Rattle.st_counted.proofs.Sizes.{size_within}
 use Rattle.st_counted.proofs.memory.CountedMemoryMemory.size.Goals as goal
 

@@ -2,8 +2,8 @@ use Rattle.std.proofs.Common.{[], refl}
 use Rattle.st_model.specs.Values.{value}
 use Rattle.st_model.specs.View.{with_exchanged}
 use Rattle.st_model.proofs.Exchanging.{whole_exchanged}
-use Rattle.st_counted.specs.References.{all_roots}
-use Rattle.st_counted.specs.Counted.{counted_view, numbers_of}
+use Rattle.st_counted.specs.inside.References.{all_roots}
+use Rattle.st_counted.specs.inside.Counted.{counted_view, numbers_of}
 use Rattle.st_counted.proofs.Kept.{kept_beside}
 use Rattle.st_counted.proofs.Referring.{counted_exchanged}
 use Rattle.st_counted.proofs.memory.CountedMemoryMemory.swap.Goals as goal

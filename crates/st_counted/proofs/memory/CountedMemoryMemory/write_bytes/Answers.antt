@@ -2,7 +2,7 @@ use Rattle.std.proofs.Common.{◌+◌, ◌-◌, length, get_or, arith}
 use Rattle.st_model.specs.Values.{value}
 use Rattle.st_model.specs.Objects.{first_unit}
 use Rattle.st_model.specs.View.{object_of}
-use Rattle.st_counted.specs.Counted.{counted_view}
+use Rattle.st_counted.specs.inside.Counted.{counted_view}
 use Rattle.st_counted.proofs.Stretches.{written_is, units_end}
 use Rattle.st_counted.proofs.Kept.{kept_run}
 use Rattle.st_counted.proofs.Units.{byte_fits}

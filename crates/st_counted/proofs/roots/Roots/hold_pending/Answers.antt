@@ -3,7 +3,7 @@ use Rattle.std.proofs.lemmas.Grind.{common_steps}
 use Rattle.st_model.specs.declared.place.RootPlace.TheVariants.{Pending}
 use Rattle.st_model.specs.View.{with_held}
 use Rattle.st_model.specs.Values.{value}
-use Rattle.st_counted.specs.Held.{held_of}
+use Rattle.st_counted.specs.inside.Held.{held_of}
 use Rattle.st_counted.proofs.Holding.{held_words-pending, nil_from}
 use Rattle.st_counted.proofs.roots.Roots.hold_pending.Goals as goal
 

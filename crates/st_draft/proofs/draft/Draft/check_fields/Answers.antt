@@ -1,7 +1,7 @@
 use Rattle.std.proofs.Common.{arith}
 use Rattle.std.proofs.lemmas.Result.{err_from_is_err_and}
 use Rattle.st_model.specs.Values.{word}
-use Rattle.st_draft.specs.Noted.{drafted}
+use Rattle.st_draft.specs.inside.Noted.{drafted}
 use Rattle.st_draft.proofs.Moved.{lacks_now, few_now, has_now}
 use Rattle.st_draft.proofs.draft.Draft.check_fields.Goals as goal
 

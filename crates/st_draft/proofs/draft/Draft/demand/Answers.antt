@@ -1,7 +1,7 @@
 use Rattle.std.proofs.Common.{◌+◌, ap, sym, ◌∙◌}
 use Rattle.st_model.specs.Objects.{one, words_of}
 use Rattle.st_model.specs.Table.{total_used}
-use Rattle.st_draft.specs.Noted.{noted}
+use Rattle.st_draft.specs.inside.Noted.{noted}
 use Rattle.st_draft.proofs.Behind.{used_entries, used_words, total_made, made_fit}
 use Rattle.st_draft.proofs.Exchanged.{total_all}
 use Rattle.st_draft.proofs.draft.Draft.demand.Goals as goal

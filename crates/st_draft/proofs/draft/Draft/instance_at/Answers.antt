@@ -1,6 +1,6 @@
 use Rattle.std.proofs.Common.{Ok, Err, refl, sym, ◌∙◌}
 use Rattle.st_model.specs.Values.{word}
-use Rattle.st_draft.specs.Noted.{drafted}
+use Rattle.st_draft.specs.inside.Noted.{drafted}
 use Rattle.st_draft.proofs.Bearing.{instance_true, instance_false, instance_err, instance_none}
 use Rattle.st_draft.proofs.draft.Draft.instance_at.Goals as goal
 

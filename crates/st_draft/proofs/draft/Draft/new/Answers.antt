@@ -1,6 +1,6 @@
 use Rattle.std.proofs.Common.{sym, subst, ◌∙◌, arith}
-use Rattle.st_draft.specs.Drafts.{AllThere}
-use Rattle.st_draft.specs.Noted.{noted}
+use Rattle.st_draft.specs.inside.Drafts.{AllThere}
+use Rattle.st_draft.specs.inside.Noted.{noted}
 use Rattle.st_draft.proofs.Keeping.{closed_whole}
 use Rattle.st_draft.proofs.Moved.{none_exchanged}
 use Rattle.st_draft.proofs.draft.Draft.new.Goals as goal

@@ -1,7 +1,7 @@
 use Rattle.std.proofs.Common.{◌<◌, length, sym, ◌∙◌, subst, arith}
 use Rattle.st_model.specs.Table.{Table}
-use Rattle.st_draft.specs.Drafts.{AllThere, AreOf, after_change}
-use Rattle.st_draft.specs.Noted.{noted}
+use Rattle.st_draft.specs.inside.Drafts.{AllThere, AreOf, after_change}
+use Rattle.st_draft.specs.inside.Noted.{noted}
 use Rattle.st_draft.proofs.Replaying.{after_like}
 use Rattle.st_draft.proofs.Exchanged.{of_same}
 use Rattle.st_draft.proofs.Moved.{note_more}

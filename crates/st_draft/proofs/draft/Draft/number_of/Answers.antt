@@ -1,5 +1,5 @@
 use Rattle.std.proofs.Common.{◌≡◌, subst, arith}
-use Rattle.st_draft.specs.Bearing.{IsNumberOf}
+use Rattle.st_draft.specs.inside.Bearing.{IsNumberOf}
 use Rattle.st_draft.proofs.Bearing.{number_first, number_full}
 use Rattle.st_draft.proofs.draft.Draft.number_of.Goals as goal
 

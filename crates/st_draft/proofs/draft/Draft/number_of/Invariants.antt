@@ -1,4 +1,4 @@
-use Rattle.st_draft.specs.Bearing.{IsNumberOf}
+use Rattle.st_draft.specs.inside.Bearing.{IsNumberOf}
 use Rattle.st_draft.proofs.draft.Draft.number_of.Given as goal
 
 abbrev pub invariant-loop-before : goal.invariant-loop-before

@@ -1,5 +1,5 @@
 use Rattle.std.proofs.Common.{inl, inr}
-use Rattle.st_draft.specs.Drafts.{with_made}
+use Rattle.st_draft.specs.inside.Drafts.{with_made}
 use Rattle.st_draft.proofs.Replaying.{from_value, from_field, from_source, from_before}
 use Rattle.st_draft.proofs.draft.Draft.origin.Goals as goal
 use Rattle.st_draft.proofs.draft.Draft.origin.Goals.{else-object-o-via-then-object-o+else-place-at, else-object-o-via-else-object-o, else-target-o-via-then-target-o+then-to-at+else-at-to, else-target-o-via-then-target-o+else-to-at, else-target-o-via-else-target-o}

@@ -1,6 +1,6 @@
 use Rattle.std.proofs.Common.{◌≡◌, ap, ◌∙◌, arith}
 use Rattle.st_model.specs.Values.{word}
-use Rattle.st_draft.specs.Drafts.{with_made, field_value, replayed}
+use Rattle.st_draft.specs.inside.Drafts.{with_made, field_value, replayed}
 use Rattle.st_draft.proofs.draft.Draft.value.Goals as goal
 
 pub returns : goal.returns

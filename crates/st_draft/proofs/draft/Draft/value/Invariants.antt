@@ -1,6 +1,6 @@
 use Rattle.std.proofs.Common.{◌≡◌, ◌≤◌}
 use Rattle.st_model.specs.Values.{word}
-use Rattle.st_draft.specs.Drafts.{HasField, with_made, field_value, replayed}
+use Rattle.st_draft.specs.inside.Drafts.{HasField, with_made, field_value, replayed}
 use Rattle.st_draft.proofs.draft.Draft.value.Given as goal
 
 -- what is sought stood there before the changes that are passed

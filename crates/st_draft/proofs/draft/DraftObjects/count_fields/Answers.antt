@@ -1,5 +1,5 @@
 use Rattle.st_model.specs.Values.{word}
-use Rattle.st_draft.specs.Noted.{noted}
+use Rattle.st_draft.specs.inside.Noted.{noted}
 use Rattle.st_draft.proofs.Moved.{names_of, count_names}
 use Rattle.st_draft.proofs.draft.DraftObjects.count_fields.Goals as goal
 

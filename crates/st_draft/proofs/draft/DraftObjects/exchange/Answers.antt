@@ -1,8 +1,8 @@
 use Rattle.std.proofs.Common.{◌≡◌, true, false, sym, ◌∙◌, arith}
 use Rattle.st_model.specs.Values.{word, is_small}
 use Rattle.st_model.specs.View.{is_live}
-use Rattle.st_memory.specs.Tabular.{apart_tabular}
-use Rattle.st_draft.specs.Noted.{noted, drafted}
+use Rattle.st_memory.specs.inside.Tabular.{apart_tabular}
+use Rattle.st_draft.specs.inside.Noted.{noted, drafted}
 use Rattle.st_draft.proofs.Exchanged.{live_all}
 use Rattle.st_draft.proofs.Moved.{live_there}
 use Rattle.st_memory.proofs.Swapping.{exchanges_small_first, exchanges_small_second, exchanges_gone_first, exchanges_gone_second, exchanges}

@@ -2,7 +2,7 @@ use Rattle.std.proofs.Common.{Ok, Err}
 use Rattle.st_model.specs.declared.dead.Dead.TheVariants as dead
 use Rattle.std.proofs.lemmas.Result.{err_from_is_err_and}
 use Rattle.st_model.specs.Values.{word}
-use Rattle.st_draft.specs.Noted.{noted}
+use Rattle.st_draft.specs.inside.Noted.{noted}
 use Rattle.st_draft.proofs.Drafted.{fetch_err, fetch_ok, fetch_past, has_start}
 use Rattle.st_draft.proofs.Moved.{names_of, fetch_names}
 use Rattle.st_draft.proofs.draft.DraftObjects.fetch_field.Goals as goal

@@ -2,7 +2,7 @@ use Rattle.std.proofs.Common.{◌≡◌, ◌-◌, ◌∙◌, ap, arith}
 use Rattle.st_model.specs.declared.demand.Demand.{Demand}
 use Rattle.st_model.specs.Machine.{less, capacity_of, used}
 use Rattle.st_model.specs.Table.{bounded_table, apart}
-use Rattle.st_draft.specs.Noted.{drafted}
+use Rattle.st_draft.specs.inside.Noted.{drafted}
 use Rattle.st_memory.proofs.Sizes.{frees, freed}
 use Rattle.st_draft.proofs.draft.DraftObjects.free.Goals as goal
 

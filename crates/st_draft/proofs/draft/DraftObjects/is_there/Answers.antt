@@ -1,6 +1,6 @@
 use Rattle.std.proofs.Common.{sym, ◌∙◌}
 use Rattle.st_model.specs.Values.{word}
-use Rattle.st_draft.specs.Noted.{noted}
+use Rattle.st_draft.specs.inside.Noted.{noted}
 use Rattle.st_draft.proofs.Drafted.{there_if, there_else}
 use Rattle.st_draft.proofs.Moved.{there_draft}
 use Rattle.st_draft.proofs.draft.DraftObjects.is_there.Goals as goal

@@ -2,9 +2,9 @@ use Rattle.std.proofs.Common.{◌≡◌, ◌<◌, false, length, sym, ap, ◌∙
 use Rattle.st_model.specs.Values.{word, is_small, Ref, value_of}
 use Rattle.st_model.specs.Table.{Table}
 use Rattle.st_memory.specs.declared.made.Made.{Made}
-use Rattle.st_draft.specs.Drafts.{AllThere, AreOf, exchanged_by}
-use Rattle.st_memory.specs.Making.{made_object}
-use Rattle.st_draft.specs.Noted.{noted, drafted}
+use Rattle.st_draft.specs.inside.Drafts.{AllThere, AreOf, exchanged_by}
+use Rattle.st_memory.specs.inside.Making.{made_object}
+use Rattle.st_draft.specs.inside.Noted.{noted, drafted}
 use Rattle.st_draft.proofs.Behind.{draft_length, next_name}
 use Rattle.st_draft.proofs.Keeping.{closed_joined, nil_there, live_joined}
 use Rattle.st_memory.proofs.Fresh.{made_of}

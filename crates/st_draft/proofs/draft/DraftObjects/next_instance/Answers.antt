@@ -3,7 +3,7 @@ use Rattle.std.specs.Prelude.{None}
 use Rattle.st_model.specs.Values.{Value, word}
 use Rattle.st_model.specs.Table.{Table}
 use Rattle.st_model.specs.Steps.{named_or_not}
-use Rattle.st_draft.specs.Noted.{drafted}
+use Rattle.st_draft.specs.inside.Noted.{drafted}
 use Rattle.st_draft.proofs.Bearing.{first_of, first_some, first_none_here, first_end, reads_first}
 use Rattle.st_draft.proofs.draft.DraftObjects.next_instance.Goals as goal
 

@@ -1,8 +1,8 @@
 use Rattle.std.proofs.Common.{◌≡◌, ◌-◌, suc}
 use Rattle.st_model.specs.Values.{word}
 use Rattle.st_model.specs.Steps.{named_or_not}
-use Rattle.st_draft.specs.Bearing.{IsNumberOf}
-use Rattle.st_draft.specs.Noted.{drafted}
+use Rattle.st_draft.specs.inside.Bearing.{IsNumberOf}
+use Rattle.st_draft.specs.inside.Noted.{drafted}
 use Rattle.st_draft.proofs.Bearing.{first_of}
 use Rattle.st_draft.proofs.draft.DraftObjects.next_instance.Given as goal
 

@@ -2,7 +2,7 @@ use Rattle.std.proofs.Common.{sym, ap, ◌∙◌}
 use Rattle.std.specs.Prelude.{None}
 use Rattle.st_model.specs.Steps.{named_or_not}
 use Rattle.st_model.specs.Table.{borne_apart}
-use Rattle.st_draft.specs.Noted.{drafted}
+use Rattle.st_draft.specs.inside.Noted.{drafted}
 use Rattle.st_draft.proofs.Bearing.{reads_bearer, over_notes, draft_zero}
 use Rattle.st_draft.proofs.draft.DraftObjects.object_at.Goals as goal
 

@@ -3,11 +3,11 @@ use Rattle.std.proofs.lemmas.Bool.Decides.{nat_tests}
 use Rattle.st_model.specs.Values.{word}
 use Rattle.st_model.specs.Lookup.{find}
 use Rattle.st_model.specs.Table.{Table, apart}
-use Rattle.st_model.specs.Calls.{Reads, itself}
+use Rattle.st_model.specs.inside.Calls.{Reads, itself}
 use Rattle.st_draft.specs.declared.notes.Notes.{Notes}
 use Rattle.st_draft.specs.declared.exchanges.Exchanges.{Exchanges}
-use Rattle.st_draft.specs.Drafts.{draft_table}
-use Rattle.st_draft.specs.Noted.{noted, drafted, count_of}
+use Rattle.st_draft.specs.inside.Drafts.{draft_table}
+use Rattle.st_draft.specs.inside.Noted.{noted, drafted, count_of}
 use Rattle.st_draft.proofs.Keeping.{nothing_made}
 use Rattle.st_draft.proofs.Moved.{none_exchanged}
 use Rattle.st_memory.proofs.Unbounded.{found_apart}

@@ -1,8 +1,8 @@
 use Rattle.std.proofs.Common.{sym, ◌∙◌}
 use Rattle.std.proofs.lemmas.Result.{err_from_is_err_and}
 use Rattle.st_model.specs.Values.{word}
-use Rattle.st_draft.specs.Drafts.{after_change}
-use Rattle.st_draft.specs.Noted.{noted, drafted}
+use Rattle.st_draft.specs.inside.Drafts.{after_change}
+use Rattle.st_draft.specs.inside.Noted.{noted, drafted}
 use Rattle.st_draft.proofs.Keeping.{closed_field}
 use Rattle.st_draft.proofs.Storing.{below_draft, stores_lacking, stores_absent, stores}
 use Rattle.st_draft.proofs.Exchanged.{live_names}

@@ -2,7 +2,7 @@ use Rattle.std.proofs.Common.{◌+◌, ◌<◌, refl, sym, ◌∙◌, arith}
 use Rattle.std.specs.Prelude.{◌*◌}
 use Rattle.std.proofs.lemmas.Result.{err_from_is_err_and}
 use Rattle.st_model.specs.Values.{word}
-use Rattle.st_draft.specs.Noted.{noted, drafted}
+use Rattle.st_draft.specs.inside.Noted.{noted, drafted}
 use Rattle.st_draft.proofs.Keeping.{closed_fields}
 use Rattle.st_draft.proofs.Storing.{below_draft, copies_none, copies_unread, copies_unwritten, copies}
 use Rattle.st_draft.proofs.Exchanged.{live_names, closed_all}

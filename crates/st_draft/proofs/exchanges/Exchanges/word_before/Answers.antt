@@ -1,6 +1,6 @@
 use Rattle.std.proofs.Common.{◌≡◌, ◌-◌, suc, sym, ap, ◌∙◌, arith}
 use Rattle.st_model.specs.Values.{word}
-use Rattle.st_draft.specs.Drafts.{value_first}
+use Rattle.st_draft.specs.inside.Drafts.{value_first}
 use Rattle.st_draft.proofs.exchanges.Exchanges.word_before.Goals as goal
 
 pub loop-k-preserved : goal.loop-k-preserved

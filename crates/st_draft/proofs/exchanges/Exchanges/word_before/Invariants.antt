@@ -1,6 +1,6 @@
 use Rattle.std.proofs.Common.{◌≡◌, ◌≤◌}
 use Rattle.st_model.specs.Values.{word}
-use Rattle.st_draft.specs.Drafts.{value_first}
+use Rattle.st_draft.specs.inside.Drafts.{value_first}
 use Rattle.st_draft.proofs.exchanges.Exchanges.word_before.Given as goal
 
 -- the word that is sought had its object before the exchanges that are passed

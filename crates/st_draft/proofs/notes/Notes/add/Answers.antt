@@ -3,8 +3,8 @@ use Rattle.std.specs.Prelude.{slice_set, slice_index_or}
 use Rattle.std.proofs.lemmas.Bool.{cases_eq}
 use Rattle.st_model.specs.Objects.{words_of}
 use Rattle.st_model.specs.Table.{total_used}
-use Rattle.st_draft.specs.Drafts.{no_made, made_table}
-use Rattle.st_memory.specs.Making.{IsMade}
+use Rattle.st_draft.specs.inside.Drafts.{no_made, made_table}
+use Rattle.st_memory.specs.inside.Making.{IsMade}
 use Rattle.st_draft.proofs.Behind.{total_more}
 use Rattle.st_draft.proofs.notes.Notes.add.Goals as goal
 

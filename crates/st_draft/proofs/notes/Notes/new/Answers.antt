@@ -1,7 +1,7 @@
 use Rattle.std.proofs.Common.{List, replicate}
 use Rattle.st_memory.specs.declared.made.Made.{Made}
 use Rattle.st_draft.specs.declared.change.Change.{Change}
-use Rattle.st_draft.specs.Drafts.{no_made, no_change}
+use Rattle.st_draft.specs.inside.Drafts.{no_made, no_change}
 use Rattle.st_draft.proofs.Keeping.{nothing_made}
 use Rattle.st_draft.proofs.notes.Notes.new.Goals as goal
 

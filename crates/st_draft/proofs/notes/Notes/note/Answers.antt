@@ -1,7 +1,7 @@
 use Rattle.std.proofs.Common.{◌+◌, ◌<◌, inl, inr, length, sym, ap, ◌∙◌, subst, arith, length-set, get_or-set_same, get_or-set_other}
 use Rattle.std.specs.Prelude.{◌*◌, slice_set, slice_index_or}
 use Rattle.std.proofs.lemmas.Bool.{cases_eq}
-use Rattle.st_draft.specs.Drafts.{no_change, highest}
+use Rattle.st_draft.specs.inside.Drafts.{no_change, highest}
 use Rattle.st_draft.proofs.notes.Notes.note.Goals as goal
 
 pub invariant_of-self : goal.invariant_of-self

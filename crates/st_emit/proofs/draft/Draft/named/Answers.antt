@@ -2,7 +2,7 @@ use Rattle.std.proofs.Common.{List, refl, sym, ap, ◌∙◌}
 use Rattle.std.proofs.lemmas.List.{length-map}
 use Rattle.st_emit.specs.declared.step.Step.{Step}
 use Rattle.st_emit.specs.declared.level.Level.{Level}
-use Rattle.st_emit.specs.Views.{literal_view, literals_view}
+use Rattle.st_emit.specs.inside.Views.{literal_view, literals_view}
 use Rattle.st_emit.proofs.LiteralPlaces.{views_more, new_place}
 use Rattle.st_emit.proofs.draft.Draft.named.Goals as goal
 

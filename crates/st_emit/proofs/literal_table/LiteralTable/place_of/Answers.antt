@@ -1,7 +1,7 @@
 use Rattle.std.proofs.Common.{sym, ap, ◌∙◌}
 use Rattle.std.specs.Prelude.{option_map}
-use Rattle.st_emit.specs.Views.{literal_view, literals_view}
-use Rattle.st_emit.specs.LiteralPlaces.{key_view}
+use Rattle.st_emit.specs.inside.Views.{literal_view, literals_view}
+use Rattle.st_emit.specs.inside.LiteralPlaces.{key_view}
 use Rattle.st_emit.proofs.LiteralPlaces.{no_literal_place}
 use Rattle.st_emit.proofs.literal_table.LiteralTable.place_of.Goals as goal
 

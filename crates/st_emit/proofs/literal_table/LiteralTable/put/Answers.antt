@@ -1,7 +1,7 @@
 use Rattle.std.proofs.Common.{sym, ap, ◌∙◌, subst}
 use Rattle.std.specs.Prelude.{is_some}
-use Rattle.st_emit.specs.Views.{literal_view}
-use Rattle.st_emit.specs.LiteralPlaces.{IsKeyOf}
+use Rattle.st_emit.specs.inside.Views.{literal_view}
+use Rattle.st_emit.specs.inside.LiteralPlaces.{IsKeyOf}
 use Rattle.st_emit.proofs.Noting.{is_none_of}
 use Rattle.st_emit.proofs.LiteralPlaces.{put_either, put_again, put_keyless}
 use Rattle.st_emit.proofs.literal_table.LiteralTable.put.Goals as goal

@@ -2,7 +2,7 @@ use Rattle.std.proofs.Common.{ap, ◌∙◌}
 use Rattle.std.specs.Prelude.{Option, option_map, unwrap_or}
 use Rattle.st_first_objects.specs.declared.classes.Declared as declared_class
 use Rattle.st_first_objects.specs.Classes.{Declared, Classes, declared, undeclared}
-use Rattle.st_first_objects.specs.Views.{declared_of}
+use Rattle.st_first_objects.specs.inside.Views.{declared_of}
 use Rattle.st_first_objects.proofs.Found.{found_is}
 use Rattle.st_first_objects.proofs.classes.Classes.declared.Goals as goal
 

@@ -1,6 +1,6 @@
 use Rattle.std.proofs.Common.{ap, is_some, [], ◌∷◌, ◌++◌, ◌∙◌}
 use Rattle.st_first_objects.specs.Classes.{Classes, found}
-use Rattle.st_first_objects.specs.Views.{classes_of, declared_of}
+use Rattle.st_first_objects.specs.inside.Views.{classes_of, declared_of}
 use Rattle.st_first_objects.proofs.Found.{inserted_is}
 use Rattle.st_first_objects.proofs.classes.Classes.insert.Goals as goal
 

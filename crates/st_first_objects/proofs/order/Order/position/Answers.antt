@@ -2,7 +2,7 @@ use Rattle.std.proofs.Common.{ap, ◌∙◌}
 use Rattle.std.specs.List.{position}
 use Rattle.st_first_objects.specs.Things.{same}
 use Rattle.st_first_objects.specs.Orders.{Order}
-use Rattle.st_first_objects.specs.Views.{thing_of}
+use Rattle.st_first_objects.specs.inside.Views.{thing_of}
 use Rattle.st_first_objects.proofs.Same.{position_is}
 use Rattle.st_first_objects.proofs.order.Order.position.Goals as goal
 

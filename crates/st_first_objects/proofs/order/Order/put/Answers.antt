@@ -1,6 +1,6 @@
 use Rattle.std.proofs.Common.{not, ap, ◌∙◌}
 use Rattle.st_first_objects.specs.Orders.{Order, is_made, put}
-use Rattle.st_first_objects.specs.Views.{thing_of}
+use Rattle.st_first_objects.specs.inside.Views.{thing_of}
 use Rattle.st_first_objects.proofs.Same.{made_is, put_is}
 use Rattle.st_first_objects.proofs.order.Order.put.Goals as goal
 

@@ -1,6 +1,6 @@
 use Rattle.std.proofs.Common.{◌≡◌, drop}
 use Rattle.st_first_objects.specs.Orders.{want_all}
-use Rattle.st_first_objects.specs.Views.{things_of}
+use Rattle.st_first_objects.specs.inside.Views.{things_of}
 use Rattle.st_first_objects.proofs.order.Order.want_all.Given as goal
 
 abbrev pub invariant-loop-thing : goal.invariant-loop-thing

@@ -3,7 +3,7 @@ use Rattle.std.specs.Prelude.{filter, slice_get}
 use Rattle.st_first_objects.specs.Things.{is}
 use Rattle.st_first_objects.specs.Plans.{Plan}
 use Rattle.st_first_objects.specs.Contents.{all_of, members}
-use Rattle.st_first_objects.specs.Views.{thing_of, fields_of}
+use Rattle.st_first_objects.specs.inside.Views.{thing_of, fields_of}
 use Rattle.st_first_objects.proofs.Lists.{pushed, filtered}
 use Rattle.st_first_objects.proofs.plan.Plan.members.Goals as goal
 use Rattle.st_first_objects.proofs.plan.Plan.members.Goals.{then-is+in_ok-push, else-is}

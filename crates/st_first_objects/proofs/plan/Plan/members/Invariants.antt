@@ -2,7 +2,7 @@ use Rattle.std.proofs.Common.{◌≡◌, ◌++◌, drop}
 use Rattle.std.specs.Prelude.{filter}
 use Rattle.st_first_objects.specs.Things.{is}
 use Rattle.st_first_objects.specs.Contents.{all_of, members}
-use Rattle.st_first_objects.specs.Views.{fields_of}
+use Rattle.st_first_objects.specs.inside.Views.{fields_of}
 use Rattle.st_first_objects.proofs.plan.Plan.members.Given as goal
 
 abbrev pub invariant-loop-i : goal.invariant-loop-i

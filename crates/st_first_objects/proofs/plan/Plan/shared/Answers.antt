@@ -3,7 +3,7 @@ use Rattle.std.specs.Prelude.{filter, slice_get}
 use Rattle.st_first_objects.specs.Contents.{is_shared_of}
 use Rattle.st_first_objects.specs.Plans.{Plan}
 use Rattle.st_first_objects.specs.Contents.{all_of, members}
-use Rattle.st_first_objects.specs.Views.{thing_of, fields_of}
+use Rattle.st_first_objects.specs.inside.Views.{thing_of, fields_of}
 use Rattle.st_first_objects.proofs.Lists.{pushed, filtered}
 use Rattle.st_first_objects.proofs.plan.Plan.shared.Goals as goal
 use Rattle.st_first_objects.proofs.plan.Plan.shared.Goals.{then-is_shared_of+in_ok-push, else-is_shared_of}

@@ -1,7 +1,7 @@
 use Rattle.std.proofs.Common.{◌≡◌, ◌++◌, drop}
 use Rattle.std.specs.Prelude.{filter}
 use Rattle.st_first_objects.specs.Contents.{all_of, members, is_shared_of}
-use Rattle.st_first_objects.specs.Views.{fields_of}
+use Rattle.st_first_objects.specs.inside.Views.{fields_of}
 use Rattle.st_first_objects.proofs.plan.Plan.shared.Given as goal
 
 abbrev pub invariant-loop-i : goal.invariant-loop-i

@@ -1,6 +1,6 @@
 use Rattle.std.proofs.Common.{◌≡◌, ◌-◌, ◌++◌, drop}
 use Rattle.st_first_objects.specs.Contents.{padded}
-use Rattle.st_first_objects.specs.Views.{fields_of}
+use Rattle.st_first_objects.specs.inside.Views.{fields_of}
 use Rattle.st_first_objects.proofs.plan.Plan.table.Given as goal
 
 abbrev pub invariant-loop-i : goal.invariant-loop-i

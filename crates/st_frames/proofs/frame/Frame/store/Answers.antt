@@ -3,8 +3,8 @@ use Rattle.std.proofs.lemmas.Int.{ints}
 use Rattle.st_model.specs.Values.{small_integer}
 use Rattle.st_model.specs.Contexts.{store_context_registers}
 use Rattle.st_model.specs.Table.{table}
-use Rattle.st_model.specs.Calls.{itself}
-use Rattle.st_frames.specs.Shown.{FrameDoes}
+use Rattle.st_model.specs.inside.Calls.{itself}
+use Rattle.st_frames.specs.inside.Shown.{FrameDoes}
 use Rattle.st_frames.proofs.Stored.{store_dies, store_goes}
 use Rattle.st_frames.proofs.frame.Frame.store.Goals as goal
 

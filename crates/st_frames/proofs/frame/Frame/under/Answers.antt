@@ -4,7 +4,7 @@ use Rattle.std.proofs.lemmas.Bool.Decides.{nat_tests}
 use Rattle.st_model.specs.declared.dead.Dead.TheVariants as dead
 use Rattle.st_model.specs.Steps.{under}
 use Rattle.st_model.proofs.Runs.{run-then, run-next, run-passed, after-went}
-use Rattle.st_frames.specs.Shown.{shown}
+use Rattle.st_frames.specs.inside.Shown.{shown}
 use Rattle.st_frames.proofs.Shown.{shown-sp, shown-active}
 use Rattle.st_frames.proofs.frame.Frame.under.Goals as goal
 

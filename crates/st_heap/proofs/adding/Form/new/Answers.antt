@@ -2,8 +2,8 @@ use Rattle.std.proofs.Common.{◌≡◌, ◌+◌, ◌/◌, ◌%◌, false, sym, 
 use Rattle.std.specs.Prelude.{nat_eq}
 use Rattle.st_model.specs.declared.kind.Kind.{Kind}
 use Rattle.st_model.specs.Formed.{IsMakeable, fresh}
-use Rattle.st_heap.specs.Forms.{object_from, IsSound}
-use Rattle.st_heap.specs.Fresh.{new_stored}
+use Rattle.st_heap.specs.inside.Forms.{object_from, IsSound}
+use Rattle.st_heap.specs.inside.Fresh.{new_stored}
 use Rattle.st_heap.proofs.Fresh.{new_pointers, new_words, new_bytes, new_method}
 use Rattle.st_heap.proofs.adding.Form.new.Goals as goal
 

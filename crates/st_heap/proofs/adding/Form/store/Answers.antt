@@ -2,9 +2,9 @@ use Rattle.std.proofs.Common.{◌≡◌, ◌≢◌, ℕ, ◌+◌, ◌/◌, ◌<�
 use Rattle.std.specs.Prelude.{◌==◌, unwrap_or}
 use Rattle.std.proofs.lemmas.List.{set-set, get_or-set_same, get_or-set_other}
 use Rattle.std.proofs.lemmas.List.FromFn.{fill_by_all}
-use Rattle.st_heap.specs.Stored.{Stored, stored, nothing_stored, with_cell}
-use Rattle.st_heap.specs.Stores.{stored_of}
-use Rattle.st_heap.specs.Fresh.{new_cell}
+use Rattle.st_heap.specs.inside.Stored.{Stored, stored, nothing_stored, with_cell}
+use Rattle.st_heap.specs.inside.Stores.{stored_of}
+use Rattle.st_heap.specs.inside.Fresh.{new_cell}
 use Rattle.st_heap.proofs.adding.Form.store.Goals as goal
 
 -- one more word is written

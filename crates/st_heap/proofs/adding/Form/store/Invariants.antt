@@ -1,8 +1,8 @@
 use Rattle.std.proofs.Common.{◌≡◌, ℕ, ◌<◌, ◌/◌, get_or}
-use Rattle.st_heap.specs.Stored.{Takes}
-use Rattle.st_heap.specs.Stores.{stored_of, capacity_of}
-use Rattle.st_heap.specs.Links.{SameOtherLinks}
-use Rattle.st_heap.specs.Fresh.{new_cell}
+use Rattle.st_heap.specs.inside.Stored.{Takes}
+use Rattle.st_heap.specs.inside.Stores.{stored_of, capacity_of}
+use Rattle.st_heap.specs.inside.Links.{SameOtherLinks}
+use Rattle.st_heap.specs.inside.Fresh.{new_cell}
 use Rattle.st_heap.proofs.adding.Form.store.Given as goal
 
 -- the first words are written

@@ -1,10 +1,10 @@
 use Rattle.std.proofs.Common.{◌≡◌, ◌/◌, List, Some, length, take, set, sym, ap, ◌∙◌, arith}
 use Rattle.std.specs.Prelude.{ℕ, is_some}
 use Rattle.std.proofs.lemmas.List.{set-set}
-use Rattle.st_cells.specs.Words.{with_run}
-use Rattle.st_heap.specs.Stored.{Stored, run, with_cells}
-use Rattle.st_heap.specs.Stores.{stored_of}
-use Rattle.st_heap.specs.Fresh.{new_cell}
+use Rattle.st_cells.specs.inside.Words.{with_run}
+use Rattle.st_heap.specs.inside.Stored.{Stored, run, with_cells}
+use Rattle.st_heap.specs.inside.Stores.{stored_of}
+use Rattle.st_heap.specs.inside.Fresh.{new_cell}
 use Rattle.st_heap.proofs.Runs.{length-run}
 use Rattle.st_heap.proofs.StoredLaying.{all_over, laid, laid_is, slot_taken, stored_taken, length_taken}
 use Rattle.st_heap.proofs.adding.Form.store_fields.Goals as goal

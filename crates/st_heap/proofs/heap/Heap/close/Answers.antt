@@ -1,7 +1,7 @@
 use Rattle.std.proofs.Common.{◌≡◌, sym, ap, ◌∙◌, arith}
 use Rattle.st_heap.specs.declared.block.Block.{Block}
-use Rattle.st_heap.specs.Blocks.{none, block}
-use Rattle.st_heap.specs.Heaps.{blocks_of}
+use Rattle.st_heap.specs.inside.Blocks.{none, block}
+use Rattle.st_heap.specs.inside.Heaps.{blocks_of}
 use Rattle.st_heap.proofs.Laying.{laid_set, none_fits, held_set, taken_unowned, tied_forget}
 use Rattle.st_heap.proofs.Moving.{read_closed, read_above}
 use Rattle.st_heap.proofs.heap.Heap.close.Goals as goal

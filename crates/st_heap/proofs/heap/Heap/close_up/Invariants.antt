@@ -1,6 +1,6 @@
 use Rattle.std.proofs.Common.{◌≡◌, ◌+◌, length, drop}
-use Rattle.st_heap.specs.Blocks.{held, IsTied, IsClosedBelow, IsAbove}
-use Rattle.st_heap.specs.Heaps.{blocks_of, Keeps, SameRoom}
+use Rattle.st_heap.specs.inside.Blocks.{held, IsTied, IsClosedBelow, IsAbove}
+use Rattle.st_heap.specs.inside.Heaps.{blocks_of, Keeps, SameRoom}
 use Rattle.st_heap.proofs.heap.Heap.close_up.Given as goal
 
 -- the blocks before place k of the list are closed up

@@ -1,6 +1,6 @@
 use Rattle.std.proofs.Common.{◌/◌, set, arith}
 use Rattle.st_heap.specs.declared.block.Block.{Block}
-use Rattle.st_heap.specs.Blocks.{with_owner, IsLaid}
+use Rattle.st_heap.specs.inside.Blocks.{with_owner, IsLaid}
 use Rattle.st_heap.proofs.Exchanging.{inside_e, inside_f, laid_exchanged, tied_exchanged}
 use Rattle.st_heap.proofs.heap.Heap.exchange.Goals as goal
 

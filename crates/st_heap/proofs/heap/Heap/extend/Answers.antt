@@ -1,5 +1,5 @@
 use Rattle.std.proofs.Common.{◌+◌, ◌-◌, ◌/◌, ◌<◌, length, arith}
-use Rattle.st_heap.specs.Blocks.{block}
+use Rattle.st_heap.specs.inside.Blocks.{block}
 use Rattle.st_heap.proofs.Laying.{laid_set, end_fits, end_unowned, held_set, taken_unowned, taken_owned}
 use Rattle.st_heap.proofs.heap.Heap.extend.Goals as goal
 

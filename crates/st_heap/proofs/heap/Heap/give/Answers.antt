@@ -1,6 +1,6 @@
 use Rattle.std.proofs.Common.{◌+◌, ◌/◌, ◌<◌, length, set, sym, refl, subst, arith}
 use Rattle.st_heap.specs.declared.block.Block.{Block}
-use Rattle.st_heap.specs.Blocks.{block, IsLaid}
+use Rattle.st_heap.specs.inside.Blocks.{block, IsLaid}
 use Rattle.st_heap.proofs.Laying.{taken_owned, taken_unowned, held_above, laid_owner, owned_inside}
 use Rattle.st_heap.proofs.heap.Heap.give.Goals as goal
 

@@ -1,8 +1,8 @@
 use Rattle.std.proofs.Common.{◌≡◌, ◌/◌, ℕ, List, Option, Some, None, get_or, set, sym, ap, ◌∙◌, subst}
-use Rattle.st_cells.specs.Words.{slid}
+use Rattle.st_cells.specs.inside.Words.{slid}
 use Rattle.st_heap.specs.declared.block.Block.{Block}
 use Rattle.st_table.specs.declared.entry.Entry.{Entry}
-use Rattle.st_heap.specs.Blocks.{none, block, with_place, IsLaid, IsTied, KeepsBlocks}
+use Rattle.st_heap.specs.inside.Blocks.{none, block, with_place, IsLaid, IsTied, KeepsBlocks}
 use Rattle.st_heap.proofs.Laying.{laid_words}
 use Rattle.st_heap.proofs.Moving.{laid_moved, tied_moved, keeps_moved}
 use Rattle.st_heap.proofs.heap.Heap.move_block.Goals as goal

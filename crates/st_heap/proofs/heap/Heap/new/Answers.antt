@@ -1,7 +1,7 @@
 use Rattle.std.proofs.Common.{◌/◌, ◌+◌, List, ap, ◌∙◌, length, refl, subst, sym}
 use Rattle.std.proofs.lemmas.List.{length-replicate}
 use Rattle.st_heap.specs.declared.block.Block.{Block}
-use Rattle.st_heap.specs.Blocks.{IsLaid}
+use Rattle.st_heap.specs.inside.Blocks.{IsLaid}
 use Rattle.st_heap.proofs.Laying.{laid_new}
 use Rattle.st_heap.proofs.heap.Heap.new.Goals as goal
 

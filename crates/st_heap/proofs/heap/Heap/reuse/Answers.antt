@@ -1,5 +1,5 @@
 use Rattle.std.proofs.Common.{◌<◌, length, refl, arith}
-use Rattle.st_heap.specs.Heaps.{blocks_of}
+use Rattle.st_heap.specs.inside.Heaps.{blocks_of}
 use Rattle.st_heap.proofs.Taking.{hole_free, hole_within, hole_set, hole_laid}
 use Rattle.st_heap.proofs.heap.Heap.reuse.Goals as goal
 

@@ -1,7 +1,7 @@
 use Rattle.std.proofs.Common.{◌+◌, ℕ, List, ap, ◌∙◌, subst, arith}
 use Rattle.st_heap.specs.declared.block.Block.{Block}
-use Rattle.st_heap.specs.Blocks.{held, KeepsBlocks}
-use Rattle.st_heap.specs.Heaps.{words_of, blocks_of}
+use Rattle.st_heap.specs.inside.Blocks.{held, KeepsBlocks}
+use Rattle.st_heap.specs.inside.Heaps.{words_of, blocks_of}
 use Rattle.st_heap.proofs.Laying.{keeps_through}
 use Rattle.st_heap.proofs.Taking.{taken_tied, taken_keeps, taken_held, free_kept}
 use Rattle.st_heap.proofs.heap.Heap.take.Goals as goal

@@ -3,7 +3,7 @@ use Rattle.st_model.specs.Objects.{Object}
 use Rattle.st_model.specs.Values.{Ref}
 use Rattle.st_heap.proofs.Living.{live_stored, known, even_value}
 use Rattle.st_heap.proofs.Parts.{class_within}
-use Rattle.st_heap.specs.Stores.{stored_of}
+use Rattle.st_heap.specs.inside.Stores.{stored_of}
 use Rattle.st_heap.proofs.objects.Objects.class_of.Goals as goal
 
 pub word-requires : goal.word-requires

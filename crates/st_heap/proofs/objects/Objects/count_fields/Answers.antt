@@ -1,9 +1,9 @@
 use Rattle.std.proofs.Common.{◌/◌, length, sym, ap, ◌∙◌}
 use Rattle.st_model.specs.Objects.{Object}
-use Rattle.st_heap.specs.Stored.{stored}
+use Rattle.st_heap.specs.inside.Stored.{stored}
 use Rattle.st_heap.proofs.Forming.{length-fields}
 use Rattle.st_heap.proofs.Living.{live_stored, known}
-use Rattle.st_heap.specs.Stores.{stored_of}
+use Rattle.st_heap.specs.inside.Stores.{stored_of}
 use Rattle.st_heap.proofs.objects.Objects.count_fields.Goals as goal
 
 pub stored_fields-requires : goal.stored_fields-requires

@@ -1,10 +1,10 @@
 use Rattle.std.proofs.Common.{◌/◌, List, Option, sym, ap, ◌∙◌, subst}
-use Rattle.st_heap.specs.Stored.{Stored, stored}
-use Rattle.st_heap.specs.Forms.{AllSound}
-use Rattle.st_heap.specs.Forms.{objects_in}
+use Rattle.st_heap.specs.inside.Stored.{Stored, stored}
+use Rattle.st_heap.specs.inside.Forms.{AllSound}
+use Rattle.st_heap.specs.inside.Forms.{objects_in}
 use Rattle.st_heap.proofs.Living.{live_stored, known}
 use Rattle.st_heap.proofs.Changing.{exchanged_objects, exchanged_sound}
-use Rattle.st_heap.specs.Stores.{stored_of}
+use Rattle.st_heap.specs.inside.Stores.{stored_of}
 use Rattle.st_heap.proofs.objects.Objects.exchange.Goals as goal
 
 pub exchange-requires-clause-first : goal.exchange-requires-clause-first

@@ -1,7 +1,7 @@
 use Rattle.std.proofs.Common.{sym, ap, ◌∙◌}
 use Rattle.st_model.specs.Objects.{Object}
 use Rattle.st_heap.proofs.Living.{live_stored, known}
-use Rattle.st_heap.specs.Stores.{stored_of}
+use Rattle.st_heap.specs.inside.Stores.{stored_of}
 use Rattle.st_heap.proofs.objects.Objects.kind.Goals as goal
 
 pub kind-requires : goal.kind-requires

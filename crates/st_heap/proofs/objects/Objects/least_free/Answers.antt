@@ -3,12 +3,12 @@ use Rattle.std.specs.Prelude.{IfSome, IfNone}
 use Rattle.st_model.specs.declared.oop.Oop.{Oop}
 use Rattle.st_model.specs.Values.{Ref}
 use Rattle.st_model.specs.Table.{first_free}
-use Rattle.st_heap.specs.Stored.{Stored, IsUnused, IsLeastUnused}
-use Rattle.st_heap.specs.Forms.{objects_in}
+use Rattle.st_heap.specs.inside.Stored.{Stored, IsUnused, IsLeastUnused}
+use Rattle.st_heap.specs.inside.Forms.{objects_in}
 use Rattle.st_heap.proofs.Living.{even_value}
 use Rattle.st_heap.proofs.Changing.{least_place, free_unused}
 use Rattle.st_heap.proofs.Placing.{length-stored}
-use Rattle.st_heap.specs.Stores.{stored_of}
+use Rattle.st_heap.specs.inside.Stores.{stored_of}
 use Rattle.st_heap.proofs.objects.Objects.least_free.Goals as goal
 
 some_unused : (all : List (Option Stored)) (x : Option Oop) → IfNone x ((p : Oop) → ¬ IsUnused all p) → (p : Oop) → IsUnused all p → is_some x ≡ true

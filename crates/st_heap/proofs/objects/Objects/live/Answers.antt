@@ -1,5 +1,5 @@
 use Rattle.st_heap.proofs.Living.{live_test}
-use Rattle.st_heap.specs.Stores.{stored_of}
+use Rattle.st_heap.specs.inside.Stores.{stored_of}
 use Rattle.st_heap.proofs.objects.Objects.live.Goals as goal
 
 pub returns : goal.returns

@@ -2,9 +2,9 @@ use Rattle.std.proofs.Common.{◌/◌, sym, ap, ◌∙◌, arith}
 use Rattle.st_model.specs.Formed.{fresh}
 use Rattle.st_model.specs.View.{is_live, with_object}
 use Rattle.st_model.proofs.Making.{placed_object}
-use Rattle.st_heap.specs.Forms.{objects_in}
+use Rattle.st_heap.specs.inside.Forms.{objects_in}
 use Rattle.st_heap.proofs.Placing.{length-objects, free_dead}
-use Rattle.st_heap.specs.Stores.{stored_of}
+use Rattle.st_heap.specs.inside.Stores.{stored_of}
 use Rattle.st_heap.proofs.objects.Objects.make.Goals as goal
 
 pub place-requires-clause-free : goal.place-requires-clause-free

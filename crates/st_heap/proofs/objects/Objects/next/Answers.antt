@@ -1,5 +1,5 @@
 use Rattle.st_heap.proofs.Living.{live_stored}
-use Rattle.st_heap.specs.Stores.{stored_of}
+use Rattle.st_heap.specs.inside.Stores.{stored_of}
 use Rattle.st_heap.proofs.objects.Objects.next.Goals as goal
 
 pub next-requires : goal.next-requires

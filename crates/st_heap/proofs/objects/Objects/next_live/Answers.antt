@@ -3,9 +3,9 @@ use Rattle.std.proofs.lemmas.Bool.{cases_lt, cases_eq}
 use Rattle.std.proofs.lemmas.List.{get_or_past}
 use Rattle.st_model.specs.View.{is_live}
 use Rattle.st_model.proofs.Pointers.{value_of-pointer}
-use Rattle.st_heap.specs.Stored.{slot}
-use Rattle.st_heap.specs.Stores.{stored_of}
-use Rattle.st_heap.specs.Forms.{objects_in}
+use Rattle.st_heap.specs.inside.Stored.{slot}
+use Rattle.st_heap.specs.inside.Stores.{stored_of}
+use Rattle.st_heap.specs.inside.Forms.{objects_in}
 use Rattle.st_heap.proofs.Living.{live_ref}
 use Rattle.st_heap.proofs.Changing.{dead_word}
 use Rattle.st_heap.proofs.Placing.{length-stored}

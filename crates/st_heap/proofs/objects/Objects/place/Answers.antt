@@ -1,12 +1,12 @@
 use Rattle.std.proofs.Common.{◌/◌, ◌<◌, List, Option, sym, ap, ◌∙◌, subst, arith}
-use Rattle.st_heap.specs.Stored.{Stored}
-use Rattle.st_heap.specs.Forms.{AllSound}
+use Rattle.st_heap.specs.inside.Stored.{Stored}
+use Rattle.st_heap.specs.inside.Forms.{AllSound}
 use Rattle.st_model.proofs.Pointers.{even_word}
-use Rattle.st_heap.specs.Forms.{objects_in}
-use Rattle.st_heap.specs.Fresh.{new_stored}
+use Rattle.st_heap.specs.inside.Forms.{objects_in}
+use Rattle.st_heap.specs.inside.Fresh.{new_stored}
 use Rattle.st_heap.proofs.Changing.{sound_set, unused_dead, placed_stored, total_words}
 use Rattle.st_heap.proofs.Placing.{place_within}
-use Rattle.st_heap.specs.Stores.{stored_of}
+use Rattle.st_heap.specs.inside.Stores.{stored_of}
 use Rattle.st_heap.proofs.objects.Objects.place.Goals as goal
 
 pub new-form-requires-clause-even : goal.new-form-requires-clause-even

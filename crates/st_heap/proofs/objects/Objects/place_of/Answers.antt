@@ -1,4 +1,4 @@
-use Rattle.st_heap.specs.Stores.{stored_of}
+use Rattle.st_heap.specs.inside.Stores.{stored_of}
 use Rattle.st_heap.proofs.Living.{live_stored}
 use Rattle.st_heap.proofs.Placed.{stored_stands}
 use Rattle.st_heap.proofs.objects.Objects.place_of.Goals as goal

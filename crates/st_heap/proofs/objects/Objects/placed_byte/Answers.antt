@@ -1,6 +1,6 @@
 use Rattle.std.proofs.Common.{Some, sym, ap, ◌∙◌}
-use Rattle.st_cells.specs.Words.{byte_of}
-use Rattle.st_heap.specs.Stores.{stored_of}
+use Rattle.st_cells.specs.inside.Words.{byte_of}
+use Rattle.st_heap.specs.inside.Stores.{stored_of}
 use Rattle.st_heap.proofs.Living.{live_stored}
 use Rattle.st_heap.proofs.Parts.{byte_within, byte_read, upper_byte, lower_byte}
 use Rattle.st_heap.proofs.Placed.{stands_stored}

@@ -1,5 +1,5 @@
 use Rattle.std.proofs.Common.{length}
-use Rattle.st_heap.specs.Stores.{stored_of}
+use Rattle.st_heap.specs.inside.Stores.{stored_of}
 use Rattle.st_heap.proofs.Living.{live_stored}
 use Rattle.st_heap.proofs.Parts.{bytes_within, bytes_taken}
 use Rattle.st_heap.proofs.objects.Objects.read_bytes.Goals as goal

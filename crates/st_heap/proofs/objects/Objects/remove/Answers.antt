@@ -1,11 +1,11 @@
 use Rattle.std.proofs.Common.{◌/◌, List, Option, None, sym, ap, ◌∙◌, subst}
-use Rattle.st_heap.specs.Stored.{Stored}
-use Rattle.st_heap.specs.Forms.{AllSound}
-use Rattle.st_heap.specs.Forms.{objects_in}
+use Rattle.st_heap.specs.inside.Stored.{Stored}
+use Rattle.st_heap.specs.inside.Forms.{AllSound}
+use Rattle.st_heap.specs.inside.Forms.{objects_in}
 use Rattle.st_heap.proofs.Living.{live_stored}
 use Rattle.st_heap.proofs.Changing.{sound_without, set_objects}
 use Rattle.st_heap.proofs.Parts.{size_within, size_word}
-use Rattle.st_heap.specs.Stores.{stored_of}
+use Rattle.st_heap.specs.inside.Stores.{stored_of}
 use Rattle.st_heap.proofs.objects.Objects.remove.Goals as goal
 
 pub word-requires : goal.word-requires

@@ -1,8 +1,8 @@
 use Rattle.std.proofs.Common.{List, Option, sym, ap, ◌∙◌, subst}
-use Rattle.st_cells.specs.Words.{byte_of}
-use Rattle.st_heap.specs.Stored.{Stored}
-use Rattle.st_heap.specs.Forms.{objects_in, AllSound}
-use Rattle.st_heap.specs.Stores.{stored_of}
+use Rattle.st_cells.specs.inside.Words.{byte_of}
+use Rattle.st_heap.specs.inside.Stored.{Stored}
+use Rattle.st_heap.specs.inside.Forms.{objects_in, AllSound}
+use Rattle.st_heap.specs.inside.Stores.{stored_of}
 use Rattle.st_heap.proofs.Living.{live_stored}
 use Rattle.st_heap.proofs.Parts.{byte_within, byte_written}
 use Rattle.st_heap.proofs.objects.Objects.set_byte.Goals as goal

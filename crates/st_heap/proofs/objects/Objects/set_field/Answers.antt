@@ -1,7 +1,7 @@
 use Rattle.std.proofs.Common.{List, Option, sym, ap, ◌∙◌, subst, arith}
-use Rattle.st_heap.specs.Stored.{Stored}
-use Rattle.st_heap.specs.Forms.{objects_in, AllSound}
-use Rattle.st_heap.specs.Stores.{stored_of}
+use Rattle.st_heap.specs.inside.Stored.{Stored}
+use Rattle.st_heap.specs.inside.Forms.{objects_in, AllSound}
+use Rattle.st_heap.specs.inside.Stores.{stored_of}
 use Rattle.st_heap.proofs.Living.{live_stored}
 use Rattle.st_heap.proofs.Parts.{field_within, field_small, field_written}
 use Rattle.st_heap.proofs.objects.Objects.set_field.Goals as goal

@@ -1,8 +1,8 @@
 use Rattle.std.proofs.Common.{◌/◌, ◌∙◌, List, Option, sym, subst}
-use Rattle.st_heap.specs.Stored.{Stored}
-use Rattle.st_heap.specs.Forms.{AllSound}
+use Rattle.st_heap.specs.inside.Stored.{Stored}
+use Rattle.st_heap.specs.inside.Forms.{AllSound}
 use Rattle.st_heap.proofs.Living.{is_some-entry}
-use Rattle.st_heap.specs.Stores.{stored_of}
+use Rattle.st_heap.specs.inside.Stores.{stored_of}
 use Rattle.st_heap.proofs.objects.Objects.set_next.Goals as goal
 
 pub set_next-requires : goal.set_next-requires

@@ -1,5 +1,5 @@
 use Rattle.std.proofs.Common.{◌-◌, ◌*◌, true, false, sym, ap, ◌∙◌, arith}
-use Rattle.st_heap.specs.Stores.{stored_of}
+use Rattle.st_heap.specs.inside.Stores.{stored_of}
 use Rattle.st_heap.proofs.Living.{live_stored}
 use Rattle.st_heap.proofs.Parts.{size_within, class_within, odd_within, size_word, words_size, bytes_size}
 use Rattle.st_heap.proofs.objects.Objects.size.Goals as goal

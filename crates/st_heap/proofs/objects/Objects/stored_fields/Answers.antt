@@ -1,10 +1,10 @@
 use Rattle.std.proofs.Common.{◌≡◌, ◌/◌, true, length, sym, ap, ◌∙◌, arith}
-use Rattle.st_heap.specs.Stored.{stored}
-use Rattle.st_heap.specs.Forms.{cell}
+use Rattle.st_heap.specs.inside.Stored.{stored}
+use Rattle.st_heap.specs.inside.Forms.{cell}
 use Rattle.st_model.specs.Objects.{is_method}
 use Rattle.st_heap.proofs.Forming.{some_field}
 use Rattle.st_heap.proofs.Living.{sound_stored}
-use Rattle.st_heap.specs.Stores.{stored_of}
+use Rattle.st_heap.specs.inside.Stores.{stored_of}
 use Rattle.st_heap.proofs.objects.Objects.stored_fields.Goals as goal
 
 pub word-requires-clause-range : goal.word-requires-clause-range

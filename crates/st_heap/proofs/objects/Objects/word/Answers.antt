@@ -1,5 +1,5 @@
 use Rattle.std.proofs.Common.{Some, sym, ap, ◌∙◌, arith}
-use Rattle.st_heap.specs.Stores.{stored_of}
+use Rattle.st_heap.specs.inside.Stores.{stored_of}
 use Rattle.st_heap.proofs.Living.{live_stored}
 use Rattle.st_heap.proofs.Parts.{word_within, word_read}
 use Rattle.st_heap.proofs.objects.Objects.word.Goals as goal

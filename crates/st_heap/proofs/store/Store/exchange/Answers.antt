@@ -1,10 +1,10 @@
 use Rattle.std.proofs.Common.{◌/◌, List, Option, Some, None, length, get_or, set, is_some, refl, sym, ap, ◌∙◌, subst, length-set}
 use Rattle.st_table.specs.declared.entry.Entry.{Entry}
-use Rattle.st_heap.specs.Blocks.{exchanged_entries, entry_at, moved_entry, IsTied}
-use Rattle.st_heap.specs.Heaps.{words_of, blocks_of}
-use Rattle.st_heap.specs.Links.{next_in, before_in}
-use Rattle.st_heap.specs.Stored.{stored_at, used_of}
-use Rattle.st_heap.specs.Stores.{stored_of}
+use Rattle.st_heap.specs.inside.Blocks.{exchanged_entries, entry_at, moved_entry, IsTied}
+use Rattle.st_heap.specs.inside.Heaps.{words_of, blocks_of}
+use Rattle.st_heap.specs.inside.Links.{next_in, before_in}
+use Rattle.st_heap.specs.inside.Stored.{stored_at, used_of}
+use Rattle.st_heap.specs.inside.Stores.{stored_of}
 use Rattle.st_heap.proofs.Laying.{entry_inside}
 use Rattle.st_heap.proofs.Linking.{set_twice}
 use Rattle.st_heap.proofs.Storing.{slot_entry}

@@ -1,11 +1,11 @@
 use Rattle.std.proofs.Common.{◌≡◌, ◌≢◌, ℕ, get_or, ◌-◌, ◌/◌, List, Option, None, length, set, sym, ap, ◌∙◌, arith, length-set}
 use Rattle.std.proofs.lemmas.List.{get_or-set_other}
 use Rattle.st_table.specs.declared.entry.Entry.{Entry}
-use Rattle.st_heap.specs.Heaps.{words_of, blocks_of}
-use Rattle.st_heap.specs.Links.{next_in, before_in}
-use Rattle.st_heap.specs.Places.{place_in}
-use Rattle.st_heap.specs.Stored.{total, one_stored, stored_words, used_of}
-use Rattle.st_heap.specs.Stores.{stored_of}
+use Rattle.st_heap.specs.inside.Heaps.{words_of, blocks_of}
+use Rattle.st_heap.specs.inside.Links.{next_in, before_in}
+use Rattle.st_heap.specs.inside.Places.{place_in}
+use Rattle.st_heap.specs.inside.Stored.{total, one_stored, stored_words, used_of}
+use Rattle.st_heap.specs.inside.Stores.{stored_of}
 use Rattle.st_heap.proofs.Laying.{entered_owner}
 use Rattle.st_heap.proofs.Placed.{places_without}
 use Rattle.st_heap.proofs.Standing.{entries_left, words_left, freed}

@@ -1,7 +1,7 @@
 use Rattle.std.proofs.Common.{◌/◌, arith}
 use Rattle.std.specs.Prelude.{IfNone, Option, None, Some}
 use Rattle.st_model.specs.declared.oop.Oop.{Oop}
-use Rattle.st_heap.specs.Heaps.{words_of, blocks_of}
+use Rattle.st_heap.specs.inside.Heaps.{words_of, blocks_of}
 use Rattle.st_heap.proofs.Storing.{none_entry, length-all}
 use Rattle.st_heap.proofs.store.Store.least_free.Goals as goal
 

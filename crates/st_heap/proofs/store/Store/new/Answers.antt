@@ -1,7 +1,7 @@
 use Rattle.std.proofs.Common.{◌≡◌, ℕ, ◌+◌, ◌/◌, None, sym, ap, ◌∙◌}
-use Rattle.st_heap.specs.Blocks.{block, held}
-use Rattle.st_heap.specs.Heaps.{words_of, blocks_of}
-use Rattle.st_heap.specs.Stored.{slot, stored_all, one_stored, stored_words}
+use Rattle.st_heap.specs.inside.Blocks.{block, held}
+use Rattle.st_heap.specs.inside.Heaps.{words_of, blocks_of}
+use Rattle.st_heap.specs.inside.Stored.{slot, stored_all, one_stored, stored_words}
 use Rattle.st_heap.proofs.Storing.{none_stored}
 use Rattle.st_heap.proofs.Totals.{total_empty}
 use Rattle.st_heap.proofs.Tying.{tied_empty, no_blocks, held_none}

@@ -1,5 +1,5 @@
 use Rattle.std.proofs.Common.{◌/◌, length, ap, ◌∙◌, arith}
-use Rattle.st_heap.specs.Places.{place_in}
+use Rattle.st_heap.specs.inside.Places.{place_in}
 use Rattle.st_heap.proofs.Standing.{range_held, range_small, range_read}
 use Rattle.st_heap.proofs.store.Store.read.Goals as goal
 

@@ -1,7 +1,7 @@
 use Rattle.std.proofs.Common.{◌/◌, None, get_or, ◌∙◌}
-use Rattle.st_table.specs.Entries.{with_before}
-use Rattle.st_heap.specs.Heaps.{words_of, blocks_of}
-use Rattle.st_heap.specs.Links.{next_in, before_in}
+use Rattle.st_table.specs.inside.Entries.{with_before}
+use Rattle.st_heap.specs.inside.Heaps.{words_of, blocks_of}
+use Rattle.st_heap.specs.inside.Links.{next_in, before_in}
 use Rattle.st_heap.proofs.Linking.{before_relinks, before_here, next_beside, stored_entered, has_entry, relinked_stored, relinked_stays, relinked_here, relinked_other, relinked_beside, relinked_places}
 use Rattle.st_heap.proofs.store.Store.set_before.Goals as goal
 

@@ -1,5 +1,5 @@
 use Rattle.std.proofs.Common.{◌/◌, ap, arith}
-use Rattle.st_heap.specs.Places.{place_in}
+use Rattle.st_heap.specs.inside.Places.{place_in}
 use Rattle.st_heap.proofs.Standing.{word_held, word_small, word_written, word_stays}
 use Rattle.st_heap.proofs.store.Store.set_word.Goals as goal
 

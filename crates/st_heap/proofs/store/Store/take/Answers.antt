@@ -2,14 +2,14 @@ use Rattle.std.proofs.Common.{◌≡◌, ◌≢◌, ℕ, None, get_or, ◌+◌, 
 use Rattle.st_model.specs.declared.demand.Demand.{Demand}
 use Rattle.st_table.specs.declared.entry.Entry.{Entry}
 use Rattle.st_heap.specs.declared.block.Block.{Block}
-use Rattle.st_heap.specs.Heaps.{words_of, blocks_of}
-use Rattle.st_heap.specs.Stored.{stored_at, stored_all, used_of}
+use Rattle.st_heap.specs.inside.Heaps.{words_of, blocks_of}
+use Rattle.st_heap.specs.inside.Stored.{stored_at, stored_all, used_of}
 use Rattle.st_heap.proofs.Runs.{length-run}
 use Rattle.st_heap.proofs.Storing.{keeps_all, set_all, same_all, length-all}
 use Rattle.st_heap.proofs.Totals.{total_count, used_new}
 use Rattle.st_heap.proofs.Tying.{are_tied}
 use Rattle.std.proofs.lemmas.List.{get_or-set_other}
-use Rattle.st_heap.specs.Links.{next_in, before_in}
+use Rattle.st_heap.specs.inside.Links.{next_in, before_in}
 use Rattle.st_heap.proofs.Linking.{next_moved, before_moved}
 use Rattle.st_heap.proofs.store.Store.take.Goals as goal
 

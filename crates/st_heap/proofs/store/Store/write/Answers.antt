@@ -1,6 +1,6 @@
 use Rattle.std.proofs.Common.{ℕ, ◌+◌, ◌/◌, List, length, ap, ◌∙◌, arith}
-use Rattle.st_heap.specs.Heaps.{words_of}
-use Rattle.st_heap.specs.Places.{place_in}
+use Rattle.st_heap.specs.inside.Heaps.{words_of}
+use Rattle.st_heap.specs.inside.Places.{place_in}
 use Rattle.st_cells.proofs.Written.{length-with_run}
 use Rattle.st_heap.proofs.Standing.{range_held, range_small, range_written, range_stays}
 use Rattle.st_heap.proofs.store.Store.write.Goals as goal

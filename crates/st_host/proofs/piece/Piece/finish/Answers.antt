@@ -1,5 +1,5 @@
 use Rattle.std.proofs.Common.{◌≡◌, ℕ, List, [], take, sym, ap, subst, ◌∙◌}
-use Rattle.st_host.specs.Pieces.{Held, Holds}
+use Rattle.st_host.specs.inside.Pieces.{Held, Holds}
 use Rattle.st_host.proofs.Pushing.{cut_behind}
 use Rattle.st_host.proofs.Texts.{cut_whole}
 use Rattle.st_host.proofs.piece.Piece.finish.Goals as goal

@@ -1,6 +1,6 @@
 use Rattle.std.proofs.Common.{◌≡◌, ℕ, ◌+◌, [], length, take, sym, subst, ap, arith}
 use Rattle.std.proofs.lemmas.List.{length-take-le}
-use Rattle.st_host.specs.Pieces.{Held, Holds}
+use Rattle.st_host.specs.inside.Pieces.{Held, Holds}
 use Rattle.st_host.proofs.Pushing.{written_from}
 use Rattle.st_host.proofs.Texts.{flushed}
 use Rattle.st_host.proofs.piece.Piece.flush.Goals as goal

@@ -1,5 +1,5 @@
 use Rattle.std.proofs.Common.{◌≡◌, ◌++◌, sym, ap, subst, arith, length-append}
-use Rattle.st_host.specs.Pieces.{Held, end_of, Holds}
+use Rattle.st_host.specs.inside.Pieces.{Held, end_of, Holds}
 use Rattle.st_host.proofs.Texts.{held_more}
 use Rattle.st_host.proofs.piece.Piece.push.Goals as goal
 

@@ -2,9 +2,9 @@ use Rattle.std.proofs.Common.{◌≡◌, ℕ, ◌+◌, length, sym, ap, ◌∙�
 use Rattle.std.specs.Prelude.{Result, Ok, List}
 use Rattle.st_kernel_text.specs.declared.cause.Cause.{Cause}
 use Rattle.st_kernel_text.specs.Known.{Known, and_then, with_layout, with_variables}
-use Rattle.st_kernel_text.specs.Lists.{texts_of, names_of}
-use Rattle.st_kernel_text.specs.Views.{class_of}
-use Rattle.st_kernel_text.specs.Reading.{Leaves}
+use Rattle.st_kernel_text.specs.inside.Lists.{texts_of, names_of}
+use Rattle.st_kernel_text.specs.inside.Views.{class_of}
+use Rattle.st_kernel_text.specs.inside.Reading.{Leaves}
 use Rattle.st_kernel_text.proofs.known.Known.add_below.Goals as goal
 
 pub returns : goal.returns

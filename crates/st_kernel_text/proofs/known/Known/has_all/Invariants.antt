@@ -1,6 +1,6 @@
 use Rattle.std.proofs.Common.{◌≡◌, drop}
 use Rattle.st_kernel_text.specs.Known.{has_all}
-use Rattle.st_kernel_text.specs.Lists.{needs_of}
+use Rattle.st_kernel_text.specs.inside.Lists.{needs_of}
 use Rattle.st_kernel_text.proofs.known.Known.has_all.Given as goal
 
 abbrev pub invariant-loop-wanted : goal.invariant-loop-wanted

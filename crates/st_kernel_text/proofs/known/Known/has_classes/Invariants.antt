@@ -1,7 +1,7 @@
 use Rattle.std.proofs.Common.{◌≡◌, drop}
 use Rattle.std.specs.List.{list_all}
 use Rattle.st_kernel_text.specs.Known.{has_class}
-use Rattle.st_kernel_text.specs.Lists.{names_now}
+use Rattle.st_kernel_text.specs.inside.Lists.{names_now}
 use Rattle.st_kernel_text.proofs.known.Known.has_classes.Given as goal
 
 abbrev pub invariant-loop-name : goal.invariant-loop-name

@@ -6,8 +6,8 @@ use Rattle.st_chunk.proofs.Blanks.{tail_whole}
 use Rattle.st_chunk.specs.Feeding.{State as FeedState, answer}
 use Rattle.st_kernel_text.specs.declared.cause.Stop.{Stop}
 use Rattle.st_kernel_text.specs.Texts.{Account, account}
-use Rattle.st_kernel_text.specs.Reading.{Tells, account_behind, complete, end_of}
-use Rattle.st_kernel_text.specs.States.{state_of}
+use Rattle.st_kernel_text.specs.inside.Reading.{Tells, account_behind, complete, end_of}
+use Rattle.st_kernel_text.specs.inside.States.{state_of}
 use Rattle.st_kernel_text.proofs.Cutting.{ends, stopped_at, behind, chunk_ended, chunk_too_long, last_ended}
 use Rattle.st_kernel_text.proofs.reading.Reader.read_text.Goals as goal
 

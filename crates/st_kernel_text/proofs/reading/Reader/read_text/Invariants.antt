@@ -1,8 +1,8 @@
 use Rattle.std.proofs.Common.{◌≡◌, ◌≤◌, length, drop}
 use Rattle.st_chunk.specs.Texts.{most}
 use Rattle.st_kernel_text.specs.Texts.{account}
-use Rattle.st_kernel_text.specs.Reading.{account_left, cut_from}
-use Rattle.st_kernel_text.specs.States.{state_of}
+use Rattle.st_kernel_text.specs.inside.Reading.{account_left, cut_from}
+use Rattle.st_kernel_text.specs.inside.States.{state_of}
 use Rattle.st_kernel_text.proofs.Cutting.{IsOpen}
 use Rattle.st_kernel_text.proofs.reading.Reader.read_text.Given as goal
 

@@ -1,6 +1,6 @@
 use Rattle.std.proofs.Common.{◌≡◌, drop}
 use Rattle.st_kernel_text.specs.Known.{with_variables}
-use Rattle.st_kernel_text.specs.Lists.{texts_of}
+use Rattle.st_kernel_text.specs.inside.Lists.{texts_of}
 use Rattle.st_kernel_text.proofs.variables.Variables.declare.Given as goal
 
 abbrev pub invariant-loop-name : goal.invariant-loop-name

@@ -1,6 +1,6 @@
 use Rattle.std.proofs.Common.{sym, subst}
 use Rattle.st_model.specs.Table.{Table}
-use Rattle.st_lookup.specs.Remembered.{AllRemembered}
+use Rattle.st_lookup.specs.inside.Remembered.{AllRemembered}
 use Rattle.st_lookup.proofs.cached.CachedMemory.hold.Goals as goal
 
 pub invariant_of-self : goal.invariant_of-self

@@ -1,7 +1,7 @@
 use Rattle.std.proofs.Common.{sym, subst, ◌∙◌}
 use Rattle.st_model.specs.Values.{value}
 use Rattle.st_model.specs.Table.{Table, first_free}
-use Rattle.st_lookup.specs.Remembered.{SameWatched}
+use Rattle.st_lookup.specs.inside.Remembered.{SameWatched}
 use Rattle.st_lookup.proofs.Staying.{same_placed, off_name}
 use Rattle.st_lookup.proofs.cached.CachedMemory.make.Goals as goal
 

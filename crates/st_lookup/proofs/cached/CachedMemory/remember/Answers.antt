@@ -2,7 +2,7 @@ use Rattle.std.proofs.Common.{◌∙◌, List, ℕ, length-set}
 use Rattle.st_model.specs.Values.{value}
 use Rattle.st_model.specs.Table.{Table}
 use Rattle.st_lookup.specs.declared.entry.Entry.{Entry}
-use Rattle.st_lookup.specs.Remembered.{AllRemembered, Grows}
+use Rattle.st_lookup.specs.inside.Remembered.{AllRemembered, Grows}
 use Rattle.st_lookup.proofs.Staying.{all_grown, on_grown}
 use Rattle.st_lookup.proofs.Looked.{grows_then, all_set}
 use Rattle.st_lookup.proofs.cached.CachedMemory.remember.Goals as goal

@@ -3,7 +3,7 @@ use Rattle.std.specs.Prelude.{slice_get, Some, true}
 use Rattle.std.proofs.lemmas.Option.{slice_get_read}
 use Rattle.st_model.specs.Values.{value}
 use Rattle.st_model.specs.View.{is_live, IsKnown}
-use Rattle.st_memory.specs.Searched.{Finds}
+use Rattle.st_memory.specs.inside.Searched.{Finds}
 use Rattle.st_lookup.specs.declared.entry.Entry.{Entry}
 use Rattle.st_lookup.proofs.Staying.{finds_all}
 use Rattle.st_lookup.proofs.cached.CachedMemory.remembered.Goals as goal

@@ -1,7 +1,7 @@
 use Rattle.std.proofs.Common.{sym, subst}
 use Rattle.st_model.specs.Values.{value}
 use Rattle.st_model.specs.Table.{Table}
-use Rattle.st_lookup.specs.Remembered.{AllRemembered}
+use Rattle.st_lookup.specs.inside.Remembered.{AllRemembered}
 use Rattle.st_lookup.proofs.Staying.{same_stored, all_same}
 use Rattle.st_lookup.proofs.cached.CachedMemory.set_placed_pointer.Goals as goal
 

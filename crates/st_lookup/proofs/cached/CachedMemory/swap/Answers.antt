@@ -1,7 +1,7 @@
 use Rattle.std.proofs.Common.{sym, subst, ◌∙◌, refl}
 use Rattle.st_model.specs.Values.{value}
 use Rattle.st_model.specs.Table.{Table}
-use Rattle.st_lookup.specs.Remembered.{AllRemembered}
+use Rattle.st_lookup.specs.inside.Remembered.{AllRemembered}
 use Rattle.st_lookup.proofs.Staying.{same_exchanged, all_same}
 use Rattle.st_lookup.proofs.cached.CachedMemory.swap.Goals as goal
 

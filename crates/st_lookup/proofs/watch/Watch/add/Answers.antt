@@ -1,6 +1,6 @@
 use Rattle.std.proofs.Common.{◌≡◌, ℕ, true, ◌∙◌, subst, sym, inl, inr}
 use Rattle.std.proofs.lemmas.Bool.{cases_eq}
-use Rattle.st_lookup.specs.Remembered.{on}
+use Rattle.st_lookup.specs.inside.Remembered.{on}
 use Rattle.st_lookup.proofs.Watching.{on_value}
 use Rattle.st_lookup.proofs.watch.Watch.add.Goals as goal
 

@@ -1,7 +1,7 @@
 use Rattle.std.proofs.Common.{◌≡◌, ◌<◌, ◌/◌, ◌%◌, ℕ, true, false, length, sym, ap, ◌∙◌, subst, arith}
 use Rattle.std.specs.Prelude.{slice_index, ◌==◌}
 use Rattle.std.specs.Int.{bit_at}
-use Rattle.st_lookup.specs.Remembered.{on}
+use Rattle.st_lookup.specs.inside.Remembered.{on}
 use Rattle.st_lookup.proofs.Bits.{read_any}
 use Rattle.st_lookup.proofs.Watching.{off_value, on_value}
 use Rattle.st_lookup.proofs.watch.Watch.has.Goals as goal

@@ -1,5 +1,5 @@
 use Rattle.st_model.proofs.Raised.{raised_shown}
-use Rattle.st_frames.specs.Shown.{shown}
+use Rattle.st_frames.specs.inside.Shown.{shown}
 use Rattle.st_frames.proofs.Closed.{is_closed}
 use Rattle.st_machine.proofs.machine.Machine.boot.Goals as goal
 

@@ -1,7 +1,7 @@
 use Rattle.std.proofs.Common.{ℕ, List, ap, ◌∙◌}
-use Rattle.st_meaning.specs.Values.{sent}
-use Rattle.st_meaning.specs.Meanings.{most}
-use Rattle.st_meaning.specs.Courses.{going_view, with_deed}
+use Rattle.st_meaning.specs.inside.Values.{sent}
+use Rattle.st_meaning.specs.inside.Meanings.{most}
+use Rattle.st_meaning.specs.inside.Courses.{going_view, with_deed}
 use Rattle.st_meaning.proofs.Coursing.{answer_goes}
 use Rattle.st_meaning.proofs.course.Course.answer.Goals as goal
 

@@ -1,4 +1,4 @@
-use Rattle.st_meaning.specs.Meanings.{most}
+use Rattle.st_meaning.specs.inside.Meanings.{most}
 use Rattle.st_meaning.proofs.Coursing.{assign_goes}
 use Rattle.st_meaning.proofs.course.Course.assign.Goals as goal
 

@@ -1,6 +1,6 @@
-use Rattle.st_meaning.specs.Meanings.{start_of}
-use Rattle.st_meaning.specs.Deeds.{answers_view}
-use Rattle.st_meaning.specs.Courses.{held_of}
+use Rattle.st_meaning.specs.inside.Meanings.{start_of}
+use Rattle.st_meaning.specs.inside.Deeds.{answers_view}
+use Rattle.st_meaning.specs.inside.Courses.{held_of}
 use Rattle.st_meaning.proofs.Coursing.{begins}
 use Rattle.st_meaning.proofs.course.Course.before_all.Goals as goal
 

@@ -1,8 +1,8 @@
 use Rattle.std.proofs.Common.{List, ap, ◌∙◌}
 use Rattle.st_meaning.specs.declared.deed.Variable.{Variable}
 use Rattle.st_meaning.specs.declared.deed.Value.{Value}
-use Rattle.st_meaning.specs.Runs.{all_changed}
-use Rattle.st_meaning.specs.Courses.{going_view, held_of}
+use Rattle.st_meaning.specs.inside.Runs.{all_changed}
+use Rattle.st_meaning.specs.inside.Courses.{going_view, held_of}
 use Rattle.st_meaning.proofs.Coursing.{first_answer}
 use Rattle.st_meaning.proofs.course.Course.take_answer.Goals as goal
 

@@ -5,8 +5,8 @@ use Rattle.st_meaning.specs.declared.deed.Variable.{Variable}
 use Rattle.st_meaning.specs.declared.deed.Variable.TheVariants.{Temporary}
 use Rattle.st_meaning.specs.declared.deed.Value.{Value}
 use Rattle.st_meaning.specs.declared.deed.Value.TheVariants.{Number}
-use Rattle.st_meaning.specs.Runs.{all_changed}
-use Rattle.st_meaning.specs.Courses.{held_of}
+use Rattle.st_meaning.specs.inside.Runs.{all_changed}
+use Rattle.st_meaning.specs.inside.Courses.{held_of}
 use Rattle.st_meaning.proofs.held.Held.change_all.Goals as goal
 
 abbrev none : Variable × Value

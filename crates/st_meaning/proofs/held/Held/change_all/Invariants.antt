@@ -1,6 +1,6 @@
 use Rattle.std.proofs.Common.{◌≡◌, drop}
-use Rattle.st_meaning.specs.Runs.{all_changed}
-use Rattle.st_meaning.specs.Courses.{held_of, IsTable}
+use Rattle.st_meaning.specs.inside.Runs.{all_changed}
+use Rattle.st_meaning.specs.inside.Courses.{held_of, IsTable}
 use Rattle.st_meaning.proofs.held.Held.change_all.Given as goal
 
 abbrev pub invariant-loop-change : goal.invariant-loop-change

@@ -2,7 +2,7 @@ use Rattle.std.proofs.Common.{◌≡◌, true, sym, ap, ◌∙◌, subst}
 use Rattle.std.proofs.lemmas.Result.{err_from_is_err_and}
 use Rattle.st_model.specs.Values.{Value, word, value}
 use Rattle.st_model.specs.View.{is_live, with_exchanged}
-use Rattle.st_memory.specs.Tabular.{bounded_tabular}
+use Rattle.st_memory.specs.inside.Tabular.{bounded_tabular}
 use Rattle.st_memory.proofs.Swapping.{exchanges_small_first, exchanges_small_second, exchanges_err_first, exchanges_err_second, exchanges}
 use Rattle.st_memory.proofs.live.AnyObjects.exchange.Goals as goal
 

@@ -1,5 +1,5 @@
 use Rattle.st_model.specs.Values.{value, word}
-use Rattle.st_memory.specs.Searched.{Finds}
+use Rattle.st_memory.specs.inside.Searched.{Finds}
 use Rattle.st_memory.proofs.Unbounded.{finds_bounded}
 use Rattle.st_memory.proofs.live.AnyObjects.remembered.Goals as goal
 

@@ -4,7 +4,7 @@ use Rattle.std.proofs.Math.Seq.{take-suc}
 use Rattle.st_model.specs.Values.{value}
 use Rattle.st_model.specs.Objects.{is_words, first_unit}
 use Rattle.st_model.specs.View.{object_of, with_unit}
-use Rattle.st_memory.specs.Copied.{with_run}
+use Rattle.st_memory.specs.inside.Copied.{with_run}
 use Rattle.st_memory.proofs.Stretches.{most_size, none_run, live_run, kind_run, first_run, size_run, bytes_within, run_more}
 use Rattle.st_memory.proofs.memory.Memory.write_bytes.Goals as goal
 

@@ -2,7 +2,7 @@ use Rattle.std.proofs.Common.{◌≡◌, ◌-◌, take}
 use Rattle.st_model.specs.Values.{value}
 use Rattle.st_model.specs.Objects.{first_unit}
 use Rattle.st_model.specs.View.{object_of}
-use Rattle.st_memory.specs.Copied.{with_run}
+use Rattle.st_memory.specs.inside.Copied.{with_run}
 use Rattle.st_memory.proofs.memory.Memory.write_bytes.Given as goal
 
 abbrev pub invariant-loop-i : goal.invariant-loop-i

@@ -4,7 +4,7 @@ use Rattle.std.proofs.Math.Seq.{take-suc}
 use Rattle.st_model.specs.Values.{value}
 use Rattle.st_model.specs.Objects.{is_words}
 use Rattle.st_model.specs.View.{with_unit}
-use Rattle.st_memory.specs.Copied.{with_run}
+use Rattle.st_memory.specs.inside.Copied.{with_run}
 use Rattle.st_memory.proofs.Stretches.{most_size, none_run, live_run, kind_run, size_run, run_more, words_within}
 use Rattle.st_memory.proofs.memory.Memory.write_words.Goals as goal
 

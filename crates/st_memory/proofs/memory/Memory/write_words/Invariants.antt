@@ -1,6 +1,6 @@
 use Rattle.std.proofs.Common.{◌≡◌, take}
 use Rattle.st_model.specs.Values.{value}
-use Rattle.st_memory.specs.Copied.{with_run}
+use Rattle.st_memory.specs.inside.Copied.{with_run}
 use Rattle.st_memory.proofs.memory.Memory.write_words.Given as goal
 
 abbrev pub invariant-loop-i : goal.invariant-loop-i

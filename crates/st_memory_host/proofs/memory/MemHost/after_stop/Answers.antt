@@ -1,7 +1,7 @@
 use Rattle.std.proofs.Common.{ℕ, List, reverse, ap, ◌∙◌}
-use Rattle.st_memory_host.specs.HostState.{HostState}
-use Rattle.st_memory_host.specs.Log.{deeds_of}
-use Rattle.st_memory_host.specs.Leave.{deeds_left, host_of}
+use Rattle.st_memory_host.specs.inside.HostState.{HostState}
+use Rattle.st_memory_host.specs.inside.Log.{deeds_of}
+use Rattle.st_memory_host.specs.inside.Leave.{deeds_left, host_of}
 use Rattle.st_memory_host.specs.declared.log.Entry.{Entry}
 use Rattle.st_memory_host.proofs.Leaving.{stopped}
 use Rattle.st_memory_host.proofs.memory.MemHost.after_stop.Goals as goal

@@ -1,6 +1,6 @@
 use Rattle.std.proofs.Common.{◌∙◌}
 use Rattle.st_host.specs.Files.{bytes_of}
-use Rattle.st_memory_host.specs.Deeds.{files_after}
+use Rattle.st_memory_host.specs.inside.Deeds.{files_after}
 use Rattle.st_memory_host.proofs.Replaying.{copied_done, written_over}
 use Rattle.st_memory_host.proofs.memory.MemHost.copy.Goals as goal
 

@@ -1,5 +1,5 @@
 use Rattle.std.proofs.Common.{◌+◌, length, true, IsTrue, rules, refl}
-use Rattle.st_memory_host.specs.Deeds.{Wrote, Tore, Cut, Synced}
+use Rattle.st_memory_host.specs.inside.Deeds.{Wrote, Tore, Cut, Synced}
 use Rattle.st_memory_host.proofs.Doing.{write_written, write_stops, write_time, cut_cut, cut_stops, cut_time, sync_stops, write_others, cut_others, sync_others, sync_time, nothing_said, no_say_fault, say_part, say_alike, say_stops, say_time}
 use Rattle.st_memory_host.proofs.memory.MemHostHost.TheImpl.Goals as goal
 

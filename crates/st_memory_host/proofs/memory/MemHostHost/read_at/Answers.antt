@@ -1,7 +1,7 @@
 use Rattle.std.proofs.Common.{◌≡◌, ◌-◌, ℕ, List, Option, subst, ap, ◌∙◌}
 use Rattle.st_host.specs.Files.{bytes_of, IsRead}
-use Rattle.st_memory_host.specs.Deeds.{files_after}
-use Rattle.st_memory_host.specs.HostState.{HostState}
+use Rattle.st_memory_host.specs.inside.Deeds.{files_after}
+use Rattle.st_memory_host.specs.inside.HostState.{HostState}
 use Rattle.st_memory_host.proofs.Windows.{window_read, length_is}
 use Rattle.st_memory_host.proofs.memory.MemHostHost.read_at.Goals as goal
 

@@ -3,8 +3,8 @@ use Rattle.st_model.specs.Table.{settled_table}
 use Rattle.st_model.specs.Settled.{is_marked}
 use Rattle.st_model.proofs.Rounds.{settled_same}
 use Rattle.st_plain.specs.declared.contents.Contents.{Contents}
-use Rattle.st_plain.specs.ListsPlain.{objects_of}
-use Rattle.st_plain.specs.Plain.{plain_view, is_needed}
+use Rattle.st_plain.specs.inside.ListsPlain.{objects_of}
+use Rattle.st_plain.specs.inside.Plain.{plain_view, is_needed}
 use Rattle.st_plain.proofs.Referring.{entry_within}
 use Rattle.st_plain.proofs.contents.Contents.drop_unneeded.Goals as goal
 

@@ -1,10 +1,10 @@
 use Rattle.std.proofs.Common.{ap, ◌∙◌}
 use Rattle.st_model.specs.Machine.{table_root}
 use Rattle.st_model.specs.Settled.{or, any_names}
-use Rattle.st_plain.specs.Held.{names_held}
-use Rattle.st_plain.specs.Marked.{is_of_page}
-use Rattle.st_plain.specs.ListsPlain.{is_referred}
-use Rattle.st_plain.specs.Plain.{plain_view}
+use Rattle.st_plain.specs.inside.Held.{names_held}
+use Rattle.st_plain.specs.inside.Marked.{is_of_page}
+use Rattle.st_plain.specs.inside.ListsPlain.{is_referred}
+use Rattle.st_plain.specs.inside.Plain.{plain_view}
 use Rattle.st_plain.proofs.Marking.{or_false}
 use Rattle.st_plain.proofs.Needing.{needed_parts}
 use Rattle.st_plain.proofs.contents.Contents.mark_needed.Goals as goal

@@ -1,6 +1,6 @@
 use Rattle.st_model.specs.View.{head_of}
-use Rattle.st_counted.specs.Held.{held_of}
-use Rattle.st_plain.specs.ListsPlain.{objects_of}
+use Rattle.st_counted.specs.inside.Held.{held_of}
+use Rattle.st_plain.specs.inside.ListsPlain.{objects_of}
 use Rattle.st_counted.proofs.Beginning.{empty_is}
 use Rattle.st_plain.proofs.contents.Contents.new.Goals as goal
 

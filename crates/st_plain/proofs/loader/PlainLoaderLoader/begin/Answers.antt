@@ -1,12 +1,12 @@
 use Rattle.std.proofs.Common.{◌≡◌, ap, sym, subst}
 use Rattle.st_model.specs.View.{head_of}
-use Rattle.st_model.specs.Loading.{IsLoading}
+use Rattle.st_model.specs.inside.Loading.{IsLoading}
 use Rattle.st_model.proofs.LoadingLemmas.{loading_empty}
 use Rattle.st_counted.specs.declared.contents.Head.{Head}
 use Rattle.st_model.specs.Objects.{words_of}
 use Rattle.st_model.specs.Table.{total_used}
-use Rattle.st_plain.specs.ListsPlain.{extent_of}
-use Rattle.st_plain.specs.Plain.{plain_view}
+use Rattle.st_plain.specs.inside.ListsPlain.{extent_of}
+use Rattle.st_plain.specs.inside.Plain.{plain_view}
 use Rattle.st_plain.proofs.Room.{room_start, long_start}
 use Rattle.st_plain.proofs.loader.PlainLoaderLoader.begin.Goals as goal
 

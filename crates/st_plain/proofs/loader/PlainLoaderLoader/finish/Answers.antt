@@ -1,5 +1,5 @@
 use Rattle.st_model.proofs.LoadingLemmas.{whole_loaded}
-use Rattle.st_plain.specs.Plain.{plain_view}
+use Rattle.st_plain.specs.inside.Plain.{plain_view}
 use Rattle.st_plain.proofs.loader.PlainLoaderLoader.finish.Goals as goal
 
 pub new-requires : goal.new-requires

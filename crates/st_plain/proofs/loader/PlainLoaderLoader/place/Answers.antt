@@ -7,8 +7,8 @@ use Rattle.st_model.proofs.FormedLemmas.{fresh_parts}
 use Rattle.st_model.proofs.Pointers.{value_of-even}
 use Rattle.st_model.proofs.LoadingLemmas.{total_used-with_object}
 use Rattle.st_counted.proofs.Units.{loading_fresh}
-use Rattle.st_plain.specs.ListsPlain.{objects_of, extent_of}
-use Rattle.st_plain.specs.Plain.{plain_view}
+use Rattle.st_plain.specs.inside.ListsPlain.{objects_of, extent_of}
+use Rattle.st_plain.specs.inside.Plain.{plain_view}
 use Rattle.st_plain.proofs.Fresh.{pointer_within}
 use Rattle.st_plain.proofs.Room.{room_less}
 use Rattle.st_plain.proofs.loader.PlainLoaderLoader.place.Goals as goal

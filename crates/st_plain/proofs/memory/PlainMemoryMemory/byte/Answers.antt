@@ -1,7 +1,7 @@
 use Rattle.std.proofs.Common.{arith}
 use Rattle.st_model.specs.Values.{value}
 use Rattle.st_counted.proofs.Units.{byte_small}
-use Rattle.st_plain.specs.Plain.{plain_view}
+use Rattle.st_plain.specs.inside.Plain.{plain_view}
 use Rattle.st_plain.proofs.memory.PlainMemoryMemory.byte.Goals as goal
 
 pub overflow_cast-result : goal.overflow_cast-result

@@ -4,7 +4,7 @@ use Rattle.st_model.specs.Values.{Value, Ref, value}
 use Rattle.st_model.specs.View.{is_live, object_of}
 use Rattle.st_model.proofs.Pointers.{value_of-even}
 use Rattle.st_model.proofs.WholeLemmas.{class_live}
-use Rattle.st_plain.specs.Plain.{plain_view}
+use Rattle.st_plain.specs.inside.Plain.{plain_view}
 use Rattle.st_plain.proofs.memory.PlainMemoryMemory.class_of.Goals as goal
 
 pub returns-clause-class : goal.returns-clause-class

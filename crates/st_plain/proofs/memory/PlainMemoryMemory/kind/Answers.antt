@@ -2,7 +2,7 @@ use Rattle.std.proofs.Common.{ap, ◌∙◌}
 use Rattle.st_model.specs.Objects.{Object, is_method}
 use Rattle.st_model.specs.Values.{value}
 use Rattle.st_model.proofs.WholeLemmas.{formed_live}
-use Rattle.st_plain.specs.Plain.{plain_view}
+use Rattle.st_plain.specs.inside.Plain.{plain_view}
 use Rattle.st_plain.proofs.memory.PlainMemoryMemory.kind.Goals as goal
 
 pub returns-clause-method : goal.returns-clause-method

@@ -3,7 +3,7 @@ use Rattle.st_model.specs.Values.{value}
 use Rattle.st_model.specs.Formed.{fresh}
 use Rattle.st_model.proofs.Making.{first_free_within, live_even, whole_made}
 use Rattle.st_counted.proofs.Instances.{live_half}
-use Rattle.st_plain.specs.Plain.{plain_view}
+use Rattle.st_plain.specs.inside.Plain.{plain_view}
 use Rattle.st_plain.proofs.memory.PlainMemoryMemory.make.Goals as goal
 
 pub make-requires-clause-left : goal.make-requires-clause-left

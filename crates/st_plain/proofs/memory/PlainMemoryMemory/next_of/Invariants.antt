@@ -1,7 +1,7 @@
 use Rattle.std.proofs.Common.{◌-◌}
 use Rattle.st_model.specs.Values.{value}
 use Rattle.st_counted.proofs.Instances.{HasNone}
-use Rattle.st_plain.specs.Plain.{plain_view}
+use Rattle.st_plain.specs.inside.Plain.{plain_view}
 use Rattle.st_plain.proofs.memory.PlainMemoryMemory.next_of.Given as goal
 
 -- no instance so far

@@ -1,7 +1,7 @@
 use Rattle.st_model.specs.Values.{value}
 use Rattle.st_model.proofs.WholeLemmas.{field_known}
 use Rattle.st_counted.proofs.Units.{header_read}
-use Rattle.st_plain.specs.Plain.{plain_view}
+use Rattle.st_plain.specs.inside.Plain.{plain_view}
 use Rattle.st_plain.proofs.memory.PlainMemoryMemory.pointer.Goals as goal
 
 pub returns-clause-header : goal.returns-clause-header

@@ -2,8 +2,8 @@ use Rattle.std.proofs.Common.{◌<◌, refl, arith}
 use Rattle.st_model.specs.Values.{value}
 use Rattle.st_model.proofs.Pointers.{IsWord-value_of}
 use Rattle.st_model.proofs.WholeLemmas.{whole_stored}
-use Rattle.st_plain.specs.ListsPlain.{extent_of}
-use Rattle.st_plain.specs.Plain.{plain_view}
+use Rattle.st_plain.specs.inside.ListsPlain.{extent_of}
+use Rattle.st_plain.specs.inside.Plain.{plain_view}
 use Rattle.st_plain.proofs.Room.{long_same}
 use Rattle.st_plain.proofs.memory.PlainMemoryMemory.set_pointer.Goals as goal
 

@@ -2,7 +2,7 @@ use Rattle.std.proofs.Common.{arith}
 use Rattle.st_model.specs.Values.{value}
 use Rattle.st_model.specs.View.{object_of}
 use Rattle.st_counted.proofs.Units.{word_fits}
-use Rattle.st_plain.specs.Plain.{plain_view}
+use Rattle.st_plain.specs.inside.Plain.{plain_view}
 use Rattle.st_plain.proofs.Filled.{kept_unit, word_within}
 use Rattle.st_plain.proofs.memory.PlainMemoryMemory.set_word.Goals as goal
 

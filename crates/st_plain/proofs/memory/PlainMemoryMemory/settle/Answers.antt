@@ -3,7 +3,7 @@ use Rattle.st_model.specs.Table.{Table}
 use Rattle.st_model.specs.View.{view_roots}
 use Rattle.st_model.proofs.Settling.{DropsTo}
 use Rattle.st_model.proofs.Rounds.{KeepsNeeded, drops_all, whole_settled, moved_roots}
-use Rattle.st_plain.specs.Plain.{plain_view, is_needed}
+use Rattle.st_plain.specs.inside.Plain.{plain_view, is_needed}
 use Rattle.st_plain.proofs.Needing.{keeps_needed, settles_to}
 use Rattle.st_plain.proofs.memory.PlainMemoryMemory.settle.Goals as goal
 

@@ -3,7 +3,7 @@ use Rattle.st_model.specs.Objects.{one}
 use Rattle.st_model.specs.Table.{total_used}
 use Rattle.st_model.specs.View.{view_roots}
 use Rattle.st_model.proofs.Settling.{DropsTo}
-use Rattle.st_plain.specs.Plain.{plain_view}
+use Rattle.st_plain.specs.inside.Plain.{plain_view}
 use Rattle.st_plain.proofs.memory.PlainMemoryMemory.settle.Given as goal
 
 -- no object is lost that a set has which supports itself

@@ -1,7 +1,7 @@
 use Rattle.std.proofs.Common.{refl}
 use Rattle.st_model.specs.Values.{value}
 use Rattle.st_model.proofs.Exchanging.{whole_exchanged}
-use Rattle.st_plain.specs.Plain.{plain_view}
+use Rattle.st_plain.specs.inside.Plain.{plain_view}
 use Rattle.st_plain.proofs.Filled.{kept}
 use Rattle.st_plain.proofs.memory.PlainMemoryMemory.swap.Goals as goal
 

@@ -1,5 +1,5 @@
 use Rattle.st_model.specs.Values.{value}
-use Rattle.st_plain.specs.Plain.{plain_view}
+use Rattle.st_plain.specs.inside.Plain.{plain_view}
 use Rattle.st_plain.proofs.Filled.{word_within}
 use Rattle.st_plain.proofs.memory.PlainMemoryMemory.word.Goals as goal
 

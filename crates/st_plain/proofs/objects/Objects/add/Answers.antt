@@ -2,7 +2,7 @@ use Rattle.std.proofs.Common.{◌+◌, ◌<◌, ◌≤◌, length, sym, ap, ◌�
 use Rattle.std.specs.Prelude.{Some}
 use Rattle.std.specs.Option.{option_map}
 use Rattle.std.proofs.lemmas.List.{map-set}
-use Rattle.st_plain.specs.Lists.{new_entry, entry_object, one_entry, entry_words}
+use Rattle.st_plain.specs.inside.Lists.{new_entry, entry_object, one_entry, entry_words}
 use Rattle.st_plain.proofs.Counting.{count_bound, words_bound, total-with}
 use Rattle.st_plain.proofs.Placing.{place_laid_out, full_more}
 use Rattle.st_plain.proofs.objects.Objects.add.Goals as goal

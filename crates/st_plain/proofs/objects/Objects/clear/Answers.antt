@@ -4,7 +4,7 @@ use Rattle.std.specs.Option.{option_map}
 use Rattle.std.specs.Vec.{with_items}
 use Rattle.std.proofs.lemmas.Bool.{cases_lt}
 use Rattle.std.proofs.lemmas.Grind.{common_steps}
-use Rattle.st_plain.specs.Lists.{slot, entry_object}
+use Rattle.st_plain.specs.inside.Lists.{slot, entry_object}
 use Rattle.st_plain.proofs.Counting.{none_counted}
 use Rattle.st_plain.proofs.Placing.{none_laid_out}
 use Rattle.st_plain.proofs.Slots.{entry-listed}

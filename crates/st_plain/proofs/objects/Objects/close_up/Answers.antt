@@ -2,8 +2,8 @@ use Rattle.std.proofs.Common.{◌≡◌, length, sym, ap, ◌∙◌, inl, inr, s
 use Rattle.std.proofs.lemmas.Bool.{cases_eq}
 use Rattle.st_model.specs.Table.{entry}
 use Rattle.st_model.specs.declared.demand.Demand.{Demand}
-use Rattle.st_plain.specs.Lists.{entry_words}
-use Rattle.st_plain.specs.ListsPlain.{Extent, objects_of, extent_of}
+use Rattle.st_plain.specs.inside.Lists.{entry_words}
+use Rattle.st_plain.specs.inside.ListsPlain.{Extent, objects_of, extent_of}
 use Rattle.st_plain.proofs.Closed.{all_copied, next_fits, still_taken, slot_none}
 use Rattle.st_plain.proofs.Counting.{used_is}
 use Rattle.st_plain.proofs.Looking.{total_rest}

@@ -1,8 +1,8 @@
 use Rattle.std.proofs.Common.{◌≡◌, ℕ, ◌+◌, ◌*◌, ◌<◌, ◌≤◌, length, take}
 use Rattle.std.specs.Prelude.{None}
 use Rattle.st_model.specs.Table.{entry}
-use Rattle.st_plain.specs.Lists.{entry_total, entry_words}
-use Rattle.st_plain.specs.ListsPlain.{objects_of}
+use Rattle.st_plain.specs.inside.Lists.{entry_total, entry_words}
+use Rattle.st_plain.specs.inside.ListsPlain.{objects_of}
 use Rattle.st_plain.proofs.objects.Objects.close_up.Given as goal
 
 -- the objects so far, closed up

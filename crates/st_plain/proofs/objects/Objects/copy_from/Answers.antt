@@ -2,7 +2,7 @@ use Rattle.st_model.specs.Table.{entry}
 use Rattle.std.proofs.Common.{◌≡◌, [], take, drop, ap, ◌∙◌, arith}
 use Rattle.std.specs.Prelude.{Some, None}
 use Rattle.std.proofs.lemmas.Grind.{common_steps}
-use Rattle.st_plain.specs.Lists.{slot}
+use Rattle.st_plain.specs.inside.Lists.{slot}
 use Rattle.st_plain.proofs.Closed.{copied_here, copied_others, copied_none}
 use Rattle.st_plain.proofs.objects.Objects.copy_from.Goals as goal
 

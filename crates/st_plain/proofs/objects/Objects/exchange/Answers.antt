@@ -1,7 +1,7 @@
 use Rattle.std.proofs.Common.{◌≡◌, ◌/◌, sym, ◌∙◌, arith}
 use Rattle.std.proofs.lemmas.Grind.{common_steps}
 use Rattle.st_model.specs.Values.{value}
-use Rattle.st_plain.specs.Lists.{one_entry, entry_words}
+use Rattle.st_plain.specs.inside.Lists.{one_entry, entry_words}
 use Rattle.st_plain.proofs.Slots.{slot_half}
 use Rattle.st_plain.proofs.Exchanging.{exchanged_total, exchanged_full, exchanged_laid_out, exchanged_objects}
 use Rattle.st_plain.proofs.objects.Objects.exchange.Goals as goal

@@ -4,8 +4,8 @@ use Rattle.std.proofs.lemmas.Grind.{common_steps}
 use Rattle.st_model.specs.declared.demand.Demand.{Demand}
 use Rattle.st_model.specs.Settled.{is_marked}
 use Rattle.st_plain.specs.declared.objects.Objects.{Objects}
-use Rattle.st_plain.specs.Lists.{listed_table, kept_entries}
-use Rattle.st_plain.specs.ListsPlain.{extent_of}
+use Rattle.st_plain.specs.inside.Lists.{listed_table, kept_entries}
+use Rattle.st_plain.specs.inside.ListsPlain.{extent_of}
 use Rattle.st_plain.proofs.Counting.{used_is}
 use Rattle.st_plain.proofs.Sweeping.{kept_from, kept_from_none, kept_from-unmarked, kept_from-marked, kept_from_end, kept-listed}
 use Rattle.st_plain.proofs.objects.Objects.keep_marked.Goals as goal

@@ -1,7 +1,7 @@
 use Rattle.std.proofs.Common.{◌≡◌, ◌≤◌}
 use Rattle.st_model.specs.Settled.{is_marked}
-use Rattle.st_plain.specs.Lists.{kept_entries}
-use Rattle.st_plain.specs.ListsPlain.{extent_of}
+use Rattle.st_plain.specs.inside.Lists.{kept_entries}
+use Rattle.st_plain.specs.inside.ListsPlain.{extent_of}
 use Rattle.st_plain.proofs.Sweeping.{kept_from}
 use Rattle.st_plain.proofs.objects.Objects.keep_marked.Given as goal
 

@@ -3,8 +3,8 @@ use Rattle.std.specs.Prelude.{None}
 use Rattle.std.proofs.lemmas.Grind.{common_steps}
 use Rattle.st_model.specs.Table.{entry}
 use Rattle.st_model.proofs.Making.{first_free_is}
-use Rattle.st_plain.specs.Lists.{slot}
-use Rattle.st_plain.specs.ListsPlain.{objects_of}
+use Rattle.st_plain.specs.inside.Lists.{slot}
+use Rattle.st_plain.specs.inside.ListsPlain.{objects_of}
 use Rattle.st_plain.proofs.Closed.{entry_none}
 use Rattle.st_plain.proofs.Slots.{is_some-entry}
 use Rattle.st_plain.proofs.objects.Objects.least_free.Goals as goal

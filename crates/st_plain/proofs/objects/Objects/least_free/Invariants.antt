@@ -1,5 +1,5 @@
 use Rattle.std.proofs.Common.{◌≤◌, ◌-◌}
-use Rattle.st_plain.specs.Lists.{IsFull}
+use Rattle.st_plain.specs.inside.Lists.{IsFull}
 use Rattle.st_plain.proofs.objects.Objects.least_free.Given as goal
 
 -- no place before this one is free

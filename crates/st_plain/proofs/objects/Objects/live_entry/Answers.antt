@@ -1,6 +1,6 @@
 use Rattle.std.proofs.Common.{◌≡◌, true, is_some, sym, ◌∙◌}
 use Rattle.st_model.specs.Values.{value}
-use Rattle.st_plain.specs.Lists.{entry_of}
+use Rattle.st_plain.specs.inside.Lists.{entry_of}
 use Rattle.st_plain.proofs.Slots.{is_live-listed, placed_entry}
 use Rattle.st_plain.proofs.objects.Objects.live_entry.Goals as goal
 

@@ -1,7 +1,7 @@
 use Rattle.std.proofs.Common.{◌<◌, ◌/◌, length, ◌∙◌, arith}
 use Rattle.st_model.specs.Formed.{fresh}
 use Rattle.st_model.specs.Table.{first_free}
-use Rattle.st_plain.specs.ListsPlain.{objects_of}
+use Rattle.st_plain.specs.inside.ListsPlain.{objects_of}
 use Rattle.st_plain.proofs.Made.{length-objects, pointer_even, pointer_free, pointer_least, made_placed, made_full}
 use Rattle.st_plain.proofs.objects.Objects.make.Goals as goal
 

@@ -3,7 +3,7 @@ use Rattle.std.specs.Prelude.{Some, None}
 use Rattle.std.proofs.lemmas.Grind.{common_steps}
 use Rattle.st_model.specs.Values.{value}
 use Rattle.st_model.specs.Settled.{or, names, any_names, is_marked}
-use Rattle.st_plain.specs.Lists.{slot}
+use Rattle.st_plain.specs.inside.Lists.{slot}
 use Rattle.st_plain.proofs.Marking.{or_step}
 use Rattle.st_plain.proofs.Referring.{object_names-some, object_names-none}
 use Rattle.st_plain.proofs.objects.Objects.mark_from.Goals as goal

@@ -1,7 +1,7 @@
 use Rattle.std.proofs.Common.{◌≡◌, ℕ, ◌≤◌, length, ap, ◌∙◌, sym, arith}
 use Rattle.st_model.specs.Table.{entry}
 use Rattle.st_model.specs.Settled.{or, any_below, object_names, is_marked}
-use Rattle.st_plain.specs.ListsPlain.{objects_of}
+use Rattle.st_plain.specs.inside.ListsPlain.{objects_of}
 use Rattle.st_plain.proofs.Referring.{is_referred-end, any_below-more}
 use Rattle.st_plain.proofs.objects.Objects.mark_references.Goals as goal
 

@@ -1,7 +1,7 @@
 use Rattle.std.proofs.Common.{◌≡◌, ℕ}
 use Rattle.st_model.specs.Table.{entry}
 use Rattle.st_model.specs.Settled.{or, any_below, object_names, is_marked}
-use Rattle.st_plain.specs.ListsPlain.{objects_of}
+use Rattle.st_plain.specs.inside.ListsPlain.{objects_of}
 use Rattle.st_plain.proofs.objects.Objects.mark_references.Given as goal
 
 -- what the objects so far refer to is marked

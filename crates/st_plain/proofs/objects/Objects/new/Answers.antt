@@ -1,7 +1,7 @@
 use Rattle.st_model.specs.Limits.{most_words}
 use Rattle.std.proofs.Common.{◌*◌, ◌≤◌, length, ap, ◌∙◌, arith}
 use Rattle.std.specs.Option.{option_map}
-use Rattle.st_plain.specs.Lists.{entry_object}
+use Rattle.st_plain.specs.inside.Lists.{entry_object}
 use Rattle.st_plain.proofs.Counting.{none_counted}
 use Rattle.st_plain.proofs.Placing.{none_laid_out}
 use Rattle.st_plain.proofs.Slots.{entry-listed}

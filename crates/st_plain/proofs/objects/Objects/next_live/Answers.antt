@@ -1,6 +1,6 @@
 use Rattle.std.proofs.Common.{◌≡◌, ◌≤◌, ◌+◌, ◌/◌, true, is_some, arith}
 use Rattle.std.proofs.lemmas.Grind.{common_steps}
-use Rattle.st_plain.specs.Lists.{slot}
+use Rattle.st_plain.specs.inside.Lists.{slot}
 use Rattle.st_plain.proofs.Looking.{live_word, dead_word, none_from}
 use Rattle.st_plain.proofs.objects.Objects.next_live.Goals as goal
 

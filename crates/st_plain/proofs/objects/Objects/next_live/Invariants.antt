@@ -1,5 +1,5 @@
 use Rattle.std.proofs.Common.{◌≡◌, ℕ, ◌+◌, ◌/◌, ◌<◌, ◌≤◌, false, is_some}
-use Rattle.st_plain.specs.Lists.{slot}
+use Rattle.st_plain.specs.inside.Lists.{slot}
 use Rattle.st_plain.proofs.objects.Objects.next_live.Given as goal
 
 -- no entry so far

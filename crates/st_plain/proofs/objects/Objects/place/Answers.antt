@@ -7,8 +7,8 @@ use Rattle.st_model.specs.Values.{Small, value_of}
 use Rattle.st_model.specs.Formed.{fresh}
 use Rattle.st_model.specs.View.{is_live, object_of, with_object, with_stored}
 use Rattle.st_model.proofs.Pointers.{value_of-odd}
-use Rattle.st_plain.specs.Lists.{cleared}
-use Rattle.st_plain.specs.ListsPlain.{objects_of}
+use Rattle.st_plain.specs.inside.Lists.{cleared}
+use Rattle.st_plain.specs.inside.ListsPlain.{objects_of}
 use Rattle.st_plain.proofs.Fresh.{pointer_within, live_placed, object_of-placed, stored_placed, method_is, header_place, fresh_method}
 use Rattle.st_plain.proofs.objects.Objects.place.Goals as goal
 

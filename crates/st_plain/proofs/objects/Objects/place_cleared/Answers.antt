@@ -1,9 +1,9 @@
 use Rattle.std.proofs.Common.{◌≡◌, ◌/◌, set, ap, ◌∙◌, take, drop, replicate, arith}
 use Rattle.std.specs.Prelude.{Some}
 use Rattle.std.proofs.lemmas.Grind.{common_steps}
-use Rattle.st_counted.specs.Words.{nil_word}
-use Rattle.st_plain.specs.Lists.{slot, cleared}
-use Rattle.st_plain.specs.ListsPlain.{Extent, objects_of}
+use Rattle.st_counted.specs.inside.Words.{nil_word}
+use Rattle.st_plain.specs.inside.Lists.{slot, cleared}
+use Rattle.st_plain.specs.inside.ListsPlain.{Extent, objects_of}
 use Rattle.st_plain.proofs.Placing.{cleared_object, set_object}
 use Rattle.st_plain.proofs.Slots.{free_slot}
 use Rattle.st_plain.proofs.objects.Objects.place_cleared.Goals as goal

@@ -1,7 +1,7 @@
 use Rattle.std.proofs.Common.{◌≡◌, length, set, sym, subst, arith}
 use Rattle.std.specs.Prelude.{Some, None}
 use Rattle.std.proofs.lemmas.Grind.{common_steps}
-use Rattle.st_plain.specs.Lists.{slot, one_entry, entry_words, IsFull}
+use Rattle.st_plain.specs.inside.Lists.{slot, one_entry, entry_words, IsFull}
 use Rattle.st_plain.proofs.Counting.{total-without}
 use Rattle.st_plain.proofs.Sweeping.{removed_laid_out, full_less, set_none_same}
 use Rattle.st_plain.proofs.objects.Objects.remove.Goals as goal

@@ -2,14 +2,14 @@ use Rattle.std.proofs.Common.{◌≡◌, ℕ, List, [], ◌∷◌, ◌++◌, len
 use Rattle.std.specs.Prelude.{Ok, Err}
 use Rattle.st_host.specs.Runs.{ChangesBoth}
 use Rattle.st_chunk.specs.Definitions.{Definition, IsDefinition, entries}
-use Rattle.st_chunk.specs.ScriptDefinitions.{definition_of}
+use Rattle.st_chunk.specs.inside.ScriptDefinitions.{definition_of}
 use Rattle.st_store.specs.Names.{changes_file, roots_file, IsNoFileOf}
 use Rattle.st_store.specs.Stored.{StoreState}
 use Rattle.st_changes.specs.Last.{HasSelector}
-use Rattle.st_changes.specs.Views.{definition_of as kept_definition}
+use Rattle.st_changes.specs.inside.Views.{definition_of as kept_definition}
 use Rattle.st_protocol.specs.declared.status.Status.TheVariants.{DiskFault, TooLarge}
 use Rattle.st_protocol.proofs.Joins.{obeys_as}
-use Rattle.st_recover.specs.Archives.{ArchiveState, IsStoreOf}
+use Rattle.st_recover.specs.inside.Archives.{ArchiveState, IsStoreOf}
 use Rattle.st_recover.specs.Commits.{OpensAs, accepting}
 use Rattle.st_recover.proofs.Commits.{holds_rest}
 use Rattle.st_recover.proofs.Making.{both_spare}

@@ -5,7 +5,7 @@ use Rattle.st_host.proofs.Touching.{above_changes, changes_spare, spares_join}
 use Rattle.st_store.specs.Names.{roots_file, image_file, IsNoFileOf}
 use Rattle.st_store.specs.Stored.{StoreState, Opens}
 use Rattle.st_store.specs.declared.root.Root.{Root}
-use Rattle.st_recover.specs.Archives.{ArchiveState, IsStoreOf}
+use Rattle.st_recover.specs.inside.Archives.{ArchiveState, IsStoreOf}
 use Rattle.st_recover.specs.Commits.{image_with, other_image}
 use Rattle.st_recover.proofs.Images.{image_is, image_readable}
 use Rattle.st_recover.proofs.Holding.{some_same, store_imaged, unwritten_makes, unwritten_broken, snapshot_makes, snapshot_broken, snapshot_holds}

@@ -5,7 +5,7 @@ use Rattle.st_scan.specs.declared.tree.Expression.{size-Expression}
 use Rattle.st_scan.specs.declared.tree.Expression.TheViews.{sized-Assign}
 use Rattle.st_scan.specs.declared.tree.Message.{size-Message}
 use Rattle.st_scan.specs.declared.chain.Link.TheVariants.{Send}
-use Rattle.st_scan.specs.Chains.{IsBelow}
+use Rattle.st_scan.specs.inside.Chains.{IsBelow}
 use Rattle.st_scan.specs.Views.{name_view, expression_view, assign, send, messages_view}
 use Rattle.st_scan.proofs.Views.{expression_view-send}
 use Rattle.st_scan.proofs.Chains.{linked_turn, size-receiver, size-messages}

@@ -1,7 +1,7 @@
 use Rattle.std.proofs.Common.{◌≡◌, ◌≤◌, All, reverse}
 use Rattle.st_scan.specs.declared.tree.Expression.{size-Expression}
 use Rattle.st_scan.specs.Views.{expression_view}
-use Rattle.st_scan.specs.Chains.{linked, links_view, IsBelow}
+use Rattle.st_scan.specs.inside.Chains.{linked, links_view, IsBelow}
 use Rattle.st_scan.proofs.tree.Expression.chain.Given as goal
 
 abbrev pub invariant-loop-start : goal.invariant-loop-start

@@ -1,5 +1,5 @@
 use Rattle.std.proofs.Common.{◌≡◌, ℕ, ◌<◌, ◌≤◌}
-use Rattle.st_table.specs.Bits.{bit}
+use Rattle.st_table.specs.inside.Bits.{bit}
 use Rattle.st_table.proofs.free_map.FreeMap.with_free.Given as goal
 
 -- the places from 1 to k are free

@@ -1,6 +1,6 @@
 use Rattle.std.proofs.Common.{◌/◌, List, Option, None, subst, sym}
 use Rattle.st_table.specs.declared.entry.Entry.{Entry}
-use Rattle.st_table.specs.Entries.{HasEntry}
+use Rattle.st_table.specs.inside.Entries.{HasEntry}
 use Rattle.st_table.proofs.Keeping.{mapped_set, entered_within}
 use Rattle.st_table.proofs.table.Table.free_entry.Goals as goal
 

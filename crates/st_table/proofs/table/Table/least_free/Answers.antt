@@ -1,6 +1,6 @@
 use Rattle.std.proofs.Common.{◌*◌, List, Option, refl, subst}
 use Rattle.st_table.specs.declared.entry.Entry.{Entry}
-use Rattle.st_table.specs.Entries.{IsLeastFree}
+use Rattle.st_table.specs.inside.Entries.{IsLeastFree}
 use Rattle.st_table.proofs.Keeping.{least_pointer}
 use Rattle.st_table.proofs.table.Table.least_free.Goals as goal
 

@@ -1,6 +1,6 @@
 use Rattle.std.proofs.Common.{◌/◌, List, Option, Some, subst, sym, arith}
 use Rattle.st_table.specs.declared.entry.Entry.{Entry}
-use Rattle.st_table.specs.Entries.{IsFree}
+use Rattle.st_table.specs.inside.Entries.{IsFree}
 use Rattle.st_table.proofs.Keeping.{mapped_set}
 use Rattle.st_table.proofs.table.Table.take_entry.Goals as goal
 

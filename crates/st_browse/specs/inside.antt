@@ -1,0 +1,9 @@
+pub mod Shown
+pub mod Questions
+pub mod Entries
+pub mod Listing
+pub mod Founds
+pub mod Placing
+pub mod SourceFaults
+pub mod Answering
+pub mod MadeTexts

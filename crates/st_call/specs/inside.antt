@@ -1,0 +1,4 @@
+pub mod Lines
+pub mod Telling
+pub mod CommandViews
+pub mod Saying

@@ -1,0 +1,4 @@
+pub mod Writing
+pub mod Headings
+pub mod Progress
+pub mod ScriptDefinitions

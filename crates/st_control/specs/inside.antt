@@ -1,0 +1,4 @@
+pub mod AtOnce
+pub mod Foreseen
+pub mod Passed
+pub mod Returning

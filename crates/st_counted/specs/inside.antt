@@ -1,0 +1,10 @@
+pub mod Counted
+pub mod References
+pub mod Taking
+pub mod Held
+pub mod Words
+pub mod Standing
+pub mod Contents
+pub mod Counts
+pub mod Links
+pub mod Slots

@@ -1,0 +1,9 @@
+pub mod Calling
+pub mod Formed
+pub mod Located
+pub mod Read
+pub mod Decoded
+pub mod Methods
+pub mod Answers
+pub mod Alike
+pub mod Members

@@ -1,0 +1,13 @@
+pub mod NamePlaces
+pub mod Tables
+pub mod Tails
+pub mod Views
+pub mod LiteralPlaces
+pub mod NameViews
+pub mod Around
+pub mod Drafts
+pub mod Shapes
+pub mod Sizes
+pub mod Emits
+pub mod Found
+pub mod Laws

@@ -1,0 +1,4 @@
+pub mod Called
+pub mod Stacks
+pub mod Made
+pub mod Sent

@@ -1,0 +1,4 @@
+pub mod Answering
+pub mod Narrow
+pub mod Rows
+pub mod Shown

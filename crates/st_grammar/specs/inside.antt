@@ -1,0 +1,4 @@
+pub mod Formed
+pub mod Laws
+pub mod Meant
+pub mod SyntaxMeant

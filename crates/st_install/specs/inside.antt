@@ -1,0 +1,16 @@
+pub mod Endings
+pub mod Carried
+pub mod Readies
+pub mod Goes
+pub mod SamePlans
+pub mod Same
+pub mod Rooms
+pub mod Told
+pub mod Naming
+pub mod Growing
+pub mod Placings
+pub mod Gains
+pub mod PlanDrafts
+pub mod Unprepareds
+pub mod Prepareds
+pub mod Messages

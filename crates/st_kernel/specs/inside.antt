@@ -1,0 +1,4 @@
+pub mod Following
+pub mod Found
+pub mod Lost
+pub mod Answered

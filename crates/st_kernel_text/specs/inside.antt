@@ -1,0 +1,5 @@
+pub mod Tables
+pub mod Lists
+pub mod Views
+pub mod Reading
+pub mod States

@@ -1,0 +1,5 @@
+pub mod Asked
+pub mod Cycling
+pub mod Machines
+pub mod Runs
+pub mod Strides

@@ -1,0 +1,16 @@
+pub mod Values
+pub mod Runs
+pub mod Traces
+pub mod Codes
+pub mod Walks
+pub mod Meanings
+pub mod Blocks
+pub mod Laws
+pub mod Deeds
+pub mod Courses
+pub mod Taken
+pub mod Machines
+pub mod Arenas
+pub mod Traced
+pub mod Meant
+pub mod Sketches

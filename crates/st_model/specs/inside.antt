@@ -1,0 +1,4 @@
+pub mod Foreseen
+pub mod Loading
+pub mod Props
+pub mod Calls

@@ -1,0 +1,4 @@
+pub mod Kept
+pub mod Readings
+pub mod Places
+pub mod NamesFor

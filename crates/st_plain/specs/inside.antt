@@ -1,0 +1,5 @@
+pub mod Plain
+pub mod Held
+pub mod Lists
+pub mod Marked
+pub mod ListsPlain

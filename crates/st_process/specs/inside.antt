@@ -1,0 +1,4 @@
+pub mod Devices
+pub mod Numbers
+pub mod Scheduling
+pub mod Timing

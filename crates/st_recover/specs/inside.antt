@@ -1,0 +1,4 @@
+pub mod Archives
+pub mod Fetched
+pub mod Reopened
+pub mod Replayings

@@ -1,0 +1,8 @@
+pub mod Meanings
+pub mod Owners
+pub mod Findings
+pub mod Lineages
+pub mod Walks
+pub mod Alike
+pub mod Sought
+pub mod Seen

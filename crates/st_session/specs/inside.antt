@@ -1,0 +1,13 @@
+pub mod Pushing
+pub mod Runs
+pub mod Asking
+pub mod Traces
+pub mod ScriptGroups
+pub mod Standing
+pub mod Stretches
+pub mod Watched
+pub mod Joining
+pub mod OneOpening
+pub mod OpenSessions
+pub mod Reporting
+pub mod Starving

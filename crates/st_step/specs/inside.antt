@@ -1,0 +1,4 @@
+pub mod Jumping
+pub mod Planned
+pub mod Responding
+pub mod Trying
