@@ -7,3 +7,5 @@ mod Failing
 mod Called
 pub mod Executes
 pub mod NumberChanges
+mod Uses
+pub mod Rooms

@@ -24,7 +24,8 @@ impl<'a, M: Memory> Roomy<'a, M> {
 }
 
 impl<'a, M: Memory> Objects for Roomy<'a, M> {
-    ghost use Rattle.st_step.specs.inside.Room.{room_of, fixed_of, table_tabular};
+    ghost use Rattle.st_control.specs.inside.Borrowed.{fixed_of, table_tabular};
+    ghost use Rattle.st_step.specs.inside.Room.{room_of};
 
     ghost names = { table };
 

@@ -1,8 +1,7 @@
 -- Whether a memory has room for whatever the next bytecode takes.
-use Rattle.std.proofs.Common.{refl}
-use Rattle.std.specs.Prelude.{ℕ, ◌/◌, Bool, None, min, nat_le, replicate}
+use Rattle.std.specs.Prelude.{ℕ, ◌/◌, Bool, min, nat_le}
 use Rattle.st_model.specs.Machine.{used, less, capacity_of}
-use Rattle.st_model.specs.Table.{table, IsTabular}
+use Rattle.st_model.specs.Table.{table}
 use Rattle.st_model.specs.View.{View}
 use Rattle.st_frames.specs.inside.Rows.{bytecode_changes}
 
@@ -14,10 +13,3 @@ room_of v = let free = less (capacity_of v.head) (used table v.objects) in min f
 -- it has room for as many as the next bytecode makes at most
 abbrev pub is_roomy : View → Bool
 is_roomy v = nat_le bytecode_changes (room_of v)
-
--- What stays of a memory that is borrowed under this name: what is held, the head, and the name, as the length of a table.
-abbrev pub fixed_of : View → ℕ → View
-fixed_of v name = record { objects = replicate name None; held = v.held; head = v.head }
-
-abbrev pub table_tabular : IsTabular table
-table_tabular = record { read = refl; replace = refl; exchange = refl; named = refl }
