@@ -8,4 +8,5 @@ mod Called
 pub mod Executes
 pub mod NumberChanges
 mod Uses
-pub mod Rooms
+mod Rooms
+mod RowDone

@@ -9,18 +9,16 @@ use Rattle.st_model.specs.declared.kind.Kind.TheVariants as kind
 use Rattle.st_model.specs.Values.{Value, Small, Ref, value_of, is_small}
 use Rattle.st_model.specs.Objects.{Object, one, words_of}
 use Rattle.st_model.specs.Formed.{IsMakeable, fresh}
-use Rattle.st_model.specs.Machine.{State, Step, Died, Went, die, is_there, used}
-use Rattle.st_model.specs.Steps.{made, make_named, make, get_free}
+use Rattle.st_model.specs.Machine.{State, Step, Died, Went, die, is_there, used, next_of, first_instance}
+use Rattle.st_model.specs.Steps.{made, make_named, make, object_at, next_instance, get_free}
 use Rattle.st_model.specs.Table.{Table, table, bounded_table, entry, first_free, placed, total_used}
 use Rattle.st_model.specs.View.{View, is_live, fits, demand_of}
 use Rattle.st_model.specs.inside.Calls.{Changes, itself}
 use Rattle.st_memory.specs.inside.Making.{CanMake, making_changes}
 use Rattle.st_memory.proofs.Fresh.{words_pointers, words_words, words_bytes, words_method}
 use Rattle.st_memory.proofs.Looking.{some_state}
-use Rattle.st_memory.proofs.Unbounded.{half_bounded}
 use Rattle.st_memory.proofs.Wide.{named_word}
 use Rattle.st_simulation.proofs.Bounded.{total-placed}
-use Rattle.st_frames.specs.inside.Rows.{bytecode_changes}
 use Rattle.st_step.specs.inside.Room.{room_of, is_roomy}
 use Rattle.st_step.proofs.Uses.{Keeps, exchange-bounded}
 
@@ -57,13 +55,13 @@ words_made c kind.Bytes n l m = most ((n + 1) / 2) _ (words_bytes c n l)
 words_made c kind.Method n l m = most ((n + 1) / 2) _ (words_method c n l (m.header refl))
 
 fits_if : (a b c d e x n : ℕ) → 1 ≤ n → e ≤ n → x ≤ 2050 * n → n ≤ min (b - a) ((d - c) / 2050) → (nat_le (a + e) b && nat_le (c + x) d) ≡ true
-fits_if a b c d e x n some few most l =
+fits_if a b c d e x n some less few l =
     let p : a + e ≤ b = omega arith in
     let q : c + x ≤ d = omega arith in
     grind (arith, nat_tests, p, q)
 
-less : (a b c d x n : ℕ) → 1 ≤ n → x ≤ 2050 * n → min (b - a) ((d - c) / 2050) ≤ min (b - (a + 1)) ((d - (c + x)) / 2050) + n
-less a b c d x n some most = omega arith
+room_left : (a b c d x n : ℕ) → 1 ≤ n → x ≤ 2050 * n → min (b - a) ((d - c) / 2050) ≤ min (b - (a + 1)) ((d - (c + x)) / 2050) + n
+room_left a b c d x n some few = omega arith
 
 same_truth : (p q : Bool) → (p ≡ true → q ≡ true) → (q ≡ true → p ≡ true) → p ≡ q
 same_truth true q f g = sym (f refl)
@@ -89,13 +87,10 @@ room_asked v =
     same_truth _ _ (enough a v.head.entries c v.head.words)
     (λ h. fits_if a v.head.entries c v.head.words 70 143500 70 (omega arith) (omega arith) (omega arith) (at_least _ h))
 
-pub room_enough : (v : View) → is_roomy v ≡ true → bytecode_changes ≤ room_of v
-room_enough v h = at_least (room_of v) h
-
-module _ (v : View) (o : Object) (n : ℕ) (some : 1 ≤ n) (most : words_of o ≤ 2050 * n) where
+module _ (v : View) (o : Object) (n : ℕ) (some : 1 ≤ n) (few : words_of o ≤ 2050 * n) where
   pub room_fits : n ≤ room_of v → fits v (demand_of o) ≡ true
   unfolding room_of
-  room_fits l = fits_if (total_used one v.objects) v.head.entries (total_used words_of v.objects) v.head.words 1 (words_of o) n some some most l
+  room_fits l = fits_if (total_used one v.objects) v.head.entries (total_used words_of v.objects) v.head.words 1 (words_of o) n some some few l
 
   pub room_made : (u : View) → u.objects ≡ placed v.objects o → u.head ≡ v.head → room_of v ≤ room_of u + n
   unfolding room_of
@@ -104,7 +99,7 @@ module _ (v : View) (o : Object) (n : ℕ) (some : 1 ≤ n) (most : words_of o �
       let b : total_used words_of u.objects ≡ total_used words_of v.objects + words_of o = ap (total_used words_of) e ∙ total-placed words_of v.objects o in
       let q : room_of u ≡ min (v.head.entries - (total_used one v.objects + 1)) ((v.head.words - (total_used words_of v.objects + words_of o)) / 2050)
       = λ i. min ((h i).entries - a i) (((h i).words - b i) / 2050) in
-      subst (λ z. room_of v ≤ z + n) (sym q) (less (total_used one v.objects) v.head.entries (total_used words_of v.objects) v.head.words (words_of o) n some most)
+      subst (λ z. room_of v ≤ z + n) (sym q) (room_left (total_used one v.objects) v.head.entries (total_used words_of v.objects) v.head.words (words_of o) n some few)
 
 -- the table makes an object of each class that is there
 
@@ -152,8 +147,17 @@ module _ (k : Kind) (n l : ℕ) where
 
 -- what is read of a bounded table is what is read of a table
 
+pub next_read : (v : Value) (n : ℕ) → next_instance bounded_table v n ≡ next_instance table v n
+unfolding next_instance next_of first_instance
+next_read (Small c) n = refl
+next_read (Ref c) n = refl
+
+pub at_read : (n : ℕ) → object_at bounded_table n ≡ object_at table n
+unfolding object_at
+at_read n = refl
+
 pub free_read : get_free bounded_table ≡ get_free table
 unfolding get_free
 free_read = refl
 
-pub ruleset reads = (half_bounded, free_read, exchange-bounded)
+pub ruleset reads = (free_read, exchange-bounded)

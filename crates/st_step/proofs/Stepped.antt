@@ -115,8 +115,3 @@ there_after v f world t a r end w ready e =
     all_four (is_there table t (word r.active)) (is_there table t (word r.home)) (is_there table t (word r.method)) (is_there table t (word r.receiver))
     (before r.active closed.roots.0 r.active_narrow) (before r.home closed.roots.1.0 r.home_narrow)
     (before r.method closed.roots.1.1.0 r.method_narrow) (before r.receiver closed.roots.1.1.1.0 r.receiver_narrow)
-
--- what a row leaves to be done changes nothing of what is used
-pub left_uses : (u : View) (r : Words) (end : StepEnd) → used table (with_left deed_of_end (Ok end) (row_state u.objects u.head r)).memory ≡ used table u.objects
-unfolding row_state
-left_uses u r end = deed_uses (deed_of_end end) u.objects

@@ -25,7 +25,7 @@ went_to a b s t e = let q : s ≡ t = cc in ap (λ (u : State Table). used table
 went_by : {A B : Type 0} (o : Transition (State Table) A) (f : A → State Table → Transition (State Table) B) (b : B) (t : State Table) → after o f ≡ Went b t
     → (a : A) × (u : State Table) × (o ≡ Went a u) × (f a u ≡ Went b t)
 unfolding after
-went_by (Died k) f b t e = cc
+went_by (Died k) f b t e = absurd (cc)
 went_by (Went a u) f b t e = (a, u, refl, e)
 
 keeps_then : {A B : Type 0} (m : Step Table A) (f : A → Step Table B) → Keeps m → ((a : A) → Keeps (f a)) → Keeps (m >>= f)

@@ -1,4 +1,3 @@
-ghost use Rattle.std.specs.Prelude.{◌≡◌};
 ghost use Rattle.st_model.specs.Table.{table};
 
 use st_memory::{
@@ -6,21 +5,11 @@ use st_memory::{
 };
 use st_model::{Dead, Demand, Kind, Word};
 
-/// The objects of a memory that has room for what is made: it makes objects as a table does, which is never full.
+/// The objects of a memory that has room for what a row makes. They are made as over a table, which is never full.
 #[derive(Drop)]
 pub struct Roomy<'a, M: Memory> {
-    /// The memory behind.
+    /// The memory that they borrow.
     pub memory: &'a mut M,
-}
-
-impl<'a, M: Memory> Roomy<'a, M> {
-    /// The objects of a memory.
-    pub fn new(memory: &'a mut M) -> Roomy<'a, M>
-        ensures memory { result.memory.now ≡ memory.old }
-        ensures same_memory { result.memory.ghost_name ≡ memory.entry.ghost_name }
-    {
-        Roomy { memory }
-    }
 }
 
 impl<'a, M: Memory> Objects for Roomy<'a, M> {
@@ -51,7 +40,6 @@ impl<'a, M: Memory> Objects for Roomy<'a, M> {
         self.memory.count_fields(o)
     }
 
-    #[tactic(auto, using(st_memory::proofs::Wide::bounded))]
     fn context_fields(&self, context: Word) -> Option<ContextFields> {
         self.memory.context_fields(context)
     }
@@ -71,7 +59,6 @@ impl<'a, M: Memory> Objects for Roomy<'a, M> {
         self.memory.fetch_size(o)
     }
 
-    #[tactic(auto, using(crate::proofs::Rooms::reads))]
     fn half_word(&self, o: Word) -> u32 {
         self.memory.half_word(o)
     }
@@ -161,12 +148,10 @@ impl<'a, M: Memory> Objects for Roomy<'a, M> {
         Objects::make(self, class, Kind::Pointers, n, 0)
     }
 
-    #[tactic(auto, using(st_memory::proofs::Unbounded::bounded))]
     fn remembered(&self, class: Word, selector: Word) -> Option<Word> {
         Objects::remembered(self.memory, class, selector)
     }
 
-    #[tactic(auto, using(st_memory::proofs::Unbounded::bounded))]
     fn remember(&mut self, class: Word, selector: Word, method: Word) {
         Objects::remember(self.memory, class, selector, method);
     }

@@ -7,8 +7,8 @@ use Rattle.st_step.proofs.stepping.step.Goals as goal
 pub outcome-requires-clause-ended : goal.outcome-requires-clause-ended
 outcome-requires-clause-ended g c = (c.try_step.new.w, shown (g.M.Memory.view c.args.m.now) c.args.f.now c.args.w.now, c.in-Ok.ensures.step)
 
-pub returns-in-Ok-clause-step : goal.returns-in-Ok-clause-step
-returns-in-Ok-clause-step g c =
+pub returns-clause-step : goal.returns-clause-step
+returns-clause-step g c =
     c.in-Ok.ensures.step ∙ ap (λ x. Went x (shown (g.M.Memory.view c.try_step.new.m) c.try_step.new.f c.try_step.new.w)) (sym c.outcome.ensures)
 
 pub unreachable-requires : goal.unreachable-requires
