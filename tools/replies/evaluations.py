@@ -125,6 +125,11 @@ class Clocks:
         if self.is_real:
             seconds = int(time.time()) + time.localtime().tm_gmtoff + BEFORE_1970
             self.session.ask(f"clock {min(seconds, MOST)}")
+            self.go_on()
+
+    def go_on(self):
+        """Sets the clock of milliseconds, if it goes."""
+        if self.is_real:
             self.session.ask(f"tick {min(self.now(), MOST)}")
 
     def variable(self, of_class, name):

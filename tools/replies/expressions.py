@@ -8,7 +8,7 @@ HEADER = "Workspace methodsFor: 'evaluating'"
 FRONT = "doIt\n\t"
 BEGIN = 1  # the word of input that begins an evaluation
 INTERRUPT = 3  # the word of input that ends an evaluation
-OPENING, CLOSING = "([", ")]"
+OPENING, CLOSING = "([{", ")]}"
 FRACTION = re.compile(r"(?<![A-Za-z0-9])\d+(?:\.\d|r-?[0-9A-Z]+\.[0-9A-Z]+(?:e-?\d+)?(?![A-Za-z0-9:]))")
 # A comment, or in its one group what is none: a string, a character, or any other one.
 TOKEN = re.compile(r"""\"[^"]*\"?|('(?:[^']|'')*'?|\$.|.)""", re.S)
