@@ -1,11 +1,14 @@
-"""What is wrong in a refused text, by what stands at its place, and what the book has for it."""
+"""What was wrong in what someone typed: by what stands at the place of a refusal, or by the message that wasn't understood."""
 
+import difflib
 import re
 
 from .evaluations import AFTER_OPERAND, end_of_array
+from .expressions import FRONT
 from .meanings import meaning_of
 
 REFUSED = re.compile(r"refused (syntax|code) (\d+) (\d+)$")
+NAME = re.compile(r"[A-Za-z][A-Za-z0-9]*")
 BLOCK = re.compile(r"\[(?:\s*:\s*[A-Za-z][A-Za-z0-9]*)*\s*\|?\s*\Z")  # up to where a block's statements begin
 # Of a refusal, its kind and cause: what stands at its place, and a sentence.
 AT_PLACE = (
@@ -20,6 +23,33 @@ IN_ARRAY = {
     "code 9": "a literal array takes no number below -16384: `Array with: -100000` does",
 }
 IN_BLOCK = "a block has no variables of its own here: declare them where the expression or the method begins"
+# Messages of other Smalltalks, and what this one has.
+ELSEWHERE = {
+    "**": "raisedTo:",
+    ">>": "compiledMethodAt:",
+    "asInteger": "asNumber for a String",
+    "asString": "printString",
+    "display:": "print:",
+    "displayNl": "displayString, which Transcript show: shows",
+    "ensure:": "no handlers: an error ends its process",
+    "ifNil:": "isNil ifTrue:",
+    "ifNotNil:": "notNil ifTrue:",
+    "isZero": "= 0",
+    "keysAndValuesDo:": "associationsDo:",
+    "max": "inject:into: with max:",
+    "min": "inject:into: with min:",
+    "nl": "cr",
+    "on:do:": "no handlers: an error ends its process",
+    "printNl": "Transcript print: for any object",
+    "reversed": "reverse",
+    "showCr:": "show:, and then cr",
+    "sort": "asSortedCollection",
+    "sort:": "asSortedCollection:",
+    "subStrings": "substrings",
+    "subStrings:": "substrings",
+    "sum": "inject:into: with +",
+}
+LIKE = 0.8  # how alike two selectors are at least, from 0 to 1, of which one was meant for the other
 
 
 def is_in_array(text, at):
@@ -27,10 +57,20 @@ def is_in_array(text, at):
     end = 0
     for it in AFTER_OPERAND.finditer(text):
         if it.start() >= at:
-            return at < end
+            break
         if it[0] == "#(" and it.start() >= end:
             end = end_of_array(text, it.start())
     return at < end
+
+
+def hint_for_name(text, at):
+    """What would give a name a meaning that has none."""
+    name = NAME.match(text, at)[0]
+    if name[0].isupper():
+        return f"no class or global is called {name}"
+    if text.startswith(FRONT):
+        return f"an assignment, as `{name} := 3`, makes it a variable"
+    return f"{name} is no variable of the method or the class"
 
 
 def hint_at(cause, text, at):
@@ -42,11 +82,27 @@ def hint_at(cause, text, at):
         return f"no token begins with the character {text[at]}"
     if cause == "syntax 3" and text[at : at + 1] == "|" and BLOCK.search(text[:at]):
         return IN_BLOCK
+    if cause == "code 3" and NAME.match(text, at):
+        return f"{NAME.match(text, at)[0]} takes no assignment: it is an argument, or has a meaning of its own"
     return IN_ARRAY[cause] if cause in IN_ARRAY and is_in_array(text, at) else None
 
 
 def meaning_in(reply, text):
     """What a reply to the definition of a text means; of a refusal, what would do in its place."""
     refused = REFUSED.match(reply)
-    hint = hint_at(f"{refused[1]} {refused[3]}", text, int(refused[2]) - 1) if refused else None
-    return hint or meaning_of(reply)
+    if not refused:
+        return meaning_of(reply)
+    cause, at = f"{refused[1]} {refused[3]}", int(refused[2]) - 1
+    if cause == "code 1" and NAME.match(text, at):
+        return f"{meaning_of(reply)}: {hint_for_name(text, at)}"
+    return hint_at(cause, text, at) or meaning_of(reply)
+
+
+def message_meant(receiver, selector, understood):
+    """A sentence on the message that may have been meant, of those that a receiver's class understands, if there is one."""
+    if selector in ELSEWHERE:
+        return f"other Smalltalks have {selector}; this one has {ELSEWHERE[selector]}"
+    longer = [it for it in understood if it.startswith(selector) and selector.endswith(":")]
+    like = [it for it in understood if it.count(":") == selector.count(":")]
+    found = sorted(longer, key=len) or difflib.get_close_matches(selector, sorted(like), 1, LIKE)
+    return f"{receiver} understands {found[0]}" if found else None
