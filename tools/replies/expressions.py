@@ -15,6 +15,7 @@ TOKEN = re.compile(r"""\"[^"]*\"?|('(?:[^']|'')*'?|\$.|.)""", re.S)
 BINARY = r"[-+*/\\~<>=@%|&?,]"
 # What another token must follow: a cascade's semicolon, an assignment, a keyword or a binary operator, and none of a literal's.
 WANTING = re.compile(rf"(?:[;_^]|(?<![A-Za-z0-9:#])[A-Za-z][A-Za-z0-9]*:|(?<!#)(?<!{BINARY}){BINARY}+)\Z")
+DECLARATIONS = re.compile(r"\|([A-Za-z0-9\s]*)\|")
 # What follows another token.
 FOLLOWING = re.compile(rf";|[A-Za-z][A-Za-z0-9]*:(?!=)|{BINARY}")
 
@@ -54,7 +55,7 @@ def parts_of(text):
 def goes_on(text):
     """Whether a token must follow the last one."""
     parts = parts_of(text)
-    return bool(parts) and bool(WANTING.search(text[: parts[-1] + 1]))
+    return bool(parts) and bool(WANTING.search(text[: parts[-1] + 1])) and not DECLARATIONS.fullmatch(text.strip(BLANKS))
 
 
 def is_rest(text):
@@ -87,6 +88,12 @@ def last_statement(text):
         elif depth == 0 and one == "." and at < parts[-1] and not is_in_number(text, at):
             begin = at + 1
     return next((it for it in parts if it >= begin), None)
+
+
+def with_kept_variables(text):
+    """Declarations alone as assignments, so that their names stay for the next expressions; any other text as it is."""
+    found = DECLARATIONS.fullmatch(text.strip(BLANKS))
+    return "".join(f"{it} := nil. " for it in found[1].split()) + "self" if found else text
 
 
 def with_answer(text):

@@ -17,6 +17,8 @@ AT_PLACE = (
     ("syntax 1", r"#", "a `#` begins a Symbol or a literal array, as `#size`, `#at:put:` and `#(1 2)`"),
     ("syntax 1", r"\$", "a character is missing after the `$`"),
     ("syntax 3", r":=|_", "a name is missing before the assignment"),
+    ("syntax 7", r":=|_", "only a name takes an assignment"),
+    ("syntax 7", r"\.", "a period stands between two statements, and one is missing before this one"),
 )
 IN_ARRAY = {
     "syntax 5": "a literal array takes no number with a fraction or an exponent: `Array with: 1.5` does",
@@ -25,6 +27,9 @@ IN_ARRAY = {
 IN_BLOCK = "a block has no variables of its own here: declare them where the expression or the method begins"
 # Messages of other Smalltalks, and what this one has.
 ELSEWHERE = {
+    "++": "x := x + 1",
+    "+=": "x := x + 1",
+    "-=": "x := x - 1",
     "**": "raisedTo:",
     ">>": "compiledMethodAt:",
     "asInteger": "asNumber for a String",
