@@ -15,6 +15,7 @@ TOKEN = re.compile(r"""\"[^"]*\"?|('(?:[^']|'')*'?|\$.|.)""", re.S)
 BINARY = r"[-+*/\\~<>=@%|&?,]"
 # What another token must follow: a cascade's semicolon, an assignment, a keyword or a binary operator, and none of a literal's.
 WANTING = re.compile(rf"(?:[;_^]|(?<![A-Za-z0-9:#])[A-Za-z][A-Za-z0-9]*:|(?<!#)(?<!{BINARY}){BINARY}+)\Z")
+CLASS = re.compile(r"[sS]ubclass:\s*#\w+(?:\s+(?!category)\w+:\s*'[^']*')*\Z")  # the message that makes a class, before its end
 DECLARATIONS = re.compile(r"\|([A-Za-z0-9\s]*)\|")
 # What follows another token.
 FOLLOWING = re.compile(rf";|[A-Za-z][A-Za-z0-9]*:(?!=)|{BINARY}")
@@ -53,9 +54,10 @@ def parts_of(text):
 
 
 def goes_on(text):
-    """Whether a token must follow the last one."""
-    parts = parts_of(text)
-    return bool(parts) and bool(WANTING.search(text[: parts[-1] + 1])) and not DECLARATIONS.fullmatch(text.strip(BLANKS))
+    """Whether something must follow the last token."""
+    parts, bare = parts_of(text), text.strip(BLANKS)
+    wants = bool(parts) and bool(WANTING.search(text[: parts[-1] + 1]))
+    return (wants or bool(CLASS.search(bare))) and not DECLARATIONS.fullmatch(bare)
 
 
 def is_rest(text):
