@@ -1,6 +1,6 @@
 -- What a cycle of the code does, as the cycle over a table whose step is foreseen.
-use Rattle.std.proofs.Common.{◌≡◌, ℕ, ◌+◌, ◌-◌, Bool, true, false, refl, ◌∙◌, ap, sym, subst, Ok, Err, arith}
-use Rattle.std.specs.Prelude.{Result, nat_lt, nat_le, ◌&&◌, if◌then◌else◌}
+use Rattle.std.proofs.Common.{◌≡◌, ℕ, ◌+◌, ◌-◌, true, false, refl, ◌∙◌, ap, sym, Ok, Err, arith}
+use Rattle.std.specs.Prelude.{nat_lt, nat_le, ◌&&◌, if◌then◌else◌}
 use Rattle.std.proofs.lemmas.Bool.Decides.{nat_tests}
 use Rattle.st_model.specs.declared.dead.Dead.{Dead}
 use Rattle.st_model.specs.declared.demand.Demand.{Demand}
@@ -10,14 +10,12 @@ use Rattle.st_model.specs.Outcomes as outcome
 use Rattle.st_model.specs.Machine.{State, World, Transition, Died, Went, used, is_over}
 use Rattle.st_model.specs.Table.{Table, table, apart, bounded_table}
 use Rattle.st_model.specs.Bytecodes.{step}
-use Rattle.st_model.specs.Settled.{reclaim}
 use Rattle.st_model.specs.Objects.{nil}
 use Rattle.st_model.specs.Cycles.{made_between, free_space, less, capacity_of, check_process_switch, warned, warned_if_low}
 use Rattle.st_model.specs.inside.Foreseen.{foreseen, foreseen_from, foreseen_cycle, done, done_if_room}
 use Rattle.st_model.specs.View.{View, fits}
 use Rattle.st_control.specs.inside.Foreseen.{IsForeseen}
-use Rattle.st_at_once.specs.inside.AtOnce.{IsDoneAtOnce}
-use Rattle.st_machine.specs.inside.Cycling.{GoesAtOnce, GoesBy, Finishes, foreseen_step}
+use Rattle.st_machine.specs.inside.Cycling.{GoesBy, Finishes, foreseen_step}
 use Rattle.st_step.specs.inside.Doing.{IsDone}
 use Rattle.st_step.specs.inside.Planned.{Plans, plus}
 use Rattle.st_frames.specs.declared.frame.Frame.{Frame}
@@ -74,16 +72,6 @@ module _ (c : State Table) where
 -- what is still to be done of the cycle of a bytecode that was done at once
 pub goes_by : (c d : State Table) → IsForeseen c × ((step bounded_table).run c ≡ Went outcome.Went d) → GoesBy (foreseen_step c) (Finishes d)
 goes_by c d h e w = cycle_done c outcome.Went d e h.0 h.1 w
-
--- how a bytecode goes that was tried at once
-pub went_at_once : (c d x : State Table) (r : Result Bool Dead) → IsDoneAtOnce c r d → r ≡ Ok true → warned table (reclaim table d) ≡ x → GoesAtOnce c (Ok true) x
-went_at_once c d x r h e w = let k : IsDoneAtOnce c (Ok true) d = subst (λ y. IsDoneAtOnce c y d) e h in cycle_done c outcome.Went d x k.0 k.1 w
-
-pub stayed_at_once : (c d : State Table) (r : Result Bool Dead) → IsDoneAtOnce c r d → r ≡ Ok false → GoesAtOnce c (Ok false) d
-stayed_at_once c d r h e = subst (λ y. IsDoneAtOnce c y d) e h
-
-pub died_at_once : (c d x : State Table) (cause : Dead) → IsDoneAtOnce c (Err cause) d → GoesAtOnce c (Err cause) x
-died_at_once c d x cause h = dies_at_once c cause h
 
 -- how a bytecode goes that was done straight on, since there was room
 pub went_with_room : (c d x : State Table) (o : CodeOutcome) → IsDone c (Ok o) d → Finishes d x → foreseen_step c ≡ Went (With (outcome_of o)) x
