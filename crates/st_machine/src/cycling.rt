@@ -7,8 +7,7 @@ ghost use Rattle.st_machine.specs.{inside.Cycling.{Finishes, GoesAtOnce, foresee
 
 use crate::switching::check_process_switch;
 use st_at_once::step_at_once;
-use st_frames::{Frame, World};
-use st_input::signal_once;
+use st_frames::{Frame, World, signal_once};
 use st_memory::Memory;
 use st_model::{Dead, Demand, Device, Outcome};
 use st_step::{do_with_room, has_room, plan, step};
