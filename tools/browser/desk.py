@@ -11,6 +11,7 @@ from replies.evaluations import Clocks, Evaluations
 from replies.expressions import BEGIN, INTERRUPT, is_open
 from replies.image import Wrong as NoStore
 from replies.live import Live
+from replies.hints import meaning_in
 from replies.meanings import RUNS, meaning_of
 from replies.script import COURSES, SEEN, Line, Wrong, header_of, read_script, why_no_method
 from replies.session import Ended, Session, unescape
@@ -282,7 +283,8 @@ class Desk:
         """Shows why a method is refused, with its place in the text."""
         words = reply.split()
         place = int(words[2]) if words[0] == "refused" and words[1] in ("syntax", "code") else 0
-        refusal = {"line": reply, "meaning": meaning_of(reply), "source": source.strip(BLANKS), "place": place}
+        text = source.strip(BLANKS)
+        refusal = {"line": reply, "meaning": meaning_in(reply, text), "source": text, "place": place}
         if words[0] == "dead":
             self.log.show(dead=refusal["meaning"])
         self.log.add("refused", f"{reply}: {refusal['meaning']}", source=refusal["source"], place=place)

@@ -16,7 +16,7 @@ NAME_REFUSED = re.compile(r"refused code (\d+) 1$")
 ASSIGNED = re.compile(r"(?<![A-Za-z0-9])([A-Za-z][A-Za-z0-9]*+)\s*+(?::=|_)")
 BEFORE_1970 = 2177452800  # seconds from 1901 on
 MOST = 4294967295  # of either clock
-NEEDED = {"Processor", "Sensor", "Transcript"}  # the globals without which the kernel can't go on
+NEEDED = {"Display", "Processor", "Sensor", "Transcript"}  # the globals without which the kernel can't go on
 
 NUMBER = r"\d+r-?[0-9A-Z]+(?:\.[0-9A-Z]+(?:e-?\d+)?(?![A-Za-z0-9:])|e-?\d+)?|\d+(?:\.\d+)?(?:e-?\d+)?"
 OTHERS = r"\"[^\"]*\"?|'(?:[^']|'')*'?|\$.|\#\(|\#?[A-Za-z][A-Za-z0-9:]*|\s+|."
@@ -125,6 +125,11 @@ class Clocks:
         if self.is_real:
             seconds = int(time.time()) + time.localtime().tm_gmtoff + BEFORE_1970
             self.session.ask(f"clock {min(seconds, MOST)}")
+            self.go_on()
+
+    def go_on(self):
+        """Sets the clock of milliseconds, if it goes."""
+        if self.is_real:
             self.session.ask(f"tick {min(self.now(), MOST)}")
 
     def variable(self, of_class, name):

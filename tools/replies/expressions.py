@@ -8,13 +8,15 @@ HEADER = "Workspace methodsFor: 'evaluating'"
 FRONT = "doIt\n\t"
 BEGIN = 1  # the word of input that begins an evaluation
 INTERRUPT = 3  # the word of input that ends an evaluation
-OPENING, CLOSING = "([", ")]"
+OPENING, CLOSING = "([{", ")]}"
 FRACTION = re.compile(r"(?<![A-Za-z0-9])\d+(?:\.\d|r-?[0-9A-Z]+\.[0-9A-Z]+(?:e-?\d+)?(?![A-Za-z0-9:]))")
 # A comment, or in its one group what is none: a string, a character, or any other one.
 TOKEN = re.compile(r"""\"[^"]*\"?|('(?:[^']|'')*'?|\$.|.)""", re.S)
 BINARY = r"[-+*/\\~<>=@%|&?,]"
 # What another token must follow: a cascade's semicolon, an assignment, a keyword or a binary operator, and none of a literal's.
 WANTING = re.compile(rf"(?:[;_^]|(?<![A-Za-z0-9:#])[A-Za-z][A-Za-z0-9]*:|(?<!#)(?<!{BINARY}){BINARY}+)\Z")
+CLASS = re.compile(r"[sS]ubclass:\s*#\w+(?:\s+(?!category)\w+:\s*'[^']*')*\Z")  # the message that makes a class, before its end
+DECLARATIONS = re.compile(r"\|([A-Za-z0-9\s]*)\|")
 # What follows another token.
 FOLLOWING = re.compile(rf";|[A-Za-z][A-Za-z0-9]*:(?!=)|{BINARY}")
 
@@ -52,9 +54,10 @@ def parts_of(text):
 
 
 def goes_on(text):
-    """Whether a token must follow the last one."""
-    parts = parts_of(text)
-    return bool(parts) and bool(WANTING.search(text[: parts[-1] + 1]))
+    """Whether something must follow the last token."""
+    parts, bare = parts_of(text), text.strip(BLANKS)
+    wants = bool(parts) and bool(WANTING.search(text[: parts[-1] + 1]))
+    return (wants or bool(CLASS.search(bare))) and not DECLARATIONS.fullmatch(bare)
 
 
 def is_rest(text):
@@ -87,6 +90,12 @@ def last_statement(text):
         elif depth == 0 and one == "." and at < parts[-1] and not is_in_number(text, at):
             begin = at + 1
     return next((it for it in parts if it >= begin), None)
+
+
+def with_kept_variables(text):
+    """Declarations alone as assignments, so that their names stay for the next expressions; any other text as it is."""
+    found = DECLARATIONS.fullmatch(text.strip(BLANKS))
+    return "".join(f"{it} := nil. " for it in found[1].split()) + "self" if found else text
 
 
 def with_answer(text):

@@ -6,7 +6,7 @@ DEATHS = {
     3: "a SmallInteger stands where an object is needed",
     4: "no SmallInteger stands where one is needed",
     5: "the instruction pointer is outside the method's bytecodes",
-    6: "the stack pointer is outside the context's stack; a block that is evaluated while it is being evaluated does that",
+    6: "the stack pointer is outside the context's stack; a block that is evaluated while it is being evaluated does that: a method may call itself",
     7: "the bytecode is one that is never used",
     8: "a message wasn't understood, and its class doesn't understand doesNotUnderstand: either",
     9: "no process can run",

@@ -11,6 +11,7 @@ SELECTOR = r"[^\x00-\x20\x7f]+"
 # A header: at least one blank stands between its parts.
 HEADER = re.compile(rf"({NAME})(?:[{BLANKS}]+(class))?[{BLANKS}]+methodsFor:[{BLANKS}]+'((?:[^']|'')*)'")
 
+BEGIN_OF_GROUP = re.compile(rf"![{BLANKS}]*({HEADER.pattern})([{BLANKS}]*!)?")
 END_OF_GROUP = re.compile(rf"![{BLANKS}]+![{BLANKS}]*\Z")
 
 # The forms of lines: a word, what stands behind it, and the least and the greatest number of each place that has one.
@@ -98,6 +99,14 @@ def header_of(of_class, meta, category):
     """The chunk before the methods of a class's side in a category."""
     quoted = category.replace("'", "''")
     return f"{of_class}{' class' if meta else ''} methodsFor: '{quoted}'"
+
+
+def why_no_group(text):
+    """Why a text doesn't begin with the header of a group of methods; nothing where it does."""
+    found = BEGIN_OF_GROUP.match(text)
+    if not found:
+        return f"methods begin after a header, as `!Account methodsFor: 'x'!`, which this isn't: {text.splitlines()[0][:60]}"
+    return None if text[: found.end()].endswith("!") else f"a `!` is missing after the header {found[1]}"
 
 
 def is_open_group(text):

@@ -11,7 +11,6 @@ pub mod Makes
 pub mod Sent
 pub mod Headers
 pub mod AlikeRows
-pub mod Linked
 pub mod OverMemory
 mod Keeping
 pub mod Kept
@@ -19,4 +18,3 @@ mod TwoFields
 mod Placed
 mod Direct
 mod Settled
-pub mod Fixed

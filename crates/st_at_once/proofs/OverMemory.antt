@@ -1,7 +1,6 @@
 -- A step that was done at once, over a memory and its registers.
-use Rattle.std.proofs.Common.{◌≡◌, ◌≢◌, ◌≤◌, ℕ, arith, Bool, true, false, Ok, Err, refl, sym, ap, ◌∙◌, subst}
-use Rattle.std.specs.Prelude.{Result, nat_lt, if◌then◌else◌}
-use Rattle.std.proofs.lemmas.Bool.Decides.{nat_tests}
+use Rattle.std.proofs.Common.{◌≡◌, ◌≢◌, Bool, true, Ok, Err, refl, sym, ap, ◌∙◌, subst}
+use Rattle.std.specs.Prelude.{Result}
 use Rattle.st_model.specs.declared.dead.Dead.{Dead}
 use Rattle.st_model.specs.declared.deed.Deed.{Deed}
 use Rattle.st_model.specs.declared.word.Word.{Word}
@@ -11,12 +10,10 @@ use Rattle.st_model.specs.Deeds.{deed_done, world_done, with_deed}
 use Rattle.st_simulation.proofs.Closed.{step_closed}
 use Rattle.st_simulation.proofs.Deeds.{deed_uses, deed_leaves_there}
 use Rattle.st_frames.specs.inside.Narrow.{IsNarrow}
-use Rattle.st_model.specs.Objects.{one, words_of}
-use Rattle.st_model.specs.Outcomes.{Outcome}
 use Rattle.st_model.specs.Outcomes as outcome
-use Rattle.st_model.specs.Machine.{World, Head, State, Step, Transition, Died, Went, is_there, used, is_over}
+use Rattle.st_model.specs.Machine.{World, Head, State, Step, Died, Went, is_there, used}
 use Rattle.st_model.specs.Steps.{are_there}
-use Rattle.st_model.specs.Table.{Table, table, apart, bounded_table, total_used, IsTabular}
+use Rattle.st_model.specs.Table.{Table, table, apart, bounded_table}
 use Rattle.st_memory.specs.inside.Tabular.{bounded_tabular}
 use Rattle.st_model.specs.inside.Calls.{transition_of}
 use Rattle.st_model.specs.Bytecodes.{step}
@@ -26,7 +23,9 @@ use Rattle.st_frames.specs.declared.registers.Registers.{Registers as Words}
 use Rattle.st_frames.specs.inside.Rows.{row_state, registers_in}
 use Rattle.st_frames.specs.inside.Shown.{shown, registers_of, IsReady, StaysFrame}
 use Rattle.st_control.specs.inside.Foreseen.{IsForeseen}
+use Rattle.st_control.specs.inside.Borrowed.{table_tabular}
 use Rattle.st_control.proofs.Framed.{frame_held}
+use Rattle.st_control.proofs.Suffices.{dies, foreseen}
 use Rattle.st_at_once.specs.declared.ending.RowEnd.{RowEnd}
 use Rattle.st_at_once.specs.declared.ending.RowEnd.TheVariants.{Stays}
 use Rattle.st_at_once.specs.inside.AtOnce.{NamesSame, kept, was_done, deed_left, GoesOn, step_at_once}
@@ -34,23 +33,9 @@ use Rattle.st_at_once.proofs.Kept.{moved, kept_same, kept_frame}
 use Rattle.st_at_once.proofs.AtOnce.{As, step-as}
 use Rattle.st_at_once.proofs.Messages.{header_stays}
 use Rattle.st_at_once.proofs.AlikeRows.{same_at_once}
-use Rattle.st_at_once.proofs.Linked.{Linked, linked}
 use Rattle.st_frames.proofs.Closed.{is_closed}
 use Rattle.st_frames.proofs.Stored.{loaded}
 use Rattle.st_frames.proofs.There.{word_there, all_four}
-
-table_tabular : IsTabular table
-table_tabular = record { read = refl; replace = refl; exchange = refl; named = refl }
-
-within_if : (a b c d : ℕ) → a ≤ b → c ≤ d → (if nat_lt b a then true else nat_lt d c) ≡ false
-within_if a b c d l k = grind (arith, nat_tests, l, k)
-
--- what a memory keeps is within its capacities
-within : (v : View) (a : Head) → IsWhole v → v.head ≡ a → is_over (used table v.objects) a ≡ false
-within v a whole e =
-    let x = whole.entries in
-    let y = whole.words in
-    ap (λ b. is_over (used table v.objects) b) (sym e) ∙ within_if (total_used one v.objects) v.head.entries (total_used words_of v.objects) v.head.words x y
 
 module _ (c : State Table) (x : Result RowEnd Dead) (d : State Table) (does : (step_at_once bounded_table).run c ≡ transition_of was_done x d) where
   bounded_as : As outcome.Went (transition_of was_done x d) ((step bounded_table).run c)
@@ -72,21 +57,11 @@ module _ (c : State Table) (x : Result RowEnd Dead) (d : State Table) (does : (s
 
 module _ (v : View) (f : Frame) (w : World) (whole : IsWhole v) (ready : IsReady v f w) (x : Result RowEnd Dead) (d : State Table)
     (does : (step_at_once bounded_table).run (shown v f w) ≡ transition_of was_done x d) where
-  link : (p : Transition (State Table) Outcome) → (step table).run (shown v f w) ≡ p → Linked p ((step apart).run (shown v f w))
-  link p e = subst (λ y. Linked y ((step apart).run (shown v f w))) e (linked v f w whole ready)
-
   pub quick_dies : (cause : Dead) → x ≡ Err cause → (step apart).run (shown v f w) ≡ Died cause
-  quick_dies cause q = link (Died cause) (table_dies (shown v f w) x d does cause q)
+  quick_dies cause q = dies v f w whole ready cause (table_dies (shown v f w) x d does cause q)
 
   pub quick_foreseen : (u : View) (end : RowEnd) → x ≡ Ok end → was_done end ≡ true → IsWhole u → used table d.memory ≡ used table u.objects → u.head ≡ v.head → IsForeseen (shown v f w)
-  quick_foreseen u end q b word_there uses head =
-      let l = link (Went outcome.Went d) (table_done (shown v f w) x d does end q b) in
-      record {
-        outcome = l.0;
-        after = l.1;
-        goes = l.2;
-        fits = ap (λ y. is_over y v.head) (l.3 ∙ uses) ∙ within u v.head word_there head;
-      }
+  quick_foreseen u end q b kept uses head = foreseen v f w whole ready outcome.Went d u (table_done (shown v f w) x d does end q b) kept uses head
 
 -- a deed changes nothing of what is used
 left_uses : (u : View) (r : Words) (deed : Deed) → used table (with_deed deed (row_state u.objects u.head r)).memory ≡ used table u.objects

@@ -8,7 +8,7 @@ use st_model::{Dead, Demand, Kind, Word};
 
 impl<'a, M: Memory> Objects for Near<'a, M> {
     ghost use Rattle.st_memory.specs.inside.Tabular.{bounded_tabular};
-    ghost use Rattle.st_at_once.specs.inside.Known.{fixed_of};
+    ghost use Rattle.st_control.specs.inside.Borrowed.{fixed_of};
 
     ghost names = { bounded_table };
 

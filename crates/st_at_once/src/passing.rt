@@ -1,7 +1,7 @@
 ghost use Rattle.std.specs.Prelude.{◌≡◌, ◌<◌};
 ghost use Rattle.st_model.specs.{Values.word, Table.bounded_table, Steps.transfer};
 ghost use Rattle.st_model.specs.inside.Calls.{Changes, itself};
-ghost use Rattle.st_at_once.specs.inside.Known.{fixed_of};
+ghost use Rattle.st_control.specs.inside.Borrowed.{fixed_of};
 
 use crate::near::Near;
 use st_memory::{Memory, Objects};

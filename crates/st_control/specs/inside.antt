@@ -1,4 +1,5 @@
 pub mod AtOnce
+pub mod Borrowed
 pub mod Foreseen
 pub mod Passed
 pub mod Returning

@@ -7,3 +7,6 @@ mod Failing
 mod Called
 pub mod Executes
 pub mod NumberChanges
+mod Uses
+mod Rooms
+mod RowDone

@@ -1,4 +1,6 @@
+pub mod Doing
 pub mod Jumping
 pub mod Planned
 pub mod Responding
+pub mod Room
 pub mod Trying

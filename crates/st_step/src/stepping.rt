@@ -3,7 +3,7 @@ ghost use Rattle.st_model.specs.{Outcomes.{end_of, outcome_of}, Deeds.deed_of_en
 ghost use Rattle.st_model.specs.{Table.{table, apart, bounded_table}, Bytecodes.step, inside.Calls.Does};
 ghost use Rattle.st_frames.specs.inside.Shown.{IsFrame, IsReady, shown};
 ghost use Rattle.st_control.specs.inside.Foreseen.{IsForeseen};
-ghost use Rattle.st_step.specs.inside.Planned.{HasTop, Plans, PlansBirths, TopSaid};
+ghost use Rattle.st_step.specs.inside.Planned.{HasEnded, HasTop, Plans, PlansBirths, TopSaid};
 
 use crate::rows::step_row;
 use st_draft::Draft;
@@ -62,6 +62,21 @@ fn say_top<M: Memory>(m: &M, f: &Frame) -> Outcome
     Outcome::Say(said)
 }
 
+/// The outcome of a step that ended so.
+pub(crate) fn outcome<M: Memory>(m: &M, f: &Frame, end: StepEnd) -> Outcome
+    requires frame { IsFrame (M.view m.now) f.now }
+    requires ended { HasEnded (M.view m.now) f.now end }
+    ensures { outcome_of result ≡ end_of end }
+{
+    match end {
+        StepEnd::Went(_) => Outcome::Went,
+        StepEnd::Says(_) => say_top(m, f),
+        StepEnd::Snapshot => Outcome::Snapshot,
+        StepEnd::Quit => Outcome::Quit,
+        StepEnd::Debugger => Outcome::Debugger,
+    }
+}
+
 /// Does the next bytecode, once a plan has said what it takes and there is room for that.
 pub fn step<M: Memory>(m: &mut M, f: &mut Frame, w: &mut World) -> Outcome
     requires ready { IsReady (M.view m.old) f.old w.old }
@@ -71,11 +86,7 @@ pub fn step<M: Memory>(m: &mut M, f: &mut Frame, w: &mut World) -> Outcome
     ensures ready { IsReady (M.view m.new) f.new w.new }
 {
     match try_step(m, f, w) {
-        Ok(StepEnd::Went(_)) => Outcome::Went,
-        Ok(StepEnd::Says(_)) => say_top(m, f),
-        Ok(StepEnd::Snapshot) => Outcome::Snapshot,
-        Ok(StepEnd::Quit) => Outcome::Quit,
-        Ok(StepEnd::Debugger) => Outcome::Debugger,
+        Ok(end) => outcome(m, f, end),
         Err(_) => unreachable!(),
     }
 }

@@ -1,5 +1,5 @@
 -- What is known of the active context, its home and its method, and of the last object that was made.
-use Rattle.std.specs.Prelude.{◌≡◌, ℕ, ◌+◌, ◌*◌, ◌<◌, ◌≤◌, length, replicate, None, true, ℤ, pos, ◌≤ℤ◌, ◌<ℤ◌}
+use Rattle.std.specs.Prelude.{◌≡◌, ℕ, ◌+◌, ◌*◌, ◌<◌, ◌≤◌, length, true, ℤ, pos, ◌≤ℤ◌, ◌<ℤ◌}
 use Rattle.st_model.specs.declared.word.Word.{Word}
 use Rattle.st_model.specs.Values.{Value, word}
 use Rattle.st_model.specs.Objects.{is_pointers, is_method, first_unit, size_of}
@@ -70,10 +70,6 @@ pub record IsNear (v : View) (k : Known) : Type 0 where
   pub home : KnowsFields v.objects v.held.home k.home
   pub code : KnowsCode v.objects v.held.method k.code
   pub made : KnowsFields v.objects (word k.made.object) k.made
-
--- What stays of a memory that is borrowed under this name: what is held, the head, and the name, as the length of a table.
-abbrev pub fixed_of : View → ℕ → View
-fixed_of v name = record { objects = replicate name None; held = v.held; head = v.head }
 
 -- what is known stands at these places
 pub record ArePlaced (stands : Value → ℕ → Type 0) (k : Known) : Type 0 where

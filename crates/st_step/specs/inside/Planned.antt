@@ -3,8 +3,9 @@ use Rattle.std.specs.Prelude.{◌≡◌, ◌+◌, Result, Ok, Err}
 use Rattle.st_model.specs.declared.dead.Dead.{Dead}
 use Rattle.st_model.specs.declared.demand.Demand.{Demand}
 use Rattle.st_model.specs.declared.outcome.Outcome.{Outcome as CodeOutcome}
+use Rattle.st_model.specs.declared.outcome.StepEnd.{StepEnd}
 use Rattle.st_model.specs.Values.{Value}
-use Rattle.st_model.specs.Outcomes.{Outcome, outcome_of}
+use Rattle.st_model.specs.Outcomes.{Outcome, end_of, outcome_of}
 use Rattle.st_model.specs.Outcomes as outcome
 use Rattle.st_model.specs.Machine.{ObjectMemory, World, State, Transition, Died, Went, used}
 use Rattle.st_model.specs.Steps.{top}
@@ -32,6 +33,10 @@ Plans before x result = PlansOver apart before x result
 -- so the plan says of the book's step, over all births that the state shows
 abbrev pub PlansBirths : State Table → Result Demand Dead → Type 0
 PlansBirths c result = (s : State Births) → Shows c s → PlansOver births (used births s.memory) ((step births).run s) result
+
+-- a step of the next bytecode ended so, over this memory and frame
+abbrev pub HasEnded : View → Frame → StepEnd → Type 0
+HasEnded v f end = (w : World) × (s : State Table) × ((step bounded_table).run s ≡ Went (end_of end) (shown v f w))
 
 -- there is a word at the top of the stack
 abbrev pub HasTop : View → Frame → Type 0

@@ -10,7 +10,7 @@ use Rattle.st_frames.specs.inside.Shown.{shown}
 use Rattle.st_frames.proofs.Stored.{loaded}
 use Rattle.st_at_once.specs.declared.ending.RowEnd.TheVariants.{Stays}
 use Rattle.st_at_once.specs.inside.AtOnce.{was_done, deed_left, GoesOn, step_at_once}
-use Rattle.st_at_once.proofs.Fixed.{same_name}
+use Rattle.st_control.proofs.Borrowed.{same_name}
 use Rattle.st_at_once.proofs.OverMemory.{quick_dies, left_there, left_held, left_kept}
 use Rattle.st_machine.specs.declared.stretch.StretchEnd.TheVariants.{Warns}
 use Rattle.st_machine.specs.inside.Cycling.{GoesCalmly, warns}

@@ -3,7 +3,7 @@ use Rattle.std.proofs.Common.{◌≡◌, ℕ, length, sym, ap, ◌∙◌}
 use Rattle.std.specs.Prelude.{None}
 use Rattle.std.proofs.lemmas.List.{length-replicate}
 use Rattle.st_model.specs.View.{View}
-use Rattle.st_at_once.specs.inside.Known.{fixed_of}
+use Rattle.st_control.specs.inside.Borrowed.{fixed_of}
 
 pub same_held : (v w : View) (a b : ℕ) → fixed_of w b ≡ fixed_of v a → w.held ≡ v.held
 same_held v w a b e = ap (λ (x : View). x.held) e
