@@ -110,8 +110,12 @@ def message_meant(receiver, selector, understood):
     """A sentence on the message that may have been meant, of those that a receiver's class understands, if there is one."""
     if selector in ELSEWHERE:
         return f"other Smalltalks have {selector}; this one has {ELSEWHERE[selector]}"
-    longer = [it for it in understood if it.startswith(selector) and selector.endswith(":")]
-    turned = [it for it in understood if sorted(it.split(":")) == sorted(selector.split(":"))]
-    like = [it for it in understood if it.count(":") == selector.count(":")]
-    found = turned or sorted(longer, key=len) or difflib.get_close_matches(selector, sorted(like), 1, LIKE)
+    keywords = selector.count(":")
+    # (the nearest in length first)
+    known = sorted(understood, key=lambda it: (abs(it.count(":") - keywords), len(it), it))
+    turned = [it for it in known if sorted(it.split(":")) == sorted(selector.split(":"))]
+    longer = [it for it in known if keywords and it.startswith(selector)]
+    like = difflib.get_close_matches(selector, [it for it in known if it.count(":") == keywords], 1, LIKE)
+    begun = [it for it in known if keywords > 1 and it.startswith(selector.partition(":")[0] + ":")]
+    found = turned or longer or like or begun
     return f"{receiver} understands {found[0]}" if found else None
