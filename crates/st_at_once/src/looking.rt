@@ -1,5 +1,5 @@
 ghost use Rattle.std.specs.Prelude.{◌<◌, ◌<ℤ◌};
-ghost use Rattle.st_model.specs.Values.{value, word};
+ghost use Rattle.st_model.specs.Values.{Value, value, word};
 ghost use Rattle.st_frames.specs.inside.Shown.{IsFrame};
 ghost use Rattle.st_at_once.specs.inside.Known.{KnowsFields, KnowsCode, IsNear, IsThere, ArePlaced};
 
@@ -20,10 +20,13 @@ fn look_at_fields<M: Memory>(m: &M, object: Oop) -> Fields
     if !m.kind(object).is_pointers() {
         return Fields::NONE;
     }
-    Fields {
-        object: Word(u32::from(object.0)),
-        number: m.size(object),
-        place: m.place(object),
+    match m.place(object) {
+        Some(place) => Fields {
+            object: Word(u32::from(object.0)),
+            number: m.size(object),
+            place,
+        },
+        None => Fields::NONE,
     }
 }
 
@@ -40,12 +43,15 @@ fn look_at_code<M: Memory>(m: &M, method: Oop) -> Code
         return Code::NONE;
     }
     let count = literals(m.pointer(method, 0));
-    Code {
-        method: Word(u32::from(method.0)),
-        literals: count,
-        first: (2 * count + 2) as i32,
-        end: m.size(method).min(16382) as i32,
-        place: m.place(method),
+    match m.place(method) {
+        Some(place) => Code {
+            method: Word(u32::from(method.0)),
+            literals: count,
+            first: (2 * count + 2) as i32,
+            end: m.size(method).min(16382) as i32,
+            place,
+        },
+        None => Code::NONE,
     }
 }
 
@@ -63,29 +69,39 @@ fn look_at_home<M: Memory>(m: &M, f: &Frame, active: Fields) -> Fields
     }
 }
 
-/// The place at which an object stands of which this is known, or 0.
-fn place_of_fields<M: Memory>(m: &M, f: Fields) -> u32
+/// What is known of an object, with the place at which it stands now.
+#[inline(always)]
+fn place_fields<M: Memory>(m: &M, f: Fields) -> Fields
     requires { 0 < f.number → IsThere (M.view m.now).objects f.object }
-    ensures { 0 < f.number → M.stands m.now (word f.object) result }
+    ensures known { (held : Value) → KnowsFields (M.view m.now).objects held f
+        → KnowsFields (M.view m.now).objects held result }
+    ensures place { 0 < result.number → M.stands m.now (word result.object) result.place }
 {
     if f.number == 0 {
-        0
-    } else {
-        m.place(Oop(f.object.0 as u16))
+        return f;
+    }
+    match m.place(Oop(f.object.0 as u16)) {
+        Some(place) => Fields { place, ..f },
+        None => Fields::NONE,
     }
 }
 
-/// The place at which a method stands of which this is known, or 0.
-fn place_of_code<M: Memory>(m: &M, c: Code) -> u32
+/// What is known of a method, with the place at which it stands now.
+#[inline(always)]
+fn place_code<M: Memory>(m: &M, c: Code) -> Code
     requires literals { 0 < c.literals → IsThere (M.view m.now).objects c.method }
     requires bytes { c.first <ℤ c.end → IsThere (M.view m.now).objects c.method }
-    ensures literals { 0 < c.literals → M.stands m.now (word c.method) result }
-    ensures bytes { c.first <ℤ c.end → M.stands m.now (word c.method) result }
+    ensures known { (held : Value) → KnowsCode (M.view m.now).objects held c
+        → KnowsCode (M.view m.now).objects held result }
+    ensures literals { 0 < result.literals → M.stands m.now (word result.method) result.place }
+    ensures bytes { result.first <ℤ result.end → M.stands m.now (word result.method) result.place }
 {
     if c.literals == 0 && c.end <= c.first {
-        0
-    } else {
-        m.place(Oop(c.method.0 as u16))
+        return c;
+    }
+    match m.place(Oop(c.method.0 as u16)) {
+        Some(place) => Code { place, ..c },
+        None => Code::NONE,
     }
 }
 
@@ -97,22 +113,10 @@ pub(crate) fn look_at_places<M: Memory>(m: &M, known: Known) -> Known
     ensures places { ArePlaced (M.stands m.now) result }
 {
     Known {
-        active: Fields {
-            place: place_of_fields(m, known.active),
-            ..known.active
-        },
-        home: Fields {
-            place: place_of_fields(m, known.home),
-            ..known.home
-        },
-        code: Code {
-            place: place_of_code(m, known.code),
-            ..known.code
-        },
-        made: Fields {
-            place: place_of_fields(m, known.made),
-            ..known.made
-        },
+        active: place_fields(m, known.active),
+        home: place_fields(m, known.home),
+        code: place_code(m, known.code),
+        made: place_fields(m, known.made),
     }
 }
 
@@ -151,10 +155,7 @@ fn look_at_code_again<M: Memory>(m: &M, method: Oop, before: Code) -> Code
     ensures bytes { result.first <ℤ result.end → M.stands m.now (word result.method) result.place }
 {
     if before.method.0 == u32::from(method.0) {
-        Code {
-            place: place_of_code(m, before),
-            ..before
-        }
+        place_code(m, before)
     } else {
         look_at_code(m, method)
     }

@@ -166,8 +166,8 @@ impl Memory for CountedMemory {
         self.contents.head.symbols
     }
 
-    fn place(&self, o: Oop) -> u32 {
-        self.contents.objects.place_of(o)
+    fn place(&self, o: Oop) -> Option<u32> {
+        Some(self.contents.objects.place_of(o))
     }
 
     #[inline(always)]

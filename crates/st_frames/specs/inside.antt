@@ -1,4 +1,5 @@
 pub mod Answering
+pub mod Coming
 pub mod Narrow
 pub mod Rows
 pub mod Shown

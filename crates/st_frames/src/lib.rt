@@ -1,11 +1,12 @@
 //! The registers, in a row and between bytecodes; the contexts that they are fetched from, and the stack (chapter 27). The numbers
 //! that primitives take, and the answers that they push; and what lies round the machine: the input words that wait, the mouse,
-//! the clocks, and what devices hold (chapter 29).
+//! the clocks, and what devices hold (chapter 29). What comes from outside changes it, and a memory goes on holding what it names.
 #![tactic(auto)]
 
 mod answer;
 mod answering;
 mod bytes;
+mod coming;
 mod context;
 mod fetched;
 mod fetching;
@@ -14,6 +15,7 @@ mod frame;
 mod frame_stack;
 mod holding;
 mod large;
+mod naming;
 mod numbers;
 mod reading;
 mod registers;
@@ -30,6 +32,7 @@ pub use fetching::{fetch_integer, page};
 pub use frame::{Frame, Loaded};
 pub use holding::{fetch, fetch_scheduled, hold, load};
 pub use large::{find_bytes, number};
+pub use naming::{add_signal, hold_device, signal_once, take_newest_signal};
 pub use numbers::{
     bits_or_die, check_bytes, check_class, number_read, positive_small, positive_value,
     value_within,

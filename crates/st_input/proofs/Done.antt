@@ -13,7 +13,7 @@ use Rattle.st_model.proofs.TableLemmas.{changed-some}
 use Rattle.st_model.proofs.KindTests.{bytes_pointers, bytes_words, words_pointers}
 use Rattle.st_model.proofs.Entries.{changed-again}
 use Rattle.st_model.proofs.Resting.{changed-itself}
-use Rattle.st_input.specs.inside.Holding.{ChangesOne}
+use Rattle.st_input.specs.inside.Named.{ChangesOne}
 use Rattle.st_memory.proofs.Wide.{small_not_live}
 
 -- an object that is there, or isn't

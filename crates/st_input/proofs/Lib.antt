@@ -1,4 +1,3 @@
-pub mod HoldsNamed
 pub mod Copied
 pub mod Done
 pub mod Headers

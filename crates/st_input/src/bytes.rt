@@ -1,7 +1,7 @@
 ghost use Rattle.st_model.specs.Values.{word};
 ghost use Rattle.st_model.specs.Objects.{is_bytes};
 ghost use Rattle.st_model.specs.Deeds.{bytes_replaced, bytes_from};
-ghost use Rattle.st_input.specs.{inside.Named.NamesKind, inside.Holding.ChangesOne};
+ghost use Rattle.st_input.specs.inside.Named.{NamesKind, ChangesOne};
 
 use crate::named::object_named;
 use st_memory::{Memory, copy_bytes};

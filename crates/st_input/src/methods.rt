@@ -2,7 +2,7 @@ ghost use Rattle.std.specs.Prelude.{◌<◌, length, IfSome};
 ghost use Rattle.st_model.specs.{Values.{value, word}, Objects.is_method, View.object_of};
 ghost use Rattle.st_model.specs.{Machine.is_there, Table.table};
 ghost use Rattle.st_model.specs.Deeds.{header_stored, literal_stored};
-ghost use Rattle.st_input.specs.{inside.Named.NamesKind, inside.Holding.ChangesOne};
+ghost use Rattle.st_input.specs.inside.Named.{NamesKind, ChangesOne};
 
 use crate::named::object_named;
 use st_memory::{Memory, live_value};

@@ -2,7 +2,7 @@ ghost use Rattle.std.specs.Prelude.{◌≡◌, true};
 ghost use Rattle.st_model.specs.{Values.{value, word}, Objects.has_bytes, View.is_live};
 ghost use Rattle.st_model.specs.{Primitives.bytes_of_number, Input.four_bytes};
 ghost use Rattle.st_model.specs.Deeds.{word_stored, byte_stored, bytes_stored};
-ghost use Rattle.st_input.specs.inside.Holding.{ChangesOne};
+ghost use Rattle.st_input.specs.inside.Named.{ChangesOne};
 
 use crate::named::object_named;
 use st_memory::{Memory, count_fields};

@@ -1,11 +1,10 @@
 ghost use Rattle.std.specs.Prelude.{◌≡◌, ◌&&◌, nat_le, if◌then◌else◌};
 ghost use Rattle.st_model.specs.{Surroundings.{changed_world, MoveMouse}, Deeds.world_done};
 ghost use Rattle.st_frames.specs.Naming.{IsNaming, naming};
-ghost use Rattle.st_input.specs.inside.Holding.{HoldsNamed};
+ghost use Rattle.st_frames.specs.inside.Coming.{HoldsNamed};
 ghost use Rattle.st_model.specs.declared.deed.Deed.TheVariants as deed;
 
-use crate::naming::{add_signal, hold};
-use st_frames::World;
+use st_frames::{World, add_signal, hold_device};
 use st_memory::{Memory, live_value};
 use st_model::{Deed, Device, Oop, Word};
 
@@ -16,7 +15,7 @@ fn hold_named<M: Memory>(m: &mut M, w: &mut World, device: Device, object: Word)
     ensures memory { HoldsNamed (M.view m.old) (M.view m.new) w.new }
 {
     if let Some(held) = live_value(m, object) {
-        hold(m, w, device, held);
+        hold_device(m, w, device, held);
     }
 }
 
@@ -27,13 +26,13 @@ fn set_timer<M: Memory>(m: &mut M, w: &mut World, semaphore: Word, due: u32)
     ensures memory { HoldsNamed (M.view m.old) (M.view m.new) w.new }
 {
     if let Some(timer) = live_value(m, semaphore) {
-        hold(m, w, Device::Timer, timer);
+        hold_device(m, w, Device::Timer, timer);
         w.set_due(due);
     }
 }
 
 /// A semaphore's signal is pending and the timer is let go, where the semaphore is there and there is room for a signal.
-#[tactic(auto, using(crate::proofs::HoldsNamed::known_nil))]
+#[tactic(auto, using(st_frames::proofs::HoldsNamed::known_nil))]
 fn ring_timer<M: Memory>(m: &mut M, w: &mut World, semaphore: Word)
     requires named { IsNaming (M.view m.old).held w.old }
     ensures world { w.new ≡ world_done (deed.RingTimer semaphore) (M.view m.old).objects w.old }
@@ -44,7 +43,7 @@ fn ring_timer<M: Memory>(m: &mut M, w: &mut World, semaphore: Word)
     }
     if let Some(rung) = live_value(m, semaphore) {
         add_signal(m, w, rung);
-        hold(m, w, Device::Timer, Oop::NIL);
+        hold_device(m, w, Device::Timer, Oop::NIL);
     }
 }
 
@@ -56,7 +55,7 @@ fn set_low_space<M: Memory>(m: &mut M, w: &mut World, semaphore: Word, entries: 
     ensures memory { HoldsNamed (M.view m.old) (M.view m.new) w.new }
 {
     if let Some(warned) = live_value(m, semaphore) {
-        hold(m, w, Device::LowSpace, warned);
+        hold_device(m, w, Device::LowSpace, warned);
         w.set_low(entries, words);
     }
 }

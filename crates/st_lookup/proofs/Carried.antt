@@ -1,6 +1,7 @@
 -- A search that finds a method in one table finds it in each table that has the objects which it meets.
-use Rattle.std.proofs.Common.{◌≡◌, ℕ, ◌+◌, zero, suc, Option, Some, None, Bool, true, false, refl, sym, subst, is_some, length}
-use Rattle.std.specs.Prelude.{◌-◌, slice_get, bit_and, nat_lt, ⊤}
+use Rattle.std.proofs.Common.{◌≡◌, ℕ, ◌+◌, zero, suc, Option, Some, None, Bool, true, false, refl, sym, subst, is_some, length, arith}
+use Rattle.std.specs.Prelude.{◌-◌, ◌==◌, slice_get, bit_and, nat_lt, ⊤}
+use Rattle.std.proofs.lemmas.Bool.Decides.{nat_tests}
 use Rattle.st_model.specs.declared.dead.Dead.{Dead}
 use Rattle.st_model.specs.declared.dead.Dead.TheVariants as dead
 use Rattle.st_model.specs.declared.page.PageObject.TheVariants.{NilObject}
@@ -11,6 +12,7 @@ use Rattle.st_model.specs.Steps.{of_page, found, object_named, object, check, or
 use Rattle.st_model.specs.Methods.{method_header}
 use Rattle.st_model.specs.Lookup.{pointer_if, half_word, checked_method, method_at, place_says, look_at_place, look_at_places, search_from, search_dictionary, or_above, method_in_class, look_in_class, unless_nil, end_at_nil, find_within, find}
 use Rattle.st_model.specs.Table.{Table, entry, table}
+use Rattle.st_memory.proofs.Looking.{some_state}
 
 -- a state with another table
 abbrev pub over : State Table → Table → State Table
@@ -42,6 +44,9 @@ record Carried {A : Type 0} (t u : Table) (m : Step Table A) (Q : A → Type 0) 
 
 abbrev Free : {A : Type 0} → A → Type 0
 Free a = Unit {0}
+
+same_number : (a b : ℕ) → (a == b) ≡ true → a ≡ b
+same_number a b e = grind (arith, nat_tests)
 
 module _ {A B : Type 0} (t u : Table) (P : A → Type 0) (Q : B → Type 0) where
   after_carried : (f : A → Step Table B) (s : State Table) (x y : Transition (State Table) A) → Follows s t u P x y → ((a : A) → P a → Carried t u (f a) Q)
@@ -133,82 +138,106 @@ module _ (P : ℕ → Type 0) (t u : Table) (c : Carries P t u) where
   half_carried (Small n) h = answer_carried t u Free n tt
   half_carried (Ref n) h = record { carried = λ s. (half_is n (entry t n) (entry u n) h, refl, refl, tt) }
 
-  checked_carried : (v : Value) → IsOf P v → Carried t u (checked_method table v) Free
-  unfolding checked_method
-  checked_carried v p = then_carried t u Free Free (method_header table v) _ (header_carried v p) (λ h q. answer_carried t u Free (Some v) tt)
+  -- the selector of what is found is one of these
+  abbrev Meets : Value → Option Value → Type 0
+  Meets x None = ⊤
+  Meets x (Some m) = IsOf P x
 
-  module _ (d : Value) (p : IsOf P d) where
-    at_carried : (k : ℕ) → Carried t u (method_at table d k) Free
-    unfolding method_at
-    at_carried k =
-        then_carried t u (IsOf P) Free (fetch_field table d 1) _ (field_carried d 1 p)
-        (λ ms q. then_carried t u (IsOf P) Free (fetch_field table ms k) _ (field_carried ms k q) (λ m r. checked_carried m r))
+  same_of : (v x : Value) → IsOf P v → same_value v x ≡ true → IsOf P x
+  same_of (Small a) (Small b) p e = tt
+  same_of (Small a) (Ref b) p e = cc
+  same_of (Ref a) (Small b) p e = cc
+  same_of (Ref a) (Ref b) p e = subst P (same_number a b e) p
 
-    says_carried : (k : ℕ) (a b : Bool) (n : Step Table (Option Value)) → Carried t u n Free → Carried t u (place_says table d k a b n) Free
-    unfolding place_says
-    says_carried k true b n g = at_carried k
-    says_carried k false true n g = answer_carried t u Free None tt
-    says_carried k false false n g = g
+  module _ (x : Value) where
+    checked_carried : (v : Value) → IsOf P v → IsOf P x → Carried t u (checked_method table v) (Meets x)
+    unfolding checked_method
+    checked_carried v p r = then_carried t u Free (Meets x) (method_header table v) _ (header_carried v p) (λ h q. answer_carried t u (Meets x) (Some v) r)
 
-    places_carried : (x : Value) (k left : ℕ) (n : Step Table (Option Value)) → Carried t u n Free → Carried t u (look_at_places table d x k left n) Free
-    unfolding look_at_places look_at_place
-    places_carried x k zero n g = g
-    places_carried x k (suc left) n g =
-        then_carried t u (IsOf P) Free (fetch_field table d (2 + k)) _ (field_carried d (2 + k) p)
-        (λ v q. then_carried t u Free Free (of_page table NilObject) _ (nil_carried t u) (λ w r. says_carried k (same_value v x) (same_value v w) _ (places_carried x (suc k) left n g)))
+    none_carried : Carried t u (answer None) (Meets x)
+    none_carried = answer_carried t u (Meets x) None tt
 
-    search_carried : (x : Value) (places : ℕ) → SameHalf t u x → Carried t u (search_dictionary table d x places) Free
-    unfolding search_dictionary search_from
-    search_carried x places h =
-        then_carried t u Free Free (half_word table x) _ (half_carried x h)
-        (λ half z. places_carried x (bit_and half (places - 1)) (places - bit_and half (places - 1)) _ (places_carried x 0 places _ (answer_carried t u Free None tt)))
+    module _ (d : Value) (p : IsOf P d) where
+      at_carried : (k : ℕ) → IsOf P x → Carried t u (method_at table d k) (Meets x)
+      unfolding method_at
+      at_carried k h =
+          then_carried t u (IsOf P) (Meets x) (fetch_field table d 1) _ (field_carried d 1 p)
+          (λ ms q. then_carried t u (IsOf P) (Meets x) (fetch_field table ms k) _ (field_carried ms k q) (λ m r. checked_carried m r h))
 
-  class_carried : (class x : Value) → IsOf P class → SameHalf t u x → Carried t u (method_in_class table class x) Free
-  unfolding method_in_class
-  class_carried class x p h =
-      then_carried t u (IsOf P) Free (fetch_field table class 1) _ (field_carried class 1 p)
-      (λ d q. then_carried t u Free Free (count_fields table d) _ (count_carried d q)
-      (λ n z. next_carried t u Free Free (check dead.Places (nat_lt 2 n)) _ (check_carried t u dead.Places (nat_lt 2 n)) (search_carried d q x (n - 2) h)))
+      says_carried : (k : ℕ) (a b : Bool) (n : Step Table (Option Value)) → (a ≡ true → IsOf P x) → Carried t u n (Meets x) → Carried t u (place_says table d k a b n) (Meets x)
+      unfolding place_says
+      says_carried k true b n h g = at_carried k (h refl)
+      says_carried k false true n h g = none_carried
+      says_carried k false false n h g = g
 
-  above_carried : (class : Value) (m : Option Value) (otherwise : Value → Step Table (Option Value)) → IsOf P class → ((v : Value) → IsOf P v → Carried t u (otherwise v) Free)
-      → Carried t u (or_above table class m otherwise) Free
-  unfolding or_above
-  above_carried class (Some m) otherwise p g = answer_carried t u Free (Some m) tt
-  above_carried class None otherwise p g = then_carried t u (IsOf P) Free (fetch_field table class 0) _ (field_carried class 0 p) g
+      places_carried : (k left : ℕ) (n : Step Table (Option Value)) → Carried t u n (Meets x) → Carried t u (look_at_places table d x k left n) (Meets x)
+      unfolding look_at_places look_at_place
+      places_carried k zero n g = g
+      places_carried k (suc left) n g =
+          then_carried t u (IsOf P) (Meets x) (fetch_field table d (2 + k)) _ (field_carried d (2 + k) p)
+          (λ v q. then_carried t u Free (Meets x) (of_page table NilObject) _ (nil_carried t u)
+          (λ w r. says_carried k (same_value v x) (same_value v w) _ (same_of v x q) (places_carried (suc k) left n g)))
 
-  unless_carried : (b : Bool) (n : Step Table (Option Value)) → Carried t u n Free → Carried t u (unless_nil b n) Free
-  unfolding unless_nil
-  unless_carried true n g = answer_carried t u Free None tt
-  unless_carried false n g = g
+      search_carried : (places : ℕ) → SameHalf t u x → Carried t u (search_dictionary table d x places) (Meets x)
+      unfolding search_dictionary search_from
+      search_carried places h =
+          then_carried t u Free (Meets x) (half_word table x) _ (half_carried x h)
+          (λ half z. places_carried (bit_and half (places - 1)) (places - bit_and half (places - 1)) _ (places_carried 0 places _ none_carried))
 
-  end_carried : (class : Value) (n : Step Table (Option Value)) → Carried t u n Free → Carried t u (end_at_nil table class n) Free
-  unfolding end_at_nil
-  end_carried class n g = then_carried t u Free Free (of_page table NilObject) _ (nil_carried t u) (λ v e. unless_carried (same_value class v) n g)
+    class_carried : (class : Value) → IsOf P class → SameHalf t u x → Carried t u (method_in_class table class x) (Meets x)
+    unfolding method_in_class
+    class_carried class p h =
+        then_carried t u (IsOf P) (Meets x) (fetch_field table class 1) _ (field_carried class 1 p)
+        (λ d q. then_carried t u Free (Meets x) (count_fields table d) _ (count_carried d q)
+        (λ n z. next_carried t u Free (Meets x) (check dead.Places (nat_lt 2 n)) _ (check_carried t u dead.Places (nat_lt 2 n)) (search_carried d q (n - 2) h)))
 
-  within_carried : (x : Value) (left : ℕ) (class : Value) → IsOf P class → SameHalf t u x → Carried t u (find_within table x left class) Free
-  unfolding find_within look_in_class
-  within_carried x zero class p h = end_carried class _ (die_carried t u Free dead.Chain)
-  within_carried x (suc left) class p h =
-      end_carried class _
-      (then_carried t u Free Free (method_in_class table class x) _ (class_carried class x p h)
-      (λ m z. above_carried class m (find_within table x left) p (λ v q. within_carried x left v q h)))
+    above_carried : (class : Value) (m : Option Value) (otherwise : Value → Step Table (Option Value)) → IsOf P class → Meets x m
+        → ((v : Value) → IsOf P v → Carried t u (otherwise v) (Meets x)) → Carried t u (or_above table class m otherwise) (Meets x)
+    unfolding or_above
+    above_carried class (Some m) otherwise p h g = answer_carried t u (Meets x) (Some m) h
+    above_carried class None otherwise p h g = then_carried t u (IsOf P) (Meets x) (fetch_field table class 0) _ (field_carried class 0 p) g
 
-  find_carried : (class x : Value) → IsOf P class → SameHalf t u x → Carried t u (find table class x) Free
-  unfolding find
-  find_carried class x p h = within_carried x 32767 class p h
+    unless_carried : (b : Bool) (n : Step Table (Option Value)) → Carried t u n (Meets x) → Carried t u (unless_nil b n) (Meets x)
+    unfolding unless_nil
+    unless_carried true n g = none_carried
+    unless_carried false n g = g
 
-  -- what is found
-  went : (s : State Table) (m : Value) (x y : Transition (State Table) (Option Value)) → Follows s t u Free x y → x ≡ Went (Some m) (over s t) → y ≡ Went (Some m) (over s u)
-  went s m (Died d) y f e = cc
-  went s m (Went a x) (Died d) f e = absurd f
-  went s m (Went a x) (Went b y) f e =
-      let g : a ≡ Some m = cc in
-      rw (sym f.0, f.2, g) refl
+    end_carried : (class : Value) (n : Step Table (Option Value)) → Carried t u n (Meets x) → Carried t u (end_at_nil table class n) (Meets x)
+    unfolding end_at_nil
+    end_carried class n g = then_carried t u Free (Meets x) (of_page table NilObject) _ (nil_carried t u) (λ v e. unless_carried (same_value class v) n g)
+
+    within_carried : (left : ℕ) (class : Value) → IsOf P class → SameHalf t u x → Carried t u (find_within table x left class) (Meets x)
+    unfolding find_within look_in_class
+    within_carried zero class p h = end_carried class _ (die_carried t u (Meets x) dead.Chain)
+    within_carried (suc left) class p h =
+        end_carried class _
+        (then_carried t u (Meets x) (Meets x) (method_in_class table class x) _ (class_carried class p h)
+        (λ m z. above_carried class m (find_within table x left) p z (λ v q. within_carried left v q h)))
+
+    find_carried : (class : Value) → IsOf P class → SameHalf t u x → Carried t u (find table class x) (Meets x)
+    unfolding find
+    find_carried class p h = within_carried 32767 class p h
+
+    -- what is found
+    went : (s : State Table) (m : Value) (y z : Transition (State Table) (Option Value)) → Follows s t u (Meets x) y z → y ≡ Went (Some m) (over s t)
+        → (z ≡ Went (Some m) (over s u)) × IsOf P x
+    went s m (Died d) z f e = cc
+    went s m (Went a y) (Died d) f e = absurd f
+    went s m (Went a y) (Went b z) f e =
+        let g : a ≡ Some m = cc in
+        (rw (sym f.0, f.2, g) refl, subst (Meets x) g f.3)
+
+    search_carries : (class m : Value) → IsOf P class → SameHalf t u x → ((s : State Table) → s.memory ≡ t → (find table class x).run s ≡ Went (Some m) s)
+        → (s : State Table) → ((find table class x).run (over s u) ≡ Went (Some m) (over s u)) × IsOf P x
+    search_carries class m p h finds s = went s m ((find table class x).run (over s t)) ((find table class x).run (over s u)) ((find_carried class p h).carried s) (finds (over s t) refl)
 
   pub found_carried_on : (class x m : Value) → IsOf P class → SameHalf t u x
       → ((s : State Table) → s.memory ≡ t → (find table class x).run s ≡ Went (Some m) s)
       → (s : State Table) → s.memory ≡ u → (find table class x).run s ≡ Went (Some m) s
   found_carried_on class x m p h finds s e =
-      let there = finds (over s t) refl in
-      let here = went s m ((find table class x).run (over s t)) ((find table class x).run (over s u)) ((find_carried class x p h).carried s) there in
-      subst (λ (y : Table). (find table class x).run (over s y) ≡ Went (Some m) (over s y)) (sym e) here
+      subst (λ (y : Table). (find table class x).run (over s y) ≡ Went (Some m) (over s y)) (sym e) (search_carries x class m p h finds s).0
+
+  -- the selector for which a method is found is one of these
+  pub selector_met : (class x m : Value) → IsOf P class → SameHalf t u x
+      → ((s : State Table) → s.memory ≡ t → (find table class x).run s ≡ Went (Some m) s) → IsOf P x
+  selector_met class x m p h finds = (search_carries x class m p h finds (some_state t)).1

@@ -9,7 +9,7 @@ use Rattle.st_model.specs.Objects.{Object}
 use Rattle.st_model.specs.Settled.{IsRefTo, AnyRefTo, Refers, IsRoot, IsReferredFrom, IsSettled, or}
 use Rattle.st_model.specs.Show.{IsUsed}
 use Rattle.st_model.specs.Table.{Table, table, entry, changed, exchanged_objects, placed, first_free}
-use Rattle.st_model.specs.View.{View, IsWhole, IsKnown, SettlesTo, is_live, view_roots, with_stored, with_unit, with_exchanged}
+use Rattle.st_model.specs.View.{View, IsWhole, SettlesTo, is_live, view_roots, with_stored, with_unit, with_exchanged}
 use Rattle.st_model.proofs.TableLemmas.{changed-other, placed-other}
 use Rattle.st_model.proofs.SettledLemmas.{settled-entry, entry-settled, is_some-of, some_is}
 use Rattle.st_memory.specs.inside.Copied.{with_units_in}
@@ -17,7 +17,7 @@ use Rattle.st_memory.specs.inside.Searched.{Finds}
 use Rattle.st_lookup.specs.declared.entry.Entry.{Entry}
 use Rattle.st_lookup.specs.declared.entry.TheConstants.Entry.{NONE}
 use Rattle.st_lookup.specs.inside.Remembered.{on, IsOn, IsOff, watched, IsRemembered, AllRemembered, Grows, SameWatched, StaysIfOff}
-use Rattle.st_lookup.proofs.Carried.{IsOf, SameHalf, found_carried_on}
+use Rattle.st_lookup.proofs.Carried.{IsOf, SameHalf, found_carried_on, selector_met}
 use Rattle.st_model.proofs.SettledIs.{or_left, or_right, or_cases}
 
 -- what stands under a watched pointer
@@ -48,17 +48,21 @@ half_then : (t u w : Table) (v : Value) → SameHalf t u v → SameHalf u w v �
 half_then t u w (Small n) e f = tt
 half_then t u w (Ref n) e f = f ∙ e
 
+half_itself : (t : Table) (v : Value) → SameHalf t t v
+half_itself t (Small n) = tt
+half_itself t (Ref n) = refl
+
 half_back : (t u : Table) (v : Value) → SameHalf t u v → SameHalf u t v
 half_back t u (Small n) e = tt
 half_back t u (Ref n) e = sym e
 
 -- what is remembered is so of the whole table
-pub finds_all : (bits : List ℕ) (t : Table) (e : Entry) → IsRemembered bits t e → is_live t (value e.class) ≡ true → IsKnown t (value e.selector)
+pub finds_all : (bits : List ℕ) (t : Table) (e : Entry) → IsRemembered bits t e → is_live t (value e.class) ≡ true
     → Finds t (value e.class) (value e.selector) (value e.method)
-finds_all bits t e r live known =
+finds_all bits t e r live =
     found_carried_on (λ n. Unit {0}) (watched bits t) t
     (record { has = λ k o p f. (watched-entry bits t k o f).0; closed = λ k o i v p f g. anything v })
-    (value e.class) (value e.selector) (value e.method) (anything (value e.class)) (half_watched bits t (value e.selector) r.selector) (r.finds live known)
+    (value e.class) (value e.selector) (value e.method) (anything (value e.class)) (half_watched bits t (value e.selector) r.selector) (r.finds live)
 
 -- MORE IS WATCHED
 
@@ -73,12 +77,12 @@ remembered_grown old new t e g r =
     record {
       class = on_grown old new (value e.class) g r.class;
       selector = more;
-      finds = λ live known.
+      finds = λ live.
           found_carried_on (λ n. Unit {0}) (watched old t) (watched new t)
           (record { has = λ k o p f. let w = watched-entry old t k o f in entry-watched new t k o w.0 (g k w.1); closed = λ k o i v p f h. anything v })
           (value e.class) x (value e.method) (anything (value e.class))
           (half_then (watched old t) t (watched new t) x (half_watched old t x r.selector) (half_back (watched new t) t x (half_watched new t x more)))
-          (r.finds live known);
+          (r.finds live);
     }
 
 -- NO WATCHED OBJECT IS CHANGED
@@ -87,9 +91,6 @@ live_same : (bits : List ℕ) (t u : Table) (v : Value) → SameWatched bits t u
 unfolding is_live
 live_same bits t u (Small n) s h l = cc
 live_same bits t u (Ref n) s h l = ap is_some (sym (s n h)) ∙ l
-
-known_same : (bits : List ℕ) (t u : Table) (v : Value) → SameWatched bits t u → IsOn bits v → IsKnown u v → IsKnown t v
-known_same bits t u v s h l = λ e. live_same bits t u v s h (l e)
 
 half_same : (bits : List ℕ) (t u : Table) (v : Value) → SameWatched bits t u → IsOn bits v → SameHalf t u v
 half_same bits t u (Small n) s h = tt
@@ -101,13 +102,13 @@ remembered_same bits t u e s r =
     record {
       class = r.class;
       selector = r.selector;
-      finds = λ live known.
+      finds = λ live.
           found_carried_on (λ n. Unit {0}) (watched bits t) (watched bits u)
           (record { has = λ k o p f. let w = watched-entry bits t k o f in entry-watched bits u k o (s k w.1 ∙ w.0) w.1; closed = λ k o i v p f h. anything v })
           (value e.class) x (value e.method) (anything (value e.class))
           (half_then (watched bits t) t (watched bits u) x (half_watched bits t x r.selector)
           (half_then t u (watched bits u) x (half_same bits t u x s r.selector) (half_back (watched bits u) u x (half_watched bits u x r.selector))))
-          (r.finds (live_same bits t u (value e.class) s r.class live) (known_same bits t u x s r.selector known));
+          (r.finds (live_same bits t u (value e.class) s r.class live));
     }
 
 -- the table that is known to stay so
@@ -218,10 +219,6 @@ module _ (v w : View) (whole : IsWhole v) (s : SettlesTo v w) where
   live_member (Small n) l = cc
   live_member (Ref n) l = let o = some_is (entry w.objects n) l in let h = settled_off n o.0 o.1 in (is_some-of (entry v.objects n) o.0 h.0, h.1)
 
-  known_member : (x : Value) → IsKnown w.objects x → IsKnown v.objects x × IsOf (λ n. IsTrue (s.set n)) x
-  known_member (Small n) k = (λ e. cc, tt)
-  known_member (Ref n) k = let h = live_member (Ref n) (k refl) in (λ e. h.0, h.1)
-
   names_members : (k : ℕ) (o : Object) (i : ℕ) (x : Value) → IsTrue (s.set k) → entry v.objects k ≡ Some o → slice_get o.fields i ≡ Some x → IsOf (λ n. IsTrue (s.set n)) x
   names_members k o i (Small n) h e f = tt
   names_members k o i (Ref n) h e f =
@@ -238,24 +235,27 @@ module _ (v w : View) (whole : IsWhole v) (s : SettlesTo v w) where
       some_settled (Some o) None e f = let g = settled_on n o e h in cc
       some_settled (Some o) (Some p) e f = refl
 
+  -- what a search among watched objects that are members meets is there still, with the selector
   pub remembered_settled : (bits : List ℕ) (e : Entry) → IsRemembered bits v.objects e → IsRemembered bits w.objects e
   remembered_settled bits e r =
       let x = value e.selector in
+      let old = watched bits v.objects in
+      let new = watched bits w.objects in
+      let closed : (k : ℕ) (o : Object) (i : ℕ) (z : Value) → IsTrue (s.set k) → entry old k ≡ Some o → slice_get o.fields i ≡ Some z → IsOf (λ n. IsTrue (s.set n)) z =
+      λ k o i z p f h. names_members k o i z p (watched-entry bits v.objects k o f).0 h in
       record {
         class = r.class;
         selector = r.selector;
-        finds = λ live known.
+        finds = λ live.
             let c = live_member (value e.class) live in
-            let y = known_member x known in
-            found_carried_on (λ n. IsTrue (s.set n)) (watched bits v.objects) (watched bits w.objects)
-            (record {
-              has = λ k o p f. let g = watched-entry bits v.objects k o f in entry-watched bits w.objects k o (settled_on k o g.0 p) g.1;
-              closed = λ k o i z p f h. names_members k o i z p (watched-entry bits v.objects k o f).0 h;
-            })
+            let finds = r.finds c.0 in
+            let met = selector_met (λ n. IsTrue (s.set n)) old old (record { has = λ k o p f. f; closed = closed }) (value e.class) x (value e.method) c.1 (half_itself old x) finds in
+            found_carried_on (λ n. IsTrue (s.set n)) old new
+            (record { has = λ k o p f. let g = watched-entry bits v.objects k o f in entry-watched bits w.objects k o (settled_on k o g.0 p) g.1; closed = closed })
             (value e.class) x (value e.method) c.1
-            (half_then (watched bits v.objects) v.objects (watched bits w.objects) x (half_watched bits v.objects x r.selector)
-            (half_then v.objects w.objects (watched bits w.objects) x (same_member x y.1) (half_back (watched bits w.objects) w.objects x (half_watched bits w.objects x r.selector))))
-            (r.finds c.0 y.0);
+            (half_then old v.objects new x (half_watched bits v.objects x r.selector)
+            (half_then v.objects w.objects new x (same_member x met) (half_back new w.objects x (half_watched bits w.objects x r.selector))))
+            finds;
       }
 
   pub all_settled : (bits : List ℕ) (es : List Entry) → AllRemembered bits v.objects es → AllRemembered bits w.objects es
@@ -265,7 +265,7 @@ module _ (v w : View) (whole : IsWhole v) (s : SettlesTo v w) where
 
 pub none_remembered : (bits : List ℕ) (t : Table) → IsRemembered bits t NONE
 unfolding value_of is_live
-none_remembered bits t = record { class = refl; selector = refl; finds = λ live known. cc }
+none_remembered bits t = record { class = refl; selector = refl; finds = λ live. cc }
 
 pub nothing_remembered : (bits : List ℕ) (t : Table) (es : List Entry) (n : ℕ) → es ≡ replicate n NONE → AllRemembered bits t es
 nothing_remembered bits t es n q i e f =

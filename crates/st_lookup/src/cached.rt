@@ -307,7 +307,7 @@ impl<M: Memory> Memory for Cached<M> {
         }
     }
 
-    fn place(&self, o: Oop) -> u32 {
+    fn place(&self, o: Oop) -> Option<u32> {
         self.memory.place(o)
     }
 

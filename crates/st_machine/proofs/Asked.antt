@@ -18,7 +18,7 @@ use Rattle.st_model.specs.View.{View, IsWhole}
 use Rattle.st_simulation.proofs.Outside.{event_shown}
 use Rattle.st_simulation.proofs.Between.{shows_settled}
 use Rattle.st_simulation.proofs.CyclesSame.{store_process-same}
-use Rattle.st_input.specs.inside.Coming.{came}
+use Rattle.st_frames.specs.inside.Coming.{came}
 use Rattle.st_frames.specs.declared.frame.Frame.{Frame}
 use Rattle.st_frames.specs.inside.Shown.{shown, registers_of, IsReady}
 use Rattle.st_frames.proofs.Closed.{is_closed}

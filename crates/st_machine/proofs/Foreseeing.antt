@@ -1,22 +1,22 @@
 -- What a cycle of the code does, as the cycle over a table whose step is foreseen.
-use Rattle.std.proofs.Common.{◌≡◌, ℕ, ◌+◌, ◌-◌, Bool, true, false, refl, ◌∙◌, ap, sym, subst, Ok, Err, arith}
-use Rattle.std.specs.Prelude.{Result, nat_lt, nat_le, ◌&&◌, if◌then◌else◌}
+use Rattle.std.proofs.Common.{◌≡◌, ℕ, ◌+◌, ◌-◌, true, false, refl, ◌∙◌, ap, sym, Ok, Err, arith}
+use Rattle.std.specs.Prelude.{nat_lt, nat_le, ◌&&◌, if◌then◌else◌}
 use Rattle.std.proofs.lemmas.Bool.Decides.{nat_tests}
 use Rattle.st_model.specs.declared.dead.Dead.{Dead}
 use Rattle.st_model.specs.declared.demand.Demand.{Demand}
-use Rattle.st_model.specs.Outcomes.{Outcome, Ending, With, Space}
+use Rattle.st_model.specs.declared.outcome.Outcome.{Outcome as CodeOutcome}
+use Rattle.st_model.specs.Outcomes.{Outcome, Ending, With, Space, outcome_of}
 use Rattle.st_model.specs.Outcomes as outcome
 use Rattle.st_model.specs.Machine.{State, World, Transition, Died, Went, used, is_over}
 use Rattle.st_model.specs.Table.{Table, table, apart, bounded_table}
 use Rattle.st_model.specs.Bytecodes.{step}
-use Rattle.st_model.specs.Settled.{reclaim}
 use Rattle.st_model.specs.Objects.{nil}
 use Rattle.st_model.specs.Cycles.{made_between, free_space, less, capacity_of, check_process_switch, warned, warned_if_low}
 use Rattle.st_model.specs.inside.Foreseen.{foreseen, foreseen_from, foreseen_cycle, done, done_if_room}
 use Rattle.st_model.specs.View.{View, fits}
 use Rattle.st_control.specs.inside.Foreseen.{IsForeseen}
-use Rattle.st_at_once.specs.inside.AtOnce.{IsDoneAtOnce}
-use Rattle.st_machine.specs.inside.Cycling.{GoesAtOnce, GoesBy, Finishes, foreseen_step}
+use Rattle.st_machine.specs.inside.Cycling.{GoesBy, Finishes, foreseen_step}
+use Rattle.st_step.specs.inside.Doing.{IsDone}
 use Rattle.st_step.specs.inside.Planned.{Plans, plus}
 use Rattle.st_frames.specs.declared.frame.Frame.{Frame}
 use Rattle.st_frames.specs.inside.Shown.{shown, registers_of}
@@ -50,44 +50,35 @@ module _ (c : State Table) where
       let made : made_between apart c t ≡ d = ap (λ x. less x (used table c.memory)) h ∙ less_plus (used table c.memory) d in
       ap (done_if_room c t) over ∙ ap (λ x. Went (Space x (free_space table c)) c) made
 
-  with_room : (t : Transition (State Table) Outcome) (d : Demand) → (step apart).run c ≡ t → Plans (used table c.memory) t (Ok d) → is_over (plus (used table c.memory) d) c.head ≡ false
-      → IsForeseen c × (foreseen c t ≡ done c ((step bounded_table).run c))
-  with_room (Died a) d s h e = absurd h
-  with_room (Went o t) d s h e =
-      let over : is_over (used apart t.memory) c.head ≡ false = ap (λ x. is_over x c.head) h ∙ e in
-      (record { outcome = o; after = t; goes = s; fits = over }, ap (done_if_room c t) over)
+  fits_from : (t : Transition (State Table) Outcome) (d : Demand) → (step apart).run c ≡ t → Plans (used table c.memory) t (Ok d) → is_over (plus (used table c.memory) d) c.head ≡ false
+      → IsForeseen c
+  fits_from (Died a) d s h e = absurd h
+  fits_from (Went o t) d s h e = record { outcome = o; after = t; goes = s; fits = ap (λ x. is_over x c.head) h ∙ e }
 
   pub is_foreseen : (d : Demand) → Plans (used table c.memory) ((step apart).run c) (Ok d) → is_over (plus (used table c.memory) d) c.head ≡ false → IsForeseen c
-  is_foreseen d h e = (with_room ((step apart).run c) d refl h e).0
+  is_foreseen d h e = fits_from ((step apart).run c) d refl h e
 
   pub cycle_space : (d : Demand) → Plans (used table c.memory) ((step apart).run c) (Ok d) → is_over (plus (used table c.memory) d) c.head ≡ true
       → foreseen c ((step apart).run c) ≡ Went (Space d (free_space table c)) c
   cycle_space d h e = no_room ((step apart).run c) d h e
 
-  pub cycle_done : (d : Demand) (o : Outcome) (t u x : State Table) → Plans (used table c.memory) ((step apart).run c) (Ok d) → is_over (plus (used table c.memory) d) c.head ≡ false
-      → (step bounded_table).run c ≡ Went o t → reclaim table t ≡ u → warned table u ≡ x → foreseen c ((step apart).run c) ≡ Went (With o) x
-  cycle_done d o t u x h e s r w = (with_room ((step apart).run c) d refl h e).1 ∙ (ap (done c) s ∙ ap (λ y. Went (With o) y) (ap (warned table) r ∙ w))
-
-  -- a bytecode that was done at once
-  pub cycle_at_once : (d x : State Table) → IsForeseen c → (step bounded_table).run c ≡ Went outcome.Went d → warned table (reclaim table d) ≡ x → foreseen c ((step apart).run c) ≡ Went (With outcome.Went) x
-  cycle_at_once d x e s w = ap (foreseen c) e.goes ∙ (ap (done_if_room c e.after) e.fits ∙ (ap (done c) s ∙ ap (λ y. Went (With outcome.Went) y) w))
+  -- a bytecode that was done, by a plan or without one
+  pub cycle_done : (o : Outcome) (d x : State Table) → IsForeseen c → (step bounded_table).run c ≡ Went o d → Finishes d x → foreseen c ((step apart).run c) ≡ Went (With o) x
+  cycle_done o d x e s w = ap (foreseen c) e.goes ∙ (ap (done_if_room c e.after) e.fits ∙ (ap (done c) s ∙ ap (λ y. Went (With o) y) w))
 
   pub dies_at_once : (cause : Dead) → (step apart).run c ≡ Died cause → foreseen c ((step apart).run c) ≡ Died cause
   dies_at_once cause e = ap (foreseen c) e
 
 -- what is still to be done of the cycle of a bytecode that was done at once
 pub goes_by : (c d : State Table) → IsForeseen c × ((step bounded_table).run c ≡ Went outcome.Went d) → GoesBy (foreseen_step c) (Finishes d)
-goes_by c d h e w = cycle_at_once c d e h.0 h.1 w
+goes_by c d h e w = cycle_done c outcome.Went d e h.0 h.1 w
 
--- how a bytecode goes that was tried at once
-pub went_at_once : (c d x : State Table) (r : Result Bool Dead) → IsDoneAtOnce c r d → r ≡ Ok true → warned table (reclaim table d) ≡ x → GoesAtOnce c (Ok true) x
-went_at_once c d x r h e w = let k : IsDoneAtOnce c (Ok true) d = subst (λ y. IsDoneAtOnce c y d) e h in cycle_at_once c d x k.0 k.1 w
+-- how a bytecode goes that was done straight on, since there was room
+pub went_with_room : (c d x : State Table) (o : CodeOutcome) → IsDone c (Ok o) d → Finishes d x → foreseen_step c ≡ Went (With (outcome_of o)) x
+went_with_room c d x o h w = cycle_done c (outcome_of o) d x h.0 h.1 w
 
-pub stayed_at_once : (c d : State Table) (r : Result Bool Dead) → IsDoneAtOnce c r d → r ≡ Ok false → GoesAtOnce c (Ok false) d
-stayed_at_once c d r h e = subst (λ y. IsDoneAtOnce c y d) e h
-
-pub died_at_once : (c d x : State Table) (cause : Dead) → IsDoneAtOnce c (Err cause) d → GoesAtOnce c (Err cause) x
-died_at_once c d x cause h = dies_at_once c cause h
+pub died_with_room : (c d : State Table) (cause : Dead) → IsDone c (Err cause) d → foreseen_step c ≡ Died cause
+died_with_room c d cause h = dies_at_once c cause h
 
 -- what came before the bytecode
 

@@ -1,10 +1,8 @@
 ghost use Rattle.std.specs.Prelude.{◌≡◌, OnErr};
-ghost use Rattle.st_frames.specs.inside.Shown.{IsReady, shown};
-ghost use Rattle.st_input.specs.inside.Coming.{HasPlace};
+ghost use Rattle.st_frames.specs.inside.{Coming.HasPlace, Shown.{IsReady, shown}};
 ghost use Rattle.st_machine.specs.inside.Asked.{ComesFrom};
 
 use st_frames::{Frame, World};
-use st_input::Events;
 use st_memory::Memory;
 use st_model::{Event, InputFull};
 

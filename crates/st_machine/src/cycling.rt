@@ -7,11 +7,10 @@ ghost use Rattle.st_machine.specs.{inside.Cycling.{Finishes, GoesAtOnce, foresee
 
 use crate::switching::check_process_switch;
 use st_at_once::step_at_once;
-use st_frames::{Frame, World};
-use st_input::signal_once;
+use st_frames::{Frame, World, signal_once};
 use st_memory::Memory;
 use st_model::{Dead, Demand, Device, Outcome};
-use st_step::{plan, step};
+use st_step::{do_with_room, has_room, plan, step};
 
 /// How a cycle ended in which the machine didn't die.
 #[derive(Clone, Copy)]
@@ -75,9 +74,9 @@ pub fn finish<M: Memory>(m: &mut M, f: &Frame, w: &mut World)
     warn(m, w);
 }
 
-/// The next bytecode is foreseen, and done where there is room for what it makes; and then what comes after it. For want of
-/// room nothing is changed.
-pub fn foresee<M: Memory>(m: &mut M, f: &mut Frame, w: &mut World) -> Result<CycleEnd, Dead>
+/// The next bytecode is foreseen, and done if there is room for what it makes; and then what comes after it. For want of room
+/// nothing is changed.
+fn foresee<M: Memory>(m: &mut M, f: &mut Frame, w: &mut World) -> Result<CycleEnd, Dead>
     requires ready { IsReady (M.view m.old) f.old w.old }
     ensures step { foreseen_step (shown (M.view m.old) f.old w.old)
         ≡ transition_of ending_of result (shown (M.view m.new) f.new w.new) }
@@ -93,7 +92,23 @@ pub fn foresee<M: Memory>(m: &mut M, f: &mut Frame, w: &mut World) -> Result<Cyc
     Ok(CycleEnd::With(outcome))
 }
 
-/// The next bytecode is done at once, and then what comes after it; or it is to be foreseen, and nothing is changed.
+/// The next bytecode is done straight on if there is room for whatever a bytecode may make, and is foreseen if there isn't; and
+/// then what comes after it.
+pub fn do_or_foresee<M: Memory>(m: &mut M, f: &mut Frame, w: &mut World) -> Result<CycleEnd, Dead>
+    requires ready { IsReady (M.view m.old) f.old w.old }
+    ensures step { foreseen_step (shown (M.view m.old) f.old w.old)
+        ≡ transition_of ending_of result (shown (M.view m.new) f.new w.new) }
+    ensures ready { OnOk result (IsReady (M.view m.new) f.new w.new) }
+{
+    if !has_room(m) {
+        return foresee(m, f, w);
+    }
+    let outcome = do_with_room(m, f, w)?;
+    finish(m, f, w);
+    Ok(CycleEnd::With(outcome))
+}
+
+/// The next bytecode is done at once, and then what comes after it; or it can't be done so, and nothing is changed.
 fn do_at_once<M: Memory>(m: &mut M, f: &mut Frame, w: &mut World) -> Result<bool, Dead>
     requires ready { IsReady (M.view m.old) f.old w.old }
     ensures step { GoesAtOnce (shown (M.view m.old) f.old w.old) result
@@ -107,7 +122,7 @@ fn do_at_once<M: Memory>(m: &mut M, f: &mut Frame, w: &mut World) -> Result<bool
     Ok(done)
 }
 
-/// The next bytecode is done at once, or else foreseen; and then what comes after it.
+/// The next bytecode is done, or has no room; and after it what comes then. Most are done at once.
 pub fn do_next<M: Memory>(m: &mut M, f: &mut Frame, w: &mut World) -> Result<CycleEnd, Dead>
     requires ready { IsReady (M.view m.old) f.old w.old }
     ensures step { foreseen_step (shown (M.view m.old) f.old w.old)
@@ -117,12 +132,12 @@ pub fn do_next<M: Memory>(m: &mut M, f: &mut Frame, w: &mut World) -> Result<Cyc
     if do_at_once(m, f, w)? {
         return Ok(CycleEnd::With(Outcome::Went));
     }
-    foresee(m, f, w)
+    do_or_foresee(m, f, w)
 }
 
-/// One cycle: pending signals are made and a process switch that waits is done; the next bytecode is done at once, or
-/// foreseen, and done where there is room for what it makes; what nothing supports any more is dropped; and where space is
-/// low that is told. For want of room what came before the bytecode stands.
+/// One cycle: pending signals are made and a process switch that waits is done; the next bytecode is done if there is room for
+/// what it makes; what nothing supports any more is dropped; and if space is low that is told. For want of room what came before
+/// the bytecode stands.
 pub fn cycle<M: Memory>(m: &mut M, f: &mut Frame, w: &mut World) -> Result<CycleEnd, Dead>
     requires ready { IsReady (M.view m.old) f.old w.old }
     ensures cycle { foreseen_cycle (shown (M.view m.old) f.old w.old)

@@ -1,10 +1,9 @@
 ghost use Rattle.std.specs.{Prelude.{◌≡◌, Some, None, Err, OnErr}, Borrow.sem};
 ghost use Rattle.st_model.specs.Show.{Shows, raised};
-ghost use Rattle.st_frames.specs.inside.Shown.{IsReady, shown};
+ghost use Rattle.st_frames.specs.inside.{Coming.HasPlace, Shown.{IsReady, shown}};
 ghost use Rattle.st_machine.specs.{inside.Machines.lends_memory, inside.Asked.{ComesFrom, SavesFrom, death_by}};
 ghost use Rattle.st_machine.specs.{Prepared.PreparesFrom, inside.Runs.{EndsFrom, CountsCycles, death_of}};
 ghost use Rattle.st_machine.specs.declared.ending.RunEnd.TheVariants.{Dead as DeadEnd};
-ghost use Rattle.st_input.specs.inside.Coming.{HasPlace};
 
 use crate::coming::come;
 use crate::ending::RunEnd;

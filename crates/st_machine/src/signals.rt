@@ -3,8 +3,8 @@ ghost use Rattle.st_model.specs.{Values.value, Table.bounded_table, Processes.si
 ghost use Rattle.st_model.specs.{Cycles.{signal_next, signal_newest}, inside.Calls.{Does, itself}};
 ghost use Rattle.st_frames.specs.inside.Shown.{IsReady, shown};
 
-use st_frames::{Frame, World, load};
-use st_input::{carry_out, take_newest_signal};
+use st_frames::{Frame, World, load, take_newest_signal};
+use st_input::carry_out;
 use st_memory::Memory;
 use st_model::{Dead, Oop, Word};
 use st_process::signal;

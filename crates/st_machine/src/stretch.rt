@@ -15,7 +15,7 @@ use st_model::{Dead, Deed};
 /// Why a stretch ended before as many cycles were done as were asked for.
 #[derive(Clone, Copy)]
 pub enum StretchEnd {
-    /// The next bytecode is to be foreseen.
+    /// The next bytecode can't be done at once.
     ToForesee,
     /// The next bytecode was done but for a deed, which is left to be done; and then what comes after it.
     Leaves,

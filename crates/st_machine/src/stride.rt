@@ -4,7 +4,7 @@ ghost use Rattle.st_model.specs.Events.{is_held};
 ghost use Rattle.st_frames.specs.inside.Shown.{IsReady, shown};
 ghost use Rattle.st_machine.specs.inside.Strides.{Follows, Strides};
 
-use crate::cycling::{CycleEnd, cycle, do_next, finish, foresee, warn};
+use crate::cycling::{CycleEnd, cycle, do_next, do_or_foresee, finish, warn};
 use crate::stretch::{StretchEnd, go_on};
 use st_frames::{Frame, World};
 use st_input::carry_out;
@@ -28,7 +28,7 @@ fn is_calm(w: &World) -> bool
     w.pending_count() == 0 && !w.holds(Device::NewProcess)
 }
 
-/// The cycle after a stretch that ended so, or what is left of it. What is to be foreseen isn't tried again.
+/// The cycle after a stretch that ended so, or what is left of it. A bytecode that can't be done at once isn't tried so again.
 fn do_after<M: Memory>(
     m: &mut M,
     f: &mut Frame,
@@ -43,7 +43,7 @@ fn do_after<M: Memory>(
 {
     match end? {
         None => return do_next(m, f, w),
-        Some(StretchEnd::ToForesee) => return foresee(m, f, w),
+        Some(StretchEnd::ToForesee) => return do_or_foresee(m, f, w),
         Some(StretchEnd::Leaves) => {
             carry_out(m, w, left);
             finish(m, f, w);

@@ -3,7 +3,8 @@
 ghost use Rattle.st_frames.specs.Naming.{IsNaming};
 
 use crate::image::quiet_b;
-use st_input::{Event, Events, InputFull, World, add_signal, hold, take_newest_signal};
+use st_frames::{add_signal, hold_device, take_newest_signal};
+use st_input::{Event, InputFull, World};
 use st_memory::{Loader, Memory};
 use st_model::{Device, Oop, RootPlace};
 use std::alloc::AllocGlobal;
@@ -122,7 +123,7 @@ fn hold_semaphore<M: Memory>(m: &mut M, w: &mut World, device: Device) -> bool
     if !m.live(SEMAPHORE) {
         return false;
     }
-    hold(m, w, device, SEMAPHORE);
+    hold_device(m, w, device, SEMAPHORE);
     true
 }
 

@@ -6,8 +6,8 @@ ghost use Rattle.st_frames.specs.inside.Shown.{IsReady};
 use crate::calls::{are_first, are_used, make, write, write_first};
 use crate::events::are_waiting;
 use crate::image::{Image, plan_of, ready};
-use st_frames::{Frame, Loaded};
-use st_input::{World, hold};
+use st_frames::{Frame, Loaded, hold_device};
+use st_input::World;
 use st_machine::{Machine, RunEnd};
 use st_memory::{Loader, Memory};
 use st_model::{Dead, Device, Event, Kind, Oop};
@@ -77,7 +77,7 @@ fn hold_first<M: Memory>(loaded: &mut Loaded<M>, w: &mut World, device: Device, 
     if !loaded.memory.live(object) {
         return false;
     }
-    hold(&mut loaded.memory, w, device, object);
+    hold_device(&mut loaded.memory, w, device, object);
     true
 }
 

@@ -124,7 +124,7 @@ impl<M: Memory> Memory for Counting<M> {
         self.memory.remember(class, selector, method);
     }
 
-    fn place(&self, o: Oop) -> u32 {
+    fn place(&self, o: Oop) -> Option<u32> {
         self.memory.place(o)
     }
 

@@ -140,7 +140,7 @@ impl<M: Memory> Objects for M {
         if count < 6 {
             return None;
         }
-        let place = self.place(object);
+        let place = self.place(object)?;
         Some(ContextFields {
             instruction_pointer: Word::from(self.placed_pointer(object, place, 1)),
             stack_pointer: Word::from(self.placed_pointer(object, place, 2)),
@@ -376,11 +376,10 @@ impl<M: Memory> Objects for M {
             Ok(class) => class,
             Err(_) => return None,
         };
-        let selector = match live_value(self, selector) {
-            Some(selector) => selector,
-            None => return None,
-        };
-        match Memory::remembered(self, class, selector) {
+        if selector.0 > 65535 {
+            return None;
+        }
+        match Memory::remembered(self, class, Oop(selector.0 as u16)) {
             Some(method) => Some(Word::from(method)),
             None => None,
         }

@@ -1,4 +1,4 @@
-ghost use Rattle.std.specs.Prelude.{ℕ, ◌≡◌, ◌<◌, ◌≤◌, ◌+◌, ◌-◌, ◌/◌, length, slice_get, Some, true, false, IfSome, IfNone};
+ghost use Rattle.std.specs.Prelude.{ℕ, ◌≡◌, ◌<◌, ◌≤◌, ◌+◌, ◌-◌, ◌/◌, length, slice_get, Some, true, false, IfSome, IfNone, ⊤};
 ghost use Rattle.st_model.specs.{declared.oop.Oop.Oop, Values.{Value, value, Ref}};
 ghost use Rattle.st_model.specs.Objects.{is_method, is_words, size_of, words_of, first_unit, one};
 ghost use Rattle.st_model.specs.Table.{total_used, first_free, placed};
@@ -14,8 +14,8 @@ pub trait Memory: Drop {
     /// What it contains: the objects by halved pointers, what is held, and the head.
     ghost view: { Self → View };
 
-    /// At which place the body of an object stands. Calls that have a clause `places` leave it there.
-    ghost stands: { Self → Value → ℕ → Type 0 };
+    /// At which place the body of an object stands, if it has one. Calls that have a clause `places` leave it there.
+    ghost stands: { Self → Value → ℕ → Type 0 } = { λ m v place. ⊤ };
 
     /// Whether o is the pointer of a kept object.
     fn live(&self, o: Oop) -> bool
@@ -238,8 +238,7 @@ pub trait Memory: Drop {
 
     /// The method that is remembered for a selector in a class, if one is: it is the one that the search finds.
     fn remembered(&self, _class: Oop, _selector: Oop) -> Option<Oop>
-        requires class { is_live (view self.now).objects (value _class) ≡ true }
-        requires selector { IsKnown (view self.now).objects (value _selector) }
+        requires { is_live (view self.now).objects (value _class) ≡ true }
         ensures { IfSome result (λ method.
             Finds (view self.now).objects (value _class) (value _selector) (value method)) }
     {
@@ -253,10 +252,13 @@ pub trait Memory: Drop {
         ensures places { KeepsPlaces (stands self.old) (stands self.new) }
     {}
 
-    /// The place at which the body of an object stands.
-    fn place(&self, o: Oop) -> u32
-        requires { is_live (view self.now).objects (value o) ≡ true }
-        ensures { stands self.now (value o) result };
+    /// The place at which the body of an object stands; None in a memory that reads and stores by pointers alone.
+    fn place(&self, _o: Oop) -> Option<u32>
+        requires { is_live (view self.now).objects (value _o) ≡ true }
+        ensures { IfSome result (stands self.now (value _o)) }
+    {
+        None
+    }
 
     /// Field `at` of an object whose body stands at a place; of a Method 0 is the header, and the literals follow.
     fn placed_pointer(&self, o: Oop, _place: u32, at: u32) -> Oop

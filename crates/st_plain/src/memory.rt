@@ -1,4 +1,4 @@
-ghost use Rattle.std.specs.Prelude.{◌≡◌, ⊤};
+ghost use Rattle.std.specs.Prelude.{◌≡◌};
 ghost use Rattle.st_model.specs.View.{IsWhole};
 ghost use Rattle.st_plain.specs.inside.Plain.{plain_view, AreLong};
 ghost use Rattle.st_model.specs.inside.Props.{IsWhole-prop};
@@ -28,8 +28,6 @@ impl PlainMemory {
 
 impl Memory for PlainMemory {
     ghost view = { λ m. plain_view m.contents };
-
-    ghost stands = { λ m v place. ⊤ };
 
     fn live(&self, o: Oop) -> bool {
         self.contents.objects.live(o)
@@ -135,10 +133,6 @@ impl Memory for PlainMemory {
 
     fn symbols(&self) -> Oop {
         self.contents.head.symbols
-    }
-
-    fn place(&self, _o: Oop) -> u32 {
-        0
     }
 
     ghost whole = { λ m. m.whole };

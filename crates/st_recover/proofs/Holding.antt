@@ -1,6 +1,7 @@
 -- What an archive holds goes on as its store and its list do.
 use Rattle.std.proofs.Common.{◌≡◌, inl, ℕ, ◌-◌, Bool, List, [], ◌∷◌, ◌++◌, length, Option, IsTrue, sym, subst, ap, ◌∙◌, arith, length-append}
 use Rattle.std.specs.Prelude.{All, Some, Result, IsErr, unwrap_or, nat_lt}
+use Rattle.std.specs.Option.{ForSome}
 use Rattle.std.proofs.lemmas.List.{append-nil}
 use Rattle.st_host.specs.Runs.{WritesAbove, IsSynced, Makes}
 use Rattle.st_host.specs.declared.host.Host.{Ghosts}
@@ -21,6 +22,10 @@ use Rattle.st_recover.proofs.Beside.{same_pair, still_kept, written_makes, image
 
 pub some_same : {x y : StoreState} → Some x ≡ Some y → x ≡ y
 some_same {x = x} e = ap (λ (o : Option StoreState). unwrap_or o x) e
+
+-- what is so of its store, as the code takes it
+pub for_store : (store : Option StoreState) (st : StoreState) (P : StoreState → Type 0) → store ≡ Some st → P st → ForSome store P
+for_store store st P there holds x is = subst P (some_same (sym there ∙ is)) holds
 
 -- one entry more
 pub store_grown : (name same : List ℕ) (second still : Bool) (ds es : List Definition) (d : Definition) (st next : StoreState) → IsStoreOf name second ds st → next ≡ next_store st (entry d) → same ≡ name → still ≡ second → es ≡ ds ++ d ∷ [] → IsStoreOf same still es next

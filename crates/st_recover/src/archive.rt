@@ -1,13 +1,13 @@
 // What a session keeps.
-ghost use Rattle.std.specs.Prelude.{◌≡◌, ◌-◌, ℕ, List, Some, None, IsTrue, IfErr, IfOk, OnOk, OnErr, IsSome, length};
+ghost use Rattle.std.specs.{Prelude.{◌≡◌, ◌-◌, ℕ, List, Some, None, IsTrue, IfErr, IfOk, OnOk, OnErr, IsSome, length}, Option.ForSome};
 ghost use Rattle.st_host.specs.{Counts.HasCause, Runs.{Makes, Spares}};
 ghost use Rattle.st_image.specs.inside.Back.{CanStart};
 ghost use Rattle.st_chunk.specs.{Definitions.{IsDefinition, entries}, inside.ScriptDefinitions.definition_of};
 ghost use Rattle.st_changes.specs.{Last.HasSelector, inside.Views.{definition_of as kept_definition}};
-ghost use Rattle.st_store.specs.{Names.IsNoFileOf, Faults.RestsUnlessGate};
+ghost use Rattle.st_store.specs.{Names.{IsNoFileOf, image_file}, Faults.RestsUnlessGate};
 ghost use Rattle.st_protocol.specs.{inside.Obeying.Obeys, declared.status.Status.TheVariants.DiskFault};
 ghost use Rattle.st_protocol.specs.Statuses.{Counts};
-ghost use Rattle.st_recover.specs.inside.Archives.{Holds, IsStoreOf, IsOfKeeping};
+ghost use Rattle.st_recover.specs.inside.Archives.{Holds, IsStoreOf, IsBesideChanges, IsBesideImage, IsOfKeeping};
 ghost use Rattle.st_recover.specs.Commits.{Commit, OpensAs, accepting, imaged, image_in, other_image};
 
 use st_changes::{Changes, Definition as KeptDefinition};
@@ -112,6 +112,9 @@ impl Archive {
             → Obeys H.Host.own (OpensAs self.old.name) (IsNoFileOf self.old.name)
             (Holds H.Host.own host.new self.new) (λ d. d) c
             (accepting c (definition_of definition.now)) result host.old host.new }
+        // No file is touched but the roots file and the changes file in use.
+        ensures alone { ForSome self.old.store
+            (λ s. Spares H.Host.own (IsBesideChanges s) host.old host.new) }
         ensures untouched { IfErr result (λ e. (e ≡ DiskFault → ⊥) → host.new ≡ host.old) }
         ensures closed { IfErr result (λ e. e ≡ DiskFault → self.new.store ≡ None) }
         ensures stays { IfErr result (λ e. (e ≡ DiskFault → ⊥) → self.new ≡ self.old) }
@@ -158,6 +161,11 @@ impl Archive {
             → Holds H.Host.own host.new self.new (imaged c (image_in (M.view m.now)))) }
         ensures closed { OnErr result (self.new.store ≡ None) }
         ensures spares { Spares H.Host.own (IsNoFileOf self.old.name) host.old host.new }
+        // No file is touched but the roots file and the image file that wasn't in use, which then has just the image.
+        ensures alone { ForSome self.old.store
+            (λ s. Spares H.Host.own (IsBesideImage s) host.old host.new) }
+        ensures file { OnOk result (ForSome self.old.store (λ s. let file = image_file s.name (other_image s.root.slot) in
+            IsTrue H.is_told → H.files host.new file ≡ Some (image_in (M.view m.now)))) }
         ensures say_count { H.say_faults host.new ≡ H.say_faults host.old }
         ensures cause { HasCause (H.disk_faults host.old) (H.disk_faults host.new) result }
     {

@@ -1,8 +1,7 @@
 ghost use Rattle.std.specs.Prelude.{◌≡◌, None, Some};
 ghost use Rattle.st_host.specs.inside.Telling.{Says};
 ghost use Rattle.st_model.specs.{Machine.State, Births.{Births, births}, Events.event, Show.Shows};
-ghost use Rattle.st_frames.specs.inside.Shown.{IsReady};
-ghost use Rattle.st_input.specs.inside.Coming.{HasPlace};
+ghost use Rattle.st_frames.specs.inside.{Coming.HasPlace, Shown.IsReady};
 ghost use Rattle.st_call.specs.{inside.Saying.Pushes, Replies.machine_text};
 ghost use Rattle.st_chunk.specs.{Lines.IsInRange, Reading.Place, Scripts.asked_at};
 ghost use Rattle.st_install.specs.Defining.{installed};

@@ -5,7 +5,7 @@
 ghost use Rattle.st_model.specs.Table.{bounded_table};
 ghost use Rattle.st_model.specs.Bytecodes.{step};
 ghost use Rattle.st_model.specs.inside.Foreseen.{KeepsClosed};
-ghost use Rattle.st_simulation.specs.inside.Laws.{ApartForetells, BoundedDoes, StepMissesNothing, SwitchMissesNothing, StoreMissesNothing, RunsShow, RunsCount, StartShows, EventShows, SaveShows};
+ghost use Rattle.st_simulation.specs.inside.Laws.{ApartForetells, BoundedDoes, StepMissesNothing, SwitchMissesNothing, StoreMissesNothing, RunsShow, RunsCount, StartShows, EventShows, SaveShows, KeptAreWords};
 
 /// The first law that joins the book's machine to the code's: a step that is foreseen over a table of 32768 places, where
 /// new objects stand apart, ends as the step over the births that the table shows: it dies of the same cause, or goes on with
@@ -56,4 +56,9 @@ pub fn event_shows_births()
 /// both die of one cause.
 pub fn save_shows_births()
     ensures { SaveShows }
+{}
+
+/// A SmallInteger in a kept object over births has at most 15 bits, as in the table that shows it.
+pub fn kept_are_words()
+    ensures { KeptAreWords }
 {}

@@ -6,9 +6,8 @@ ghost use Rattle.st_step.specs.inside.Trying.{try_primitive, is_said_there, end_
 
 use crate::numbers::tried_number;
 use crate::stepping::deed_of;
-use crate::tried::Tried;
 use st_frames::{Frame, Registers, World, hold, load};
-use st_input::carry_out;
+use st_input::{Tried, carry_out};
 use st_memory::{Memory, live_value};
 use st_model::{Dead, Outcome, StepEnd};
 

@@ -16,10 +16,8 @@ mod roomy;
 mod rows;
 mod send;
 mod stepping;
-mod tried;
 
 pub use calling::try_primitive;
 pub use doing::{do_with_room, has_room};
 pub use laws::execution_tries_by_number;
 pub use stepping::{plan, step};
-pub use tried::Tried;

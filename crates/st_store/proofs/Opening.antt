@@ -9,7 +9,7 @@ use Rattle.st_host.proofs.Joining.{weaker, moments_join, alike_join, synced_on}
 use Rattle.st_host.proofs.Touching.{narrows_but, changes_but, but_join, changes_spare, spares_join, spares_fewer}
 use Rattle.st_store.specs.Names.{roots_file, changes_file, image_file, IsNoFileOf}
 use Rattle.st_store.specs.Roots.{place, Chooses, IsFresh}
-use Rattle.st_store.specs.Refusals.{Fit, RefusesFront, RefusesNumbers, Refuses}
+use Rattle.st_store.specs.Refusals.{Fit, RefusesFront, RefusesNumbers, Refuses, IsRefusal}
 use Rattle.st_store.specs.Stored.{Stored, Begins, Opens, IsChosen, IsStaged, IsReady, OpensAsOne, IsOpening, stored_in}
 use Rattle.st_store.specs.declared.root.Root.{Root}
 use Rattle.st_store.specs.declared.fault.StorePlace.TheVariants.{Roots, Changes as ChangesPlace}
@@ -25,6 +25,9 @@ front_refuses name f (NotAStore (Roots at)) why = inl why
 front_refuses name f (NotAStore (ChangesPlace at)) why = why
 front_refuses name f Disk why = tt
 front_refuses name f OutOfMemory why = tt
+
+pub refusal_is_of_files : (e : StoreFault) → IsRefusal e → e ≡ Disk → ⊥
+refusal_is_of_files e is same = subst IsRefusal same is
 
 pub numbers_refuse : (name : List ℕ) (f : Files) (k : ℕ) (root : Root) (e : StoreFault) → Chooses k root (f (roots_file name)) → root.slot ≤ 3
     → RefusesNumbers k root (length (bytes_of (f (image_file name root.slot)))) (length (bytes_of (f (changes_file name root.slot)))) e → Refuses name f e
@@ -121,6 +124,10 @@ module _ {D : Type 0} (host : Ghosts D) (name : List ℕ) where
 
   pub only_looked : (a c : D) → IsTrue host.is_told → Narrows host a c → LeavesOnly host a c (λ f s. (s ≡ host.said a) × IsOpening host a name f)
   only_looked a c told narrows = weaker host a c (λ f s. (s ≡ host.said a) × IsOpening host a name f) (Here (host.may_leave a) (host.said a)) (narrows.moments told) (λ f s here. (here.1, inl here.0))
+
+  -- a file that was synced stays so where it is left alone
+  pub still_synced : (n : List ℕ) (names : List ℕ → Type 0) (a b : D) → names n → Spares host names a b → IsSynced host n a → IsSynced host n b
+  still_synced n names a b is spares synced = record { is = λ told c can. synced.is told c (spares.fewer told n c is can) ∙ sym (spares.files told n is) }
 
   -- what was read opens
   pub read_opens : (a m : D) (c : Stored) (k : ℕ) → IsTrue host.is_told → ReadsAlike host a m → ((n : List ℕ) → host.may_leave m n (host.files m n)) → IsChosen host m name k c

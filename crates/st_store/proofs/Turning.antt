@@ -186,6 +186,11 @@ module _ {D : Type 0} (host : Ghosts D) (name : List ℕ) where
           firm = firm_on a b e firm apart.fewer;
         }
 
+  -- a file beside the roots file that was synced stays so
+  pub synced_beside : (n : List ℕ) (a b : D) → n ≢ roots_file name → (IsTrue host.is_told → Apart (roots_file name) (host.files a) (host.files b) (host.may_leave a) (host.may_leave b))
+      → IsSynced host n a → IsSynced host n b
+  synced_beside n a b other apart synced = record { is = λ told x can. synced.is told x ((apart told).fewer n x other can) ∙ sym ((apart told).files n other) }
+
   -- the same facts, by the name and the number of bytes that the code has
   pub writes_as : (n : List ℕ) (at k l : ℕ) (a b : D) → n ≡ roots_file name → k ≡ l → Writes host n at k a b → Writes host (roots_file name) at l a b
   writes_as n at k l a b is long writes = subst (λ (x : ℕ). Writes host (roots_file name) at x a b) long (subst (λ (x : List ℕ). Writes host x at k a b) is writes)

@@ -93,6 +93,14 @@ IsOfOpening (NotAStore (Changes at)) = ⊥
 IsOfOpening Disk = ⊤
 IsOfOpening OutOfMemory = ⊤
 
+-- the faults that the roots file shows, or what its root names
+abbrev pub IsRefusal : StoreFault → Type 0
+IsRefusal Missing = ⊤
+IsRefusal Exists = ⊥
+IsRefusal (NotAStore place) = ⊤
+IsRefusal Disk = ⊥
+IsRefusal OutOfMemory = ⊥
+
 -- the faults of making a store, on any host
 abbrev pub IsOfMaking : StoreFault → Type 0
 IsOfMaking Missing = ⊥

@@ -110,6 +110,8 @@ fn prepare<H: Host>(host: &mut H, names: &Names) -> Result<(), HostFault>
     ensures emptied { OnOk result (let changes = changes_file (string_bytes names.now.name) 0 in
         IsTrue H.is_told
         → H.files host.new changes ≡ Some []) }
+    ensures synced { OnOk result (let changes = changes_file (string_bytes names.now.name) 0 in
+        IsSynced H.Host.own changes host.new) }
     ensures changes { let name = string_bytes names.now.name in
         ChangesBoth H.Host.own (changes_file name 0) (roots_file name) host.old host.new }
     ensures cause { HasCause (H.disk_faults host.old) (H.disk_faults host.new) result }
@@ -180,6 +182,7 @@ pub fn found<H: Host>(
         → Leaves H.Host.own host.old (roots_file new_store) (λ file. bytes_of file ≡ [])
         → H.files host.new (roots_file new_store) ≡ Some (first_file (first_root image_length))) }
     ensures emptied { OnOk result (IsTrue H.is_told → H.files host.new (changes_file new_store 0) ≡ Some []) }
+    ensures synced { OnOk result (IsSynced H.Host.own (changes_file new_store 0) host.new) }
 
     ensures changes { ChangesBoth H.Host.own (changes_file new_store 0) (roots_file new_store)
         host.old host.new }

@@ -5,7 +5,7 @@ ghost use Rattle.st_host.specs.Files.{bytes_of};
 ghost use Rattle.st_host.specs.Runs.{LeavesOnly, ReadsAlike, Narrows, NarrowsBut, Changes, Spares, IsSynced, Makes};
 ghost use Rattle.st_store.specs.Names.{roots_file, IsNoFileOf};
 ghost use Rattle.st_store.specs.Roots.{Chooses, IsFresh};
-ghost use Rattle.st_store.specs.Refusals.{IsWrongNumber, Fit, RefusesFront, RefusesNumbers, Refuses, IsOfOpening, FaultHasCause};
+ghost use Rattle.st_store.specs.Refusals.{IsWrongNumber, Fit, RefusesFront, RefusesNumbers, Refuses, IsOfOpening, IsRefusal, FaultHasCause};
 ghost use Rattle.st_store.specs.Stored.{Opens, IsSound, IsChosen, WhereChosen, IsKept, IsReady, IsOpening, OpensAsOne, stored_in};
 ghost use Rattle.st_store.specs.Faults.{SyncsFirst, TriesSync, HasSettled, Settles};
 ghost use Rattle.st_store.specs.declared.fault.StoreFault.TheVariants.{NotAStore, Disk};
@@ -35,6 +35,7 @@ fn look<H: Host>(host: &mut H, roots: &str) -> Result<Chosen, StoreFault>
     ensures refused { IfErr result (λ e. IsTrue H.is_told → RefusesFront (H.files host.old roots.now) e) }
     ensures kind { IfErr result IsOfOpening }
     ensures synced { OnOk result (IsSynced H.Host.own roots.now host.new) }
+    ensures firm { IfErr result (λ e. (e ≡ Disk → ⊥) → IsSynced H.Host.own roots.now host.new) }
     ensures first { OnOk result (SyncsFirst H.Host.own roots.now host.old host.new) }
     ensures tried { OnErr result (TriesSync H.Host.own roots.now host.old host.new) }
     ensures alike { OnOk result (ReadsAlike H.Host.own host.old host.new) }
@@ -122,6 +123,8 @@ fn seek<H: Host>(host: &mut H, names: &Names) -> Result<Chosen, StoreFault>
         SyncsFirst H.Host.own roots host.old host.new) }
     ensures tried { OnErr result (let roots = roots_file (string_bytes names.now.name) in
         TriesSync H.Host.own roots host.old host.new) }
+    ensures synced { IfErr result (λ e. (e ≡ Disk → ⊥)
+        → IsSynced H.Host.own (roots_file (string_bytes names.now.name)) host.new) }
     ensures alike { OnOk result (ReadsAlike H.Host.own host.old host.new) }
     ensures narrows { Narrows H.Host.own host.old host.new }
     ensures spares { Spares H.Host.own (IsNoFileOf (string_bytes names.now.name)) host.old host.new }
@@ -167,6 +170,9 @@ pub fn open_store<H: Host>(alloc: Global, host: &mut H, name: &str) -> Result<St
     ensures refused { IfErr result (λ e. IsTrue H.is_told → Refuses name.now (H.files host.old) e) }
     ensures kind { IfErr result IsOfOpening }
     ensures writes_nothing { IfErr result (λ e. (e ≡ Disk → ⊥) → Narrows H.Host.own host.old host.new) }
+    // A roots file that is refused, or whose root is, was synced: no stop makes another of it.
+    ensures synced { IfErr result (λ e. IsRefusal e
+        → IsSynced H.Host.own (roots_file name.now) host.new) }
 
     // A stop at any moment leaves what it could leave before, or files that open as those that were read.
     ensures moments { IsTrue H.is_told → LeavesOnly H.Host.own host.old host.new

@@ -7,7 +7,7 @@ use byteorder::{BigEndian, ByteOrder};
 /// What a store has at one time: an image, and the changes file up to a length.
 #[derive(Clone, Copy, Debug, PartialEq, Eq)]
 pub struct Root {
-    /// The image file: 0 for `.a`, 1 for `.b`.
+    /// The files: 0 if the image is in `.a`, 1 if in `.b`, and 2 more if the changes are in `.changes2`.
     pub slot: u64,
     /// The length of the image in bytes.
     pub image_length: u64,

@@ -4,7 +4,7 @@ use Rattle.std.specs.Int.{bit_at}
 use Rattle.st_model.specs.Values.{Value, Small, Ref, value}
 use Rattle.st_model.specs.Objects.{Object}
 use Rattle.st_model.specs.Table.{Table, entry, settled_table}
-use Rattle.st_model.specs.View.{is_live, IsKnown}
+use Rattle.st_model.specs.View.{is_live}
 use Rattle.st_memory.specs.inside.Searched.{Finds}
 use Rattle.st_lookup.specs.declared.entry.Entry.{Entry}
 use Rattle.st_lookup.specs.declared.entry.TheConstants.Entry.{NONE}
@@ -39,11 +39,11 @@ object_at t (Ref n) = entry t n
 abbrev pub IsSeen : List ℕ → Table → Value → Type 0
 IsSeen bits t v = object_at (watched bits t) v ≡ object_at t v
 
--- Where class and selector are there, the search finds the method, and meets no object that isn't watched.
+-- If the class is there, the search finds the method, and meets no object that isn't watched.
 pub record IsRemembered (bits : List ℕ) (t : Table) (e : Entry) : Type 0 where
   pub class : IsOn bits (value e.class)
   pub selector : IsOn bits (value e.selector)
-  pub finds : is_live t (value e.class) ≡ true → IsKnown t (value e.selector) → Finds (watched bits t) (value e.class) (value e.selector) (value e.method)
+  pub finds : is_live t (value e.class) ≡ true → Finds (watched bits t) (value e.class) (value e.selector) (value e.method)
 
 abbrev pub AllRemembered : List ℕ → Table → List Entry → Type 0
 AllRemembered bits t es = (i : ℕ) (e : Entry) → slice_get es i ≡ Some e → IsRemembered bits t e

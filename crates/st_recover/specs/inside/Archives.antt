@@ -1,12 +1,13 @@
 -- What a session keeps, as contracts see it.
-use Rattle.std.specs.Prelude.{◌≡◌, ℕ, Bool, nat_lt, List, length, Option, Some, IsTrue, All, ⊤}
+use Rattle.std.specs.Prelude.{◌≡◌, ◌≢◌, ℕ, Bool, nat_lt, List, length, Option, Some, IsTrue, All, ⊤}
 use Rattle.st_host.specs.declared.host.Host.{Ghosts}
 use Rattle.st_chunk.specs.Definitions.{Definition, IsDefinition, entries}
+use Rattle.st_store.specs.Names.{roots_file, changes_file, image_file}
 use Rattle.st_store.specs.Stored.{StoreState, IsKept}
 use Rattle.st_protocol.specs.declared.status.Status.{Status}
 use Rattle.st_protocol.specs.declared.status.Status.TheVariants.{DiskFault, TooLarge, OutOfMemory}
 use Rattle.st_recover.specs.Images.{IsReadable}
-use Rattle.st_recover.specs.Commits.{Commit, all_of, root_of, stored_of}
+use Rattle.st_recover.specs.Commits.{Commit, all_of, root_of, stored_of, other_image}
 
 -- The open store, which there is none after a fault of the disk; its name; and the definitions of the changes file.
 pub record ArchiveState : Type 0 where
@@ -33,6 +34,14 @@ pub record Holds {D : Type 0} (host : Ghosts D) (h : D) (a : ArchiveState) (c : 
   pub good : All IsDefinition (all_of c)
   pub kept : IsTrue host.is_told → IsKept host h (store_of a.name chosen slot c) (stored_of slot c)
   pub readable : IsReadable c.image
+
+-- neither the roots file nor the changes file that the store's root names: no definition is kept in another
+abbrev pub IsBesideChanges : StoreState → List ℕ → Type 0
+IsBesideChanges store n = (n ≢ roots_file store.name) × (n ≢ changes_file store.name store.root.slot)
+
+-- neither the roots file nor the image file that the root doesn't name: no snapshot is kept in another
+abbrev pub IsBesideImage : StoreState → List ℕ → Type 0
+IsBesideImage store n = (n ≢ roots_file store.name) × (n ≢ image_file store.name (other_image store.root.slot))
 
 -- how keeping a definition ends, on any host
 abbrev pub IsOfKeeping : Status → Type 0

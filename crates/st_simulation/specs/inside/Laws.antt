@@ -1,10 +1,12 @@
 -- The laws that join the book's machine, over births, to the code's, over tables.
-use Rattle.std.specs.Prelude.{◌≡◌, ◌≤◌, ℕ, length}
+use Rattle.std.specs.Prelude.{◌≡◌, ◌≤◌, ℕ, length, slice_get, Some}
+use Rattle.st_model.specs.Values.{Value}
 use Rattle.st_model.specs.Objects.{Object}
 use Rattle.st_model.specs.Machine.{State, Step}
-use Rattle.st_model.specs.Births.{Births, births, births_with}
+use Rattle.st_model.specs.Formed.{IsWord, IsFormed}
+use Rattle.st_model.specs.Births.{Births, births, births_with, borne, object_born}
 use Rattle.st_model.specs.declared.event.Event.{Event}
-use Rattle.st_model.specs.Table.{Table, table, apart, bounded_table}
+use Rattle.st_model.specs.Table.{Table, entry, table, apart, bounded_table}
 use Rattle.st_model.specs.Contexts.{fetch_scheduled_registers}
 use Rattle.st_model.specs.Bytecodes.{step}
 use Rattle.st_model.specs.Cycles.{check_process_switch, run, run_of, finished, finished_of}
@@ -65,3 +67,8 @@ EventShows = (e : Event) (c : State Table) (s : State Births) → Shows c s → 
 -- a process that is stored over the table, with what is dropped then, shows the births that are saved
 abbrev pub SaveShows : Type 0
 SaveShows = (c : State Table) (s : State Births) → Runs c s → ShownAgain (settled_after table ((store_process bounded_table).run c)) (save births s)
+
+-- A table whose objects are what their kinds say shows births in which each SmallInteger of a kept object has 15 bits.
+abbrev pub KeptAreWords : Type 0
+KeptAreWords = (c : State Table) (s : State Births) → Shows c s → ((k : ℕ) (o : Object) → entry c.memory k ≡ Some o → IsFormed o)
+    → (n p : ℕ) (o : Object) → borne s.memory n ≡ Some p → object_born s.memory n ≡ Some o → (i : ℕ) (x : Value) → slice_get o.fields i ≡ Some x → IsWord x

@@ -29,8 +29,8 @@ use Rattle.st_model.specs.Table.{Table}
 use Rattle.st_model.specs.View.{View}
 use Rattle.st_frames.specs.declared.frame.Frame.{Frame}
 use Rattle.st_frames.specs.inside.Rows.{storage_changes}
-use Rattle.st_step.specs.declared.tried.Tried.{Tried}
-use Rattle.st_step.specs.declared.tried.Tried.TheVariants as trials
+use Rattle.st_input.specs.declared.tried.Tried.{Tried}
+use Rattle.st_input.specs.declared.tried.Tried.TheVariants as trials
 
 -- it goes on, or it failed
 abbrev pub went_if : Bool → Option Outcome

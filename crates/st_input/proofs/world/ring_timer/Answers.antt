@@ -17,7 +17,7 @@ returns-in-Some-clause-world g c =
     let rung = changed_world (Hold device.Timer nil) (changed_world (AddSignal (word c.args.semaphore)) w) in
     let room : has_signal_room w ≡ true = search rules in
     let there : is_there table t (word c.args.semaphore) ≡ true = search rules in
-    c.hold.ensures.world
+    c.hold_device.ensures.world
     ∙ (λ i. changed_world (Hold device.Timer (value_of-nil i)) (c.add_signal.ensures.world i))
     ∙ ap (λ x. changed_world (Hold device.Timer nil) (changed_world (AddSignal x) w)) c.in-Some.ensures.same
     ∙ sym (λ i. if there i && room i then rung else w)

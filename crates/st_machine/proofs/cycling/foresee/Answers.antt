@@ -1,14 +1,12 @@
-use Rattle.std.proofs.Common.{rules, ◌≡◌, Err, sym, subst, ap, ◌∙◌, refl}
+use Rattle.std.proofs.Common.{rules, ◌≡◌, Err, sym, subst, ap, ◌∙◌}
 use Rattle.st_model.specs.declared.demand.Demand.{Demand}
 use Rattle.st_model.specs.Outcomes.{Space, outcome_of}
 use Rattle.st_model.specs.Machine.{Went}
-use Rattle.st_model.specs.Table.{table}
-use Rattle.st_model.specs.Settled.{reclaim}
 use Rattle.st_frames.specs.inside.Shown.{shown}
 use Rattle.st_model.specs.inside.Calls.{transition_of}
 use Rattle.st_machine.specs.inside.Cycling.{foreseen_step}
 use Rattle.st_machine.specs.inside.Runs.{ending_of}
-use Rattle.st_machine.proofs.Foreseeing.{cycle_dies, cycle_space, cycle_done, not_over, over}
+use Rattle.st_machine.proofs.Foreseeing.{cycle_dies, cycle_space, cycle_done, is_foreseen, not_over, over}
 use Rattle.st_machine.proofs.cycling.foresee.Goals as goal
 
 pub returns-in_err-demand-clause-step : goal.returns-in_err-demand-clause-step
@@ -32,6 +30,5 @@ returns-clause-step g c =
     let u = g.M.Memory.view c.step-outcome.new.m in
     let z = g.M.Memory.view c.finish.new.m in
     let f = c.step-outcome.new.f in
-    let d = c.in_ok-demand.demand in
-    cycle_done s d (outcome_of c.step-outcome.result) (shown u f c.step-outcome.new.w) (reclaim table (shown u f c.step-outcome.new.w)) (shown z f c.finish.new.w) c.in_ok-demand.ensures.plans (not_over v d (sym c.if-not-room.ensures))
-    c.step-outcome.ensures.step refl c.finish.ensures.state
+    cycle_done s (outcome_of c.step-outcome.result) (shown u f c.step-outcome.new.w) (shown z f c.finish.new.w) (is_foreseen s c.in_ok-demand.demand c.in_ok-demand.ensures.plans (not_over v c.in_ok-demand.demand (sym c.if-not-room.ensures)))
+    c.step-outcome.ensures.step c.finish.ensures.state

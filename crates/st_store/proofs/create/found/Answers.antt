@@ -1,7 +1,7 @@
 use Rattle.std.proofs.Common.{◌≡◌, inl, ℕ, List, [], string_bytes, refl, sym, subst, ◌∙◌}
 use Rattle.std.specs.Prelude.{Option, Some, None}
 use Rattle.st_host.specs.Files.{bytes_of}
-use Rattle.st_host.specs.Runs.{ChangesBoth}
+use Rattle.st_host.specs.Runs.{ChangesBoth, IsSynced}
 use Rattle.st_host.proofs.Joining.{makes_then, makes_failed, makes_of}
 use Rattle.st_host.proofs.Touching.{both_more}
 use Rattle.st_store.specs.Names.{roots_file, changes_file}
@@ -10,6 +10,7 @@ use Rattle.st_store.specs.Faults.{RestsUnlessLetters}
 use Rattle.st_store.specs.Founding.{OpensMaybe, first_root, first_stored, first_file}
 use Rattle.st_store.proofs.Others.{changes_roots}
 use Rattle.st_store.proofs.Founding.{first_firm, maybe_as, before_as}
+use Rattle.st_store.proofs.Turning.{synced_beside}
 use Rattle.st_store.proofs.Settling.{when_err, kept_rest}
 use Rattle.st_store.proofs.create.found.Goals as goal
 
@@ -93,3 +94,10 @@ returns-in_err-inscribe-clause-broken g c = when_err c.from_residual-in_err-insc
     let none = subst (λ (y : List ℕ). Leaves H c.args.host.now (roots_file y) (λ file. bytes_of file ≡ [])) (sym c.new_store.view_is) empty in
     subst (λ (y : List ℕ). RestsUnlessLetters H {C = Option Stored} (OpensMaybe y) y None c.inscribe.new.host) c.new_store.view_is
     (c.in_err-inscribe.ensures.broken told (c.in_ok-prepare.ensures.blank told none)))
+
+pub returns-clause-synced : goal.returns-clause-synced
+returns-clause-synced g c =
+    let H = g.H.Host in
+    let n = string_bytes c.new_store.inside.names.name in
+    subst (λ (y : List ℕ). IsSynced H (changes_file y 0) c.inscribe.new.host) c.new_store.view_is
+    (synced_beside H n (changes_file n 0) c.prepare.new.host c.inscribe.new.host (changes_roots n 0) c.inscribe.ensures.changes.others c.in_ok-prepare.ensures.synced)

@@ -1,11 +1,12 @@
 use Rattle.std.proofs.Common.{ℕ, List, [], ◌∷◌, string_bytes, refl, sym, subst, ◌∙◌}
 use Rattle.std.specs.Prelude.{None, Result, Ok}
 use Rattle.st_host.specs.Files.{IsCut}
+use Rattle.st_host.specs.Runs.{IsSynced}
 use Rattle.st_host.proofs.Joining.{on_err, makes_then}
 use Rattle.st_store.specs.Names.{roots_file, changes_file}
 use Rattle.st_store.specs.Founding.{OpensMaybe, IsBlank}
 use Rattle.st_store.proofs.Others.{changes_roots}
-use Rattle.st_store.proofs.Turning.{writes_as, written_as, synced_as}
+use Rattle.st_store.proofs.Turning.{writes_as, written_as, synced_as, synced_beside}
 use Rattle.st_store.proofs.Clearing.{cuts_as, cut_empty}
 use Rattle.st_store.proofs.Founding.{blank_none, blank_written, cut_makes, still_empty, prepare_makes}
 use Rattle.st_store.proofs.create.prepare.Goals as goal
@@ -48,3 +49,11 @@ returns-clause-emptied g c told =
     let writes = writes_as H name _ 0 1 1 _ _ c.roots.ensures refl c.write_synced.ensures.writes in
     let cut = subst (λ (x : List ℕ). IsCut 0 (H.files c.args.host.now x) (H.files c.cut_synced.new.host x)) c.changes.ensures (c.in_ok-cut_synced.ensures.cut told) in
     (writes.run.others told).files (changes_file name 0) (changes_roots name 0) ∙ cut_empty _ _ cut
+
+pub returns-clause-synced : goal.returns-clause-synced
+returns-clause-synced g c =
+    let H = g.H.Host in
+    let name = string_bytes c.args.names.now.name in
+    let writes = writes_as H name _ 0 1 1 _ _ c.roots.ensures refl c.write_synced.ensures.writes in
+    synced_beside H name (changes_file name 0) c.cut_synced.new.host c.write_synced.new.host (changes_roots name 0) writes.run.others
+    (subst (λ (x : List ℕ). IsSynced H x c.cut_synced.new.host) c.changes.ensures c.in_ok-cut_synced.ensures.synced)

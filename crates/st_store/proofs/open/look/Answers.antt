@@ -102,3 +102,12 @@ returns-in-Err-clause-narrows g c = (looks_on g.H.Host _ _ _ _ (looks_at g.H.Hos
 
 pub returns-in-Err-clause-only : goal.returns-in-Err-clause-only
 returns-in-Err-clause-only g c = (looks_on g.H.Host _ _ _ _ (looks_at g.H.Host _ _ _ _ c.sync_file.ensures.narrows c.sync_file.ensures.syncs c.in_ok-sync_file.ensures.synced c.file_length.ensures.reads c.file_length.ensures.changes) c.read_from.ensures.reads c.read_from.ensures.changes).only
+
+pub returns-then-is_none-clause-firm : goal.returns-then-is_none-clause-firm
+returns-then-is_none-clause-firm g c calm = synced_on g.H.Host _ _ _ c.in_ok-sync_file.ensures.synced (reads_narrow g.H.Host _ _ c.file_length.ensures.reads) c.in_ok-length.ensures.alike
+
+pub returns-in-Err-clause-firm : goal.returns-in-Err-clause-firm
+returns-in-Err-clause-firm g c calm =
+    let H = g.H.Host in
+    synced_on H _ _ _ c.in_ok-sync_file.ensures.synced (narrows_join H _ _ _ (reads_narrow H _ _ c.file_length.ensures.reads) (reads_narrow H _ _ c.read_from.ensures.reads))
+    (alike_join H _ _ _ c.in_ok-length.ensures.alike c.in_ok-count.ensures.alike)

@@ -1,10 +1,11 @@
 use Rattle.std.proofs.Common.{◌⊎◌, inl, inr, List, ℕ, string_bytes, refl, subst}
-use Rattle.st_host.specs.Runs.{NarrowsBut, Spares, Syncs}
+use Rattle.std.proofs.lemmas.Result.{err_from_is_err_and}
+use Rattle.st_host.specs.Runs.{NarrowsBut, Spares, Syncs, IsSynced}
 use Rattle.st_store.specs.Names.{roots_file, IsNoFileOf}
 use Rattle.st_store.specs.Roots.{IsFresh}
 use Rattle.st_store.specs.Stored.{Opens, IsChosen, stored_in}
 use Rattle.st_store.specs.Faults.{SyncsFirst}
-use Rattle.st_store.proofs.Opening.{as_before, narrows_none, only_looked, read_opens, but_roots, spared_on, opened_as}
+use Rattle.st_store.proofs.Opening.{refusal_is_of_files, as_before, narrows_none, only_looked, read_opens, but_roots, spared_on, opened_as}
 use Rattle.st_store.proofs.Settling.{when_err, syncs_none, settles_looked, settles_as}
 use Rattle.st_store.proofs.open.open_store.Goals as goal
 
@@ -89,3 +90,9 @@ returns-clause-only g c = subst (λ (y : List ℕ). NarrowsBut g.H.Host (roots_f
 pub returns-clause-spares : goal.returns-clause-spares
 returns-clause-spares g c = subst (λ (y : List ℕ). Spares g.H.Host (IsNoFileOf y) c.args.host.now c.freshen.new.host) c.in_ok-names.ensures
     (spared_on g.H.Host _ _ _ _ c.seek.ensures.spares c.freshen.ensures.changes)
+
+pub returns-in_err-chosen-clause-synced : goal.returns-in_err-chosen-clause-synced
+returns-in_err-chosen-clause-synced g c =
+    let p = err_from_is_err_and c.from_residual-in_err-chosen.result c.from_residual-in_err-chosen.ensures.1 in
+    rw (p.1, p.2) (λ is. subst (λ (y : List ℕ). IsSynced g.H.Host (roots_file y) c.seek.new.host) c.in_ok-names.ensures
+    (c.in_err-chosen.ensures.synced (refusal_is_of_files c.in_err-chosen.field-0.0 is)))

@@ -1,11 +1,12 @@
 use Rattle.std.proofs.lemmas.Result.{err_from_is_err_and}
-use Rattle.std.proofs.Common.{◌∙◌, ◌⊎◌, inr, List, ℕ, string_bytes, subst}
-use Rattle.st_host.specs.Runs.{Syncs}
+use Rattle.std.proofs.Common.{◌∙◌, ◌⊎◌, inr, List, ℕ, string_bytes, sym, subst}
+use Rattle.st_host.specs.Runs.{Syncs, IsSynced}
 use Rattle.st_host.proofs.Joining.{alike_join, narrows_join}
 use Rattle.st_host.proofs.Touching.{changes_spare}
 use Rattle.st_store.specs.Refusals.{RefusesFront}
 use Rattle.st_store.specs.Faults.{SyncsFirst}
-use Rattle.st_store.proofs.Opening.{looked_at, front_refuses, refused_at, spared}
+use Rattle.st_store.proofs.Opening.{looked_at, front_refuses, refused_at, spared, still_synced}
+use Rattle.st_store.proofs.Others.{changes_roots, image_roots}
 use Rattle.st_store.proofs.Settling.{when_err, first_more}
 use Rattle.st_store.proofs.open.seek.Goals as goal
 
@@ -61,3 +62,18 @@ returns-clause-narrows g c = narrows_join g.H.Host _ _ _ c.look.ensures.narrows 
 pub returns-clause-spares : goal.returns-clause-spares
 returns-clause-spares g c =
     spared g.H.Host _ _ _ _ _ _ _ c.in_ok-chosen.chosen.root.slot c.roots.ensures c.image.ensures c.changes.ensures c.look.ensures.only c.make_firm.ensures.spares
+
+pub returns-in_err-chosen-clause-synced : goal.returns-in_err-chosen-clause-synced
+returns-in_err-chosen-clause-synced g c =
+    let p = err_from_is_err_and c.from_residual.result c.from_residual.ensures.1 in
+    rw (p.1, p.2) (λ calm. subst (λ (y : List ℕ). IsSynced g.H.Host y c.look.new.host) c.roots.ensures (c.in_err-chosen.ensures.firm calm))
+
+pub returns-in_err-make_firm-clause-synced : goal.returns-in_err-make_firm-clause-synced
+returns-in_err-make_firm-clause-synced g c =
+    let name = string_bytes c.args.names.now.name in
+    let slot = c.in_ok-chosen.chosen.root.slot in
+    let p = err_from_is_err_and c.from_residual-in_err-make_firm.result c.from_residual-in_err-make_firm.ensures.1 in
+    rw (p.1, p.2) (λ calm. subst (λ (y : List ℕ). IsSynced g.H.Host y c.make_firm.new.host) c.roots.ensures
+    (still_synced g.H.Host name _ _ c.look.new.host c.make_firm.new.host
+    ((λ same. image_roots name slot (sym (sym c.roots.ensures ∙ same ∙ c.image.ensures))), (λ same. changes_roots name slot (sym (sym c.roots.ensures ∙ same ∙ c.changes.ensures))))
+    c.make_firm.ensures.spares c.in_ok-chosen.ensures.synced))

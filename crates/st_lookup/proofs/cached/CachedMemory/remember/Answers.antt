@@ -26,7 +26,7 @@ invariant_of-self g c =
           (record {
             class = on_grown one bits (value c.args.class) (grows_then one two bits c.add-2.ensures.grows c.mark.ensures) c.add.ensures.on;
             selector = on_grown two bits (value c.args.selector) c.mark.ensures c.add-2.ensures.on;
-            finds = λ live known. c.is_seen.ensures c.if-is_seen.true;
+            finds = λ live. c.is_seen.ensures c.if-is_seen.true;
           });
     }
 

@@ -2,7 +2,7 @@ use Rattle.std.proofs.Common.{◌≡◌, sym, subst, rules}
 use Rattle.std.specs.Prelude.{slice_get, Some, true}
 use Rattle.std.proofs.lemmas.Option.{slice_get_read}
 use Rattle.st_model.specs.Values.{value}
-use Rattle.st_model.specs.View.{is_live, IsKnown}
+use Rattle.st_model.specs.View.{is_live}
 use Rattle.st_memory.specs.inside.Searched.{Finds}
 use Rattle.st_lookup.specs.declared.entry.Entry.{Entry}
 use Rattle.st_lookup.proofs.Staying.{finds_all}
@@ -17,5 +17,5 @@ returns-then-eq-2 g c =
     let p : e.class ≡ c.args.class = search rules in
     let q : e.selector ≡ c.args.selector = search rules in
     let found = finds_all a.watch.words.items t e (a.remembered c.slot.result e there)
-    (subst (λ x. is_live t (value x) ≡ true) (sym p) c.requires.class) (subst (λ x. IsKnown t (value x)) (sym q) c.requires.selector) in
+    (subst (λ x. is_live t (value x) ≡ true) (sym p) c.requires) in
     subst (λ x. Finds t (value x) (value c.args.selector) (value e.method)) p (subst (λ x. Finds t (value e.class) (value x) (value e.method)) q found)

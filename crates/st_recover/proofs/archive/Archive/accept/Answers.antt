@@ -1,6 +1,7 @@
 use Rattle.std.proofs.Common.{◌≡◌, ℕ, List, [], ◌∷◌, ◌++◌, length, refl, sym, subst, ap, ◌∙◌, true≢false}
 use Rattle.std.specs.Prelude.{Ok, Err}
-use Rattle.st_host.specs.Runs.{ChangesBoth}
+use Rattle.st_host.specs.Runs.{ChangesBoth, Spares}
+use Rattle.st_host.proofs.Touching.{spares_none}
 use Rattle.st_chunk.specs.Definitions.{Definition, IsDefinition, entries}
 use Rattle.st_chunk.specs.inside.ScriptDefinitions.{definition_of}
 use Rattle.st_store.specs.Names.{changes_file, roots_file, IsNoFileOf}
@@ -9,11 +10,11 @@ use Rattle.st_changes.specs.Last.{HasSelector}
 use Rattle.st_changes.specs.inside.Views.{definition_of as kept_definition}
 use Rattle.st_protocol.specs.declared.status.Status.TheVariants.{DiskFault, TooLarge}
 use Rattle.st_protocol.proofs.Joins.{obeys_as}
-use Rattle.st_recover.specs.inside.Archives.{ArchiveState, IsStoreOf}
+use Rattle.st_recover.specs.inside.Archives.{ArchiveState, IsStoreOf, IsBesideChanges}
 use Rattle.st_recover.specs.Commits.{OpensAs, accepting}
 use Rattle.st_recover.proofs.Commits.{holds_rest}
 use Rattle.st_recover.proofs.Making.{both_spare}
-use Rattle.st_recover.proofs.Holding.{some_same, store_grown, named, accept_makes, accept_broken, accept_holds}
+use Rattle.st_recover.proofs.Holding.{some_same, for_store, store_grown, named, accept_makes, accept_broken, accept_holds}
 use Rattle.st_recover.proofs.Obeying.{it_fits, it_is_too_long, accept_kept, accept_failed, accept_refused, accept_starved}
 use Rattle.st_recover.proofs.archive.Archive.accept.Goals as goal
 
@@ -124,3 +125,32 @@ reserve_as-requires-clause-finds g c =
     let own = c.in-Ok.ensures in
     let text = ap (λ (d : Definition). d.text) own.definition in
     subst (λ (t : List ℕ). HasSelector t c.in-Ok.selector.items) (sym text) (subst (HasSelector (definition_of c.args.definition.now).text) (sym own.selector) c.requires.selector)
+
+pub returns-in_default-clause-alone : goal.returns-in_default-clause-alone
+returns-in_default-clause-alone g c x is = spares_none g.H.Host (IsBesideChanges x) c.args.host.now
+
+pub returns-in_default-reserve_as-clause-alone : goal.returns-in_default-reserve_as-clause-alone
+returns-in_default-reserve_as-clause-alone g c x is = spares_none g.H.Host (IsBesideChanges x) c.args.host.now
+
+pub returns-then-not-fits-clause-alone : goal.returns-then-not-fits-clause-alone
+returns-then-not-fits-clause-alone g c x is = spares_none g.H.Host (IsBesideChanges x) c.args.host.now
+
+pub returns-in_default-append-clause-alone : goal.returns-in_default-append-clause-alone
+returns-in_default-append-clause-alone g c =
+    let H = g.H.Host in
+    let a = c.args.host.now in
+    let b = c.append.new.host in
+    let st = c.in-Some.store in
+    let there = ap (λ (s : ArchiveState). s.store) (sym c.self.view_is) ∙ sym c.take.ensures.value ∙ c.in-Some.is in
+    for_store c.args.self.now.store st (λ s. Spares H (IsBesideChanges s) a b) there
+    (both_spare H (changes_file st.name st.root.slot) (roots_file st.name) (IsBesideChanges st) a b (λ n no. no.1) (λ n no. no.0) c.append.ensures.changes)
+
+pub returns-clause-alone : goal.returns-clause-alone
+returns-clause-alone g c =
+    let H = g.H.Host in
+    let a = c.args.host.now in
+    let b = c.append.new.host in
+    let st = c.in-Some.store in
+    let there = ap (λ (s : ArchiveState). s.store) (sym c.self.view_is) ∙ sym c.take.ensures.value ∙ c.in-Some.is in
+    for_store c.args.self.now.store st (λ s. Spares H (IsBesideChanges s) a b) there
+    (both_spare H (changes_file st.name st.root.slot) (roots_file st.name) (IsBesideChanges st) a b (λ n no. no.1) (λ n no. no.0) c.append.ensures.changes)

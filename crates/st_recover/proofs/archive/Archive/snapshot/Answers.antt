@@ -1,14 +1,16 @@
-use Rattle.std.proofs.Common.{◌≡◌, List, ℕ, length, Some, refl, sym, ap, ◌∙◌, subst}
+use Rattle.std.proofs.Common.{◌≡◌, List, ℕ, length, IsTrue, Some, refl, sym, ap, ◌∙◌, subst}
 use Rattle.std.specs.Prelude.{Ok}
+use Rattle.st_host.specs.Runs.{Spares}
 use Rattle.st_host.proofs.Joining.{makes_of}
 use Rattle.st_host.proofs.Touching.{above_changes, changes_spare, spares_join}
 use Rattle.st_store.specs.Names.{roots_file, image_file, IsNoFileOf}
 use Rattle.st_store.specs.Stored.{StoreState, Opens}
+use Rattle.st_store.proofs.Others.{image_roots}
 use Rattle.st_store.specs.declared.root.Root.{Root}
-use Rattle.st_recover.specs.inside.Archives.{ArchiveState, IsStoreOf}
+use Rattle.st_recover.specs.inside.Archives.{ArchiveState, IsStoreOf, IsBesideImage}
 use Rattle.st_recover.specs.Commits.{image_with, other_image}
 use Rattle.st_recover.proofs.Images.{image_is, image_readable}
-use Rattle.st_recover.proofs.Holding.{some_same, store_imaged, unwritten_makes, unwritten_broken, snapshot_makes, snapshot_broken, snapshot_holds}
+use Rattle.st_recover.proofs.Holding.{some_same, for_store, store_imaged, unwritten_makes, unwritten_broken, snapshot_makes, snapshot_broken, snapshot_holds}
 use Rattle.st_store.proofs.Settling.{when_err}
 use Rattle.st_recover.proofs.archive.Archive.snapshot.Goals as goal
 
@@ -195,3 +197,66 @@ returns-clause-spares g c =
     spares_join H (IsNoFileOf old.name) a b e
     (changes_spare H file (IsNoFileOf old.name) a b (λ n no is. no.image at (is ∙ c.image_name.ensures ∙ ap (λ (x : List ℕ). image_file x at) named)) (above_changes H file 0 a b c.write.ensures.writes))
     (changes_spare H (roots_file st.name) (IsNoFileOf old.name) b e (λ n no is. no.roots (is ∙ ap roots_file named)) c.commit.ensures.changes)
+
+pub returns-in_err-image_length-clause-alone : goal.returns-in_err-image_length-clause-alone
+returns-in_err-image_length-clause-alone g c =
+    let H = g.H.Host in
+    let a = c.args.host.now in
+    let b = c.write.new.host in
+    let st = c.in-Some.store in
+    let there = ap (λ (s : ArchiveState). s.store) (sym c.self.view_is) ∙ sym c.take.ensures.value ∙ c.in-Some.is in
+    let file = c.image_name.result.now in
+    let file_is : file ≡ image_file st.name (other_image st.root.slot) =
+    c.image_name.ensures ∙ ap (image_file st.name) (c.other_image-other.ensures ∙ ap (λ (r : Root). other_image r.slot) c.root-slot.ensures) in
+    for_store c.args.self.now.store st (λ s. Spares H (IsBesideImage s) a b) there
+    (changes_spare H file (IsBesideImage st) a b (λ n no is. no.1 (is ∙ file_is)) (above_changes H file 0 a b c.write.ensures.writes))
+
+pub returns-in_err-commit-clause-alone : goal.returns-in_err-commit-clause-alone
+returns-in_err-commit-clause-alone g c =
+    let H = g.H.Host in
+    let a = c.args.host.now in
+    let b = c.write.new.host in
+    let st = c.in-Some.store in
+    let there = ap (λ (s : ArchiveState). s.store) (sym c.self.view_is) ∙ sym c.take.ensures.value ∙ c.in-Some.is in
+    let file = c.image_name.result.now in
+    let file_is : file ≡ image_file st.name (other_image st.root.slot) =
+    c.image_name.ensures ∙ ap (image_file st.name) (c.other_image-other.ensures ∙ ap (λ (r : Root). other_image r.slot) c.root-slot.ensures) in
+    let e = c.commit.new.host in
+    for_store c.args.self.now.store st (λ s. Spares H (IsBesideImage s) a e) there
+    (spares_join H (IsBesideImage st) a b e
+    (changes_spare H file (IsBesideImage st) a b (λ n no is. no.1 (is ∙ file_is)) (above_changes H file 0 a b c.write.ensures.writes))
+    (changes_spare H (roots_file st.name) (IsBesideImage st) b e (λ n no is. no.0 is) c.commit.ensures.changes))
+
+pub returns-clause-alone : goal.returns-clause-alone
+returns-clause-alone g c =
+    let H = g.H.Host in
+    let a = c.args.host.now in
+    let b = c.write.new.host in
+    let st = c.in-Some.store in
+    let there = ap (λ (s : ArchiveState). s.store) (sym c.self.view_is) ∙ sym c.take.ensures.value ∙ c.in-Some.is in
+    let file = c.image_name.result.now in
+    let file_is : file ≡ image_file st.name (other_image st.root.slot) =
+    c.image_name.ensures ∙ ap (image_file st.name) (c.other_image-other.ensures ∙ ap (λ (r : Root). other_image r.slot) c.root-slot.ensures) in
+    let e = c.commit.new.host in
+    for_store c.args.self.now.store st (λ s. Spares H (IsBesideImage s) a e) there
+    (spares_join H (IsBesideImage st) a b e
+    (changes_spare H file (IsBesideImage st) a b (λ n no is. no.1 (is ∙ file_is)) (above_changes H file 0 a b c.write.ensures.writes))
+    (changes_spare H (roots_file st.name) (IsBesideImage st) b e (λ n no is. no.0 is) c.commit.ensures.changes))
+
+pub returns-clause-file : goal.returns-clause-file
+returns-clause-file g c =
+    let v = g.M.Memory.view c.args.m.now in
+    let image = image_with v.objects v.head in
+    let H = g.H.Host in
+    let a = c.args.host.now in
+    let b = c.write.new.host in
+    let st = c.in-Some.store in
+    let there = ap (λ (s : ArchiveState). s.store) (sym c.self.view_is) ∙ sym c.take.ensures.value ∙ c.in-Some.is in
+    let file = c.image_name.result.now in
+    let file_is : file ≡ image_file st.name (other_image st.root.slot) =
+    c.image_name.ensures ∙ ap (image_file st.name) (c.other_image-other.ensures ∙ ap (λ (r : Root). other_image r.slot) c.root-slot.ensures) in
+    let e = c.commit.new.host in
+    for_store c.args.self.now.store st (λ s. IsTrue H.is_told → H.files e (image_file s.name (other_image s.root.slot)) ≡ Some image) there
+    (λ told. subst (λ (n : List ℕ). H.files e n ≡ Some image) file_is
+    ((c.commit.ensures.changes.others told).files file (λ same. image_roots st.name c.other_image-other.result (sym c.image_name.ensures ∙ same))
+    ∙ (c.in_ok-image_length.ensures.file told ∙ ap Some (image_is v))))

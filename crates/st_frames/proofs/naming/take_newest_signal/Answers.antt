@@ -7,8 +7,8 @@ use Rattle.st_model.specs.Objects.{nil}
 use Rattle.st_model.specs.Table.{Table}
 use Rattle.st_model.proofs.Words.{value_of-nil}
 use Rattle.st_frames.specs.Naming.{naming}
-use Rattle.st_input.proofs.HoldsNamed.{any_newest, known_newest, signal_gone}
-use Rattle.st_input.proofs.naming.take_newest_signal.Goals as goal
+use Rattle.st_frames.proofs.HoldsNamed.{any_newest, known_newest, signal_gone}
+use Rattle.st_frames.proofs.naming.take_newest_signal.Goals as goal
 
 pub returns-clause-known : goal.returns-clause-known
 returns-clause-known g c =

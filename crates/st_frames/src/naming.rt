@@ -4,7 +4,7 @@ ghost use Rattle.st_model.specs.Surroundings.{holding, newest_of, changed_world,
 ghost use Rattle.st_model.specs.{Events.signalled_once, View.{Held, IsKnown, IsPlace, with_held}};
 ghost use Rattle.st_frames.specs.Naming.{IsNaming, naming};
 
-use st_frames::World;
+use crate::world::World;
 use st_memory::Memory;
 use st_model::{Device, Oop, RootPlace};
 
@@ -25,7 +25,7 @@ fn place_of(device: Device) -> RootPlace
 }
 
 /// A device holds an object from now on, in the world and in the memory; nil lets go what it held.
-pub fn hold<M: Memory>(m: &mut M, w: &mut World, device: Device, object: Oop)
+pub fn hold_device<M: Memory>(m: &mut M, w: &mut World, device: Device, object: Oop)
     requires known { IsKnown (M.view m.old).objects (value object) }
     requires named { IsNaming (M.view m.old).held w.old }
     ensures world { w.new ≡ changed_world (Hold device (value object)) w.old }
@@ -82,5 +82,5 @@ pub fn signal_once<M: Memory>(m: &mut M, w: &mut World, device: Device)
 {
     let semaphore = w.device(device);
     add_signal(m, w, semaphore);
-    hold(m, w, device, Oop::NIL);
+    hold_device(m, w, device, Oop::NIL);
 }

@@ -1,30 +1,13 @@
 ghost use Rattle.std.specs.Prelude.{◌≡◌, OnErr};
-ghost use Rattle.st_model.specs.{Objects.nil, Machine.{World as Surroundings}};
+ghost use Rattle.st_model.specs.Objects.{nil};
 ghost use Rattle.st_model.specs.Events.{comes, is_due, word_comes, time_comes};
 ghost use Rattle.st_frames.specs.Naming.{IsNaming, naming};
-ghost use Rattle.st_input.specs.{inside.Coming.{HasPlace, came}, inside.Holding.HoldsNamed};
+ghost use Rattle.st_frames.specs.inside.Coming.{HasPlace, came, HoldsNamed};
 
 use crate::naming::{add_signal, signal_once};
-use st_frames::World;
+use crate::world::World;
 use st_memory::Memory;
 use st_model::{Device, Event, InputFull};
-
-/// What events come to.
-pub trait Events {
-    /// What they change.
-    ghost world: { Self → Surroundings };
-
-    /// An event comes, and the memory goes on holding what is named. The input is full, and nothing changes, where the event
-    /// is a word and 256 wait, or where it has a signal added and 4096 are pending.
-    fn event<M: Memory>(&mut self, m: &mut M, e: Event) -> Result<(), InputFull>
-        requires place { HasPlace e }
-        requires named { IsNaming (M.view m.old).held (world self.old) }
-        ensures comes { comes nil e (world self.old) ≡ came result (world self.new) }
-        ensures full { OnErr result (world self.new ≡ world self.old) }
-        ensures held { (M.view m.new).held ≡ naming (M.view m.old).held (world self.new) }
-        ensures objects { (M.view m.new).objects ≡ (M.view m.old).objects }
-        ensures head { (M.view m.new).head ≡ (M.view m.old).head };
-}
 
 /// An input word comes.
 #[tactic(auto, using(crate::proofs::HoldsNamed::knowns))]
@@ -76,10 +59,18 @@ fn set_time<M: Memory>(m: &mut M, w: &mut World, time: u32) -> Result<(), InputF
     Ok(())
 }
 
-impl Events for World {
-    ghost world = { λ w. w };
-
-    fn event<M: Memory>(&mut self, m: &mut M, e: Event) -> Result<(), InputFull> {
+impl World {
+    /// An event comes, and the memory goes on holding what is named. The input is full, and nothing changes, where the event
+    /// is a word and 256 wait, or where it has a signal added and 4096 are pending.
+    pub fn event<M: Memory>(&mut self, m: &mut M, e: Event) -> Result<(), InputFull>
+        requires place { HasPlace e }
+        requires named { IsNaming (M.view m.old).held self.old }
+        ensures comes { comes nil e self.old ≡ came result self.new }
+        ensures full { OnErr result (self.new ≡ self.old) }
+        ensures held { (M.view m.new).held ≡ naming (M.view m.old).held self.new }
+        ensures objects { (M.view m.new).objects ≡ (M.view m.old).objects }
+        ensures head { (M.view m.new).head ≡ (M.view m.old).head }
+    {
         match e {
             Event::Word(word) => add_word(m, self, word),
             Event::Mouse(x, y) => {

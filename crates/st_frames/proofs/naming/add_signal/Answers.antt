@@ -1,6 +1,6 @@
 use Rattle.std.proofs.Common.{arith}
-use Rattle.st_input.proofs.HoldsNamed.{knowns, signals}
-use Rattle.st_input.proofs.naming.add_signal.Goals as goal
+use Rattle.st_frames.proofs.HoldsNamed.{knowns, signals}
+use Rattle.st_frames.proofs.naming.add_signal.Goals as goal
 
 pub returns-clause-world : goal.returns-clause-world
 returns-clause-world g c = grind (arith, knowns, signals)
