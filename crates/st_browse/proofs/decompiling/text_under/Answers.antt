@@ -11,8 +11,8 @@ use Rattle.st_browse.specs.inside.MadeTexts.{IsTextOfParts}
 use Rattle.st_browse.proofs.Making.{printed_text}
 use Rattle.st_browse.proofs.decompiling.text_under.Goals as goal
 
-pub returns-in_ok-print-in-Some-2 : goal.returns-in_ok-print-in-Some-2
-returns-in_ok-print-in-Some-2 g c =
+pub returns-in-Some-2 : goal.returns-in-Some-2
+returns-in-Some-2 g c =
     let names = names_view c.args.names.now in
     let parts = parts_view c.in-Some.parts in
     let tree = method_view c.in-Some-2.tree in
