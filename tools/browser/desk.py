@@ -211,8 +211,8 @@ class Desk:
         self.live.forget()
         return line
 
-    def in_pieces(self, cycles):
-        """Runs so many bytecodes, with a stop after each piece where others are answered; answers the last line."""
+    def in_pieces(self, cycles, between=lambda: None):
+        """Runs so many bytecodes, with a stop after each piece where others are answered; `between` two is called. Answers the last line."""
         end = "ran 0"
         while cycles > 0 and end.startswith("ran"):
             if self.stopping:
@@ -221,6 +221,8 @@ class Desk:
             end = self.take(self.session.run(min(cycles, self.pieces.size)))
             self.pieces.took(time.monotonic() - begun)
             cycles -= self.cycles - before
+            if end.startswith("ran"):
+                between()
             yield
         return end
 
@@ -240,13 +242,13 @@ class Desk:
         self.log.add("told", f"{self.cycles - before} bytecodes")
 
     def evaluation(self):
-        end = yield from self.in_pieces(WITHOUT_END)
+        end = yield from self.in_pieces(WITHOUT_END, self.clocks.go_on)
         while end.startswith("quit") and (delay := self.clocks.first_end()) is not None:
             while not self.clocks.is_due(delay) and not self.stopping:
                 time.sleep(PAUSE)
                 yield
             self.clocks.tick(delay)
-            end = yield from self.in_pieces(WITHOUT_END)
+            end = yield from self.in_pieces(WITHOUT_END, self.clocks.go_on)
         self.judge(end)
 
     def evaluate(self, text):

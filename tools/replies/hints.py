@@ -32,12 +32,14 @@ ELSEWHERE = {
     "-=": "x := x - 1",
     "**": "raisedTo:",
     ">>": "compiledMethodAt:",
+    "allButFirst": "copyFrom: 2 to: size",
     "asInteger": "asNumber for a String",
     "asString": "printString",
     "display:": "print:",
     "displayNl": "displayString, which Transcript show: shows",
     "doWithIndex:": "1 to: size do:",
     "ensure:": "no handlers: an error ends its process",
+    "first:": "copyFrom: 1 to:",
     "ifNil:": "isNil ifTrue:",
     "ifNotNil:": "notNil ifTrue:",
     "isZero": "= 0",
@@ -109,6 +111,7 @@ def message_meant(receiver, selector, understood):
     if selector in ELSEWHERE:
         return f"other Smalltalks have {selector}; this one has {ELSEWHERE[selector]}"
     longer = [it for it in understood if it.startswith(selector) and selector.endswith(":")]
+    turned = [it for it in understood if sorted(it.split(":")) == sorted(selector.split(":"))]
     like = [it for it in understood if it.count(":") == selector.count(":")]
-    found = sorted(longer, key=len) or difflib.get_close_matches(selector, sorted(like), 1, LIKE)
+    found = turned or sorted(longer, key=len) or difflib.get_close_matches(selector, sorted(like), 1, LIKE)
     return f"{receiver} understands {found[0]}" if found else None

@@ -1,13 +1,14 @@
 -- Worked rows of traces and walks, by the definitions alone: each method's list is the same from its tree and from its code.
-use Rattle.std.proofs.Common.{ℕ, true, false, List, [], ◌∷◌, refl, None}
+use Rattle.std.proofs.Common.{ℕ, Bool, true, false, List, [], ◌∷◌, refl, None}
 use Rattle.std.specs.Prelude.{codes, pos, ◌≡◌}
 use Rattle.st_scan.specs.Views.{MethodView}
 use Rattle.st_scan.specs.Views as v
-use Rattle.st_emit.specs.declared.step.Constant.TheVariants.{Receiver, True, False}
+use Rattle.st_emit.specs.declared.step.Constant.{Constant}
+use Rattle.st_emit.specs.declared.step.Constant.TheVariants.{Receiver, True, False, Nil, Context}
 use Rattle.st_scan.proofs.Worked.{signed, name_at as nm, literal_at as lit}
 use Rattle.st_emit.proofs.Worked.{point}
 use Rattle.st_code.specs.Methods.{body, parts}
-use Rattle.st_meaning.specs.declared.deed.Variable.TheVariants.{Field, Temporary}
+use Rattle.st_meaning.specs.declared.deed.Variable.TheVariants.{Field, Temporary, Shared}
 use Rattle.st_meaning.specs.declared.deed.Value.{Value}
 use Rattle.st_meaning.specs.declared.deed.Value.TheVariants.{Number, First, Block}
 use Rattle.st_meaning.specs.inside.Values.{constant_value, AnswerView, sent, assigned, made, returned, unsure}
@@ -160,3 +161,66 @@ changed_trace = refl
 both_changed : trace_by both (gives (constant_value True) ∷ []) ≡ walk_by both (gives (constant_value True) ∷ [])
 unfolding did assign_to answer_to make_block return_value be_unsure jump_back walk
 both_changed = refl
+
+-- EACH FORM, by its selector: foo ^self a SELECTOR [x], or with [y] as a second block
+
+abbrev named : List ℕ → v.ExpressionView
+named text = v.variable (nm text 6)
+
+abbrev unary : (receiver selector : List ℕ) → v.MessagesView → v.ExpressionView
+unary receiver selector more = v.send (named receiver) (v.message selector v.no_expressions more)
+
+abbrev block_of : v.ExpressionView → v.ExpressionView
+block_of x = v.block [] (v.statement false x v.no_statements)
+
+abbrev form : v.ExpressionView → (selector : List ℕ) → v.ExpressionsView → v.ExpressionView
+form receiver selector others = v.send receiver (v.message selector (v.expression (block_of (named (codes "x"))) others) v.no_messages)
+
+abbrev method : (returns : Bool) → v.ExpressionView → MethodView
+method returns x = record { selector = codes "foo"; arguments = []; temporaries = []; primitive = None; body = v.statement returns x v.no_statements }
+
+abbrev one_block : List ℕ → MethodView
+one_block selector = method true (form (unary (codes "self") (codes "a") v.no_messages) selector v.no_expressions)
+
+abbrev two_blocks : List ℕ → MethodView
+two_blocks selector = method true (form (unary (codes "self") (codes "a") v.no_messages) selector (v.expression (block_of (named (codes "y"))) v.no_expressions))
+
+-- where a answers this, the method does
+abbrev Ends : MethodView → Constant → Value → Type 0
+Ends m k x = trace_by m (gives (constant_value k) ∷ []) ≡ over (sent self (codes "a") [] false ∷ returned x ∷ [])
+
+abbrev first_field : Value
+first_field = First (Field 0)
+
+abbrev second_field : Value
+second_field = First (Field 1)
+
+one_sided : Ends (one_block (codes "ifTrue:")) True first_field × Ends (one_block (codes "ifTrue:")) False (constant_value Nil)
+    × Ends (one_block (codes "ifFalse:")) True (constant_value Nil) × Ends (one_block (codes "ifFalse:")) False first_field
+    × Ends (one_block (codes "and:")) True first_field × Ends (one_block (codes "and:")) False (constant_value False)
+    × Ends (one_block (codes "or:")) True (constant_value True) × Ends (one_block (codes "or:")) False first_field
+unfolding did assign_to answer_to make_block return_value be_unsure jump_back walk
+one_sided = (refl, refl, refl, refl, refl, refl, refl, refl)
+
+two_sided : Ends (two_blocks (codes "ifTrue:ifFalse:")) True first_field × Ends (two_blocks (codes "ifTrue:ifFalse:")) False second_field
+    × Ends (two_blocks (codes "ifFalse:ifTrue:")) True second_field × Ends (two_blocks (codes "ifFalse:ifTrue:")) False first_field
+unfolding did assign_to answer_to make_block return_value be_unsure jump_back walk
+two_sided = (refl, refl, refl, refl)
+
+-- foo [self a] whileFalse: [x]
+while_false : trace_by (method false (form (block_of (unary (codes "self") (codes "a") v.no_messages)) (codes "whileFalse:") v.no_expressions)) (gives (constant_value False) ∷ gives (constant_value True) ∷ [])
+    ≡ over (sent self (codes "a") [] false ∷ sent self (codes "a") [] false ∷ returned self ∷ [])
+unfolding did assign_to answer_to make_block return_value be_unsure jump_back walk
+while_false = refl
+
+-- foo ^super a; b
+to_super : trace_by (method true (unary (codes "super") (codes "a") (v.message (codes "b") v.no_expressions v.no_messages))) (gives (num 1) ∷ gives (num 2) ∷ [])
+    ≡ over (sent self (codes "a") [] true ∷ sent self (codes "b") [] true ∷ returned (num 2) ∷ [])
+unfolding did assign_to answer_to make_block return_value be_unsure jump_back walk
+to_super = refl
+
+-- foo ^thisContext, and ^Point
+names_mean : (trace_by (method true (named (codes "thisContext"))) [] ≡ over (returned (constant_value Context) ∷ []))
+    × (trace_by (method true (named (codes "Point"))) [] ≡ over (returned (First (Shared 0)) ∷ []))
+unfolding did assign_to answer_to make_block return_value be_unsure jump_back walk
+names_mean = (refl, refl)

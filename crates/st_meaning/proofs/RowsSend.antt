@@ -23,7 +23,7 @@ use Rattle.st_emit.specs.declared.step.Step.TheVariants.{Send, SendSuper, SendSp
 use Rattle.st_emit.specs.Resolving.{special_selectors, first_special, block_copy}
 use Rattle.st_emit.specs.Selectors.{arity}
 use Rattle.st_meaning.specs.inside.Codes.{sent, returned, tested, on_top, on_some, on_message, sends, copies, sends_special, walk_code}
-use Rattle.st_meaning.specs.inside.Machines.{KeepsOthers, laid, field_at, literal_at, text_at, values_in, stack_in, IsSelector, NamesSelectors, Keeps, GoesOn, Answers, Shows, boolean_at, sends_by, succeeds, primitive_first, return_by}
+use Rattle.st_meaning.specs.inside.Machines.{KeepsOthers, laid, field_at, literal_at, text_at, values_in, stack_in, IsSelector, NamesSelectors, Keeps, GoesOn, Answers, Shows, boolean_at, sends_by, succeeds, primitive_first, return_by, returning}
 use Rattle.st_meaning.proofs.Inverting.{split, split_next, then_goes, next_goes, then_as, read_then, answered, page_reads, page_is, field_reads, field_is, jump_is, pop_is, under_reads, then_reads, Reads, Topped}
 use Rattle.st_meaning.proofs.RowsWalk.{Frame, frame_of, RowShows, by_top, lowered, jumped, literal_then, literal_fetched, done_of, constant_word, constant_got}
 use Rattle.st_model.proofs.SameValues.{same_ref}
@@ -413,13 +413,11 @@ module _ {H : Type 0} (m : ObjectMemory H) (laws : KeepsOthers m) (k b : ℕ) wh
   return_receiver_row u t o z w e q = record {
     word = u.registers.receiver;
     is = refl;
-    state = u;
-    objects = refl;
     goes = e ∙ executed_any_as _ _ u u (then_goes _ _ u u u.registers.receiver refl);
   }
 
   abbrev Constantly : Pushed_constant → Code → Type 0
-  Constantly c x = (u : State H) → walk_code (values_in m u) x (stack_in m b u) ≡ returned (Some (constant_word m laws k b c u)) × ((v : Value) → return_by m x v ≡ return_to_sender m v)
+  Constantly c x = (u : State H) → walk_code (values_in m u) x (stack_in m b u) ≡ returned (Some (constant_word m laws k b c u)) × ((v : Value) → return_by m x v ≡ return_to_sender m v) × (returning m x u ≡ u)
 
   pub return_constant_row : (c : Pushed_constant) (x : Code) (u : State H) → Constantly c x → RowShows m laws k b (executed_if_any m (return_constant m c)) x u
   unfolding return_constant executed_if_any
@@ -431,22 +429,20 @@ module _ {H : Type 0} (m : ObjectMemory H) (laws : KeepsOthers m) (k b : ℕ) wh
       (record {
         word = constant_word m laws k b c u;
         is = refl;
-        state = r.state;
-        objects = ap (λ (s : State H). s.memory) g.1;
-        goes = e ∙ executed_any_as _ _ u r.state (then_goes _ _ u r.state r.mid r.first ∙ sym (ap (λ (n : Step H (Option Call)). n.run r.state) ((is u).1 r.mid))) ∙ ap (λ v. (executed_if_any m (return_by m x v)).run r.state) g.0;
+        goes = subst (λ s. o ≡ (executed_if_any m (return_by m x (constant_word m laws k b c u))).run s) (g.1 ∙ sym (is u).2)
+            (e ∙ executed_any_as _ _ u r.state (then_goes _ _ u r.state r.mid r.first ∙ sym (ap (λ (n : Step H (Option Call)). n.run r.state) ((is u).1 r.mid))) ∙ ap (λ v. (executed_if_any m (return_by m x v)).run r.state) g.0);
       })
 
   top_returns : (x : Code) (u : State H) (o : Transition (State H) Outcome) (t : State H) (v : Value) (f : Value → Step H (Option Call)) → Frame m laws k b u → ((w : Value) → return_by m x w ≡ f w)
-      → (w : State H) → (pop m).run u ≡ Went v w → o ≡ (executed_if_any m (pop m >>= f)).run u
+      → returning m x u ≡ lowered m laws k b u → (w : State H) → (pop m).run u ≡ Went v w → o ≡ (executed_if_any m (pop m >>= f)).run u
       → Shows m k b x (on_top (stack_in m b u) (λ y rest. returned y)) u t o
-  top_returns x u o t v f fr by w e is =
+  top_returns x u o t v f fr by low w e is =
       let r = pop_is m u w v e in
       by_top m laws k b u t o x v (λ y rest. returned y) fr r.top (λ l. record {
         word = v;
         is = refl;
-        state = w;
-        objects = ap (λ (s : State H). s.memory) r.is;
-        goes = is ∙ executed_any_as _ _ u w (then_goes (pop m) f u w v e ∙ sym (ap (λ (n : Step H (Option Call)). n.run w) (by v)));
+        goes = subst (λ s. o ≡ (executed_if_any m (return_by m x v)).run s) (r.is ∙ sym low)
+            (is ∙ executed_any_as _ _ u w (then_goes (pop m) f u w v e ∙ sym (ap (λ (n : Step H (Option Call)). n.run w) (by v))));
       })
 
   pub return_top_row : (u : State H) → RowShows m laws k b (executed_if_any m (return_top_to_sender m)) ReturnTop u
@@ -454,11 +450,11 @@ module _ {H : Type 0} (m : ObjectMemory H) (laws : KeepsOthers m) (k b : ℕ) wh
   return_top_row u t o z w e q =
       let p = split _ _ u t z (sym e ∙ q) in
       let r = split (pop m) (return_to_sender m) u p.state p.mid p.first in
-      top_returns ReturnTop u o t r.mid (return_to_sender m) (frame_of m laws k b u ReturnTop w) (λ v. refl) r.state r.first e
+      top_returns ReturnTop u o t r.mid (return_to_sender m) (frame_of m laws k b u ReturnTop w) (λ v. refl) refl r.state r.first e
 
   pub return_block_row : (u : State H) → RowShows m laws k b (executed_if_any m (return_top_to_caller m)) ReturnBlock u
   unfolding return_top_to_caller executed_if_any
   return_block_row u t o z w e q =
       let p = split _ _ u t z (sym e ∙ q) in
       let r = split (pop m) (return_to_caller m) u p.state p.mid p.first in
-      top_returns ReturnBlock u o t r.mid (return_to_caller m) (frame_of m laws k b u ReturnBlock w) (λ v. refl) r.state r.first e
+      top_returns ReturnBlock u o t r.mid (return_to_caller m) (frame_of m laws k b u ReturnBlock w) (λ v. refl) refl r.state r.first e

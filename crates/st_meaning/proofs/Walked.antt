@@ -1,7 +1,7 @@
 -- A step of the machine does what a walk's code says: each row, behind its bytes.
 use mathlib.Core.Path.{fun_ext}
 use Rattle.std.proofs.Common.{◌≡◌, ℕ, zero, suc, ◌+◌, ◌<◌, ◌≤◌, List, [], ◌∷◌, drop, Bool, true, false, Option, Some, None, refl, sym, ap, ◌∙◌, subst, arith}
-use Rattle.std.specs.Prelude.{◌-◌, ◌*◌, ◌==◌, ◌&&◌, ℤ, pos, ◌+ℤ◌, ◌-ℤ◌, slice_get, nat_lt, nat_le, if◌then◌else◌}
+use Rattle.std.specs.Prelude.{◌-◌, ◌*◌, ◌%◌, ◌==◌, ◌&&◌, ℤ, pos, ◌+ℤ◌, ◌-ℤ◌, slice_get, nat_lt, nat_le, if◌then◌else◌}
 use Rattle.std.proofs.lemmas.Int.{ints}
 use Rattle.std.proofs.lemmas.Bool.Decides.{nat_tests}
 use Rattle.st_model.specs.declared.bytecode.Bytecode.{Bytecode}
@@ -32,7 +32,7 @@ use Rattle.st_emit.specs.Resolving.{first_special}
 use Rattle.st_resolved.specs.declared.reading.Found.{Found}
 use Rattle.st_resolved.specs.Instructions.{place_of, place_in, pushed_constant, in_one, in_two, in_three, sending, long_count, long_on, long_jump_by, instruction_by, instruction}
 use Rattle.st_meaning.specs.inside.Codes.{walk_code}
-use Rattle.st_meaning.specs.inside.Machines.{KeepsOthers, values_in, stack_in, StoresApart, HasFew, IsWalked, NamesSelectors, SendsNamed, TestsTwo, IsCode, behind, Shows, StepWalks}
+use Rattle.st_meaning.specs.inside.Machines.{KeepsOthers, values_in, stack_in, StoresApart, as_sent, IsWalked, NamesSelectors, SendsNamed, TestsTwo, IsCode, behind, Shows, StepWalks}
 use Rattle.st_meaning.proofs.Inverting.{split, split_next, then_goes, read_then, read_next, answered, method_reads, method_is, ip_reads, ip_is, set_ip_is, object_reads, object_is, check_reads, or_die_reads, some_is, Reads, then_reads, next_reads}
 use Rattle.st_meaning.proofs.RowsWalk.{RowShows, push_row, receiver_row, context_row, constant_row, pop_store_row, store_top, store_row, pop_row, duplicate_row, ahead_row, back_row}
 use Rattle.st_meaning.proofs.RowsSend.{test_row, send_row, super_row, special_row, arithmetic_row, equivalence_row, class_row, value_row, value_with_row, copy_row, return_receiver_row, return_constant_row, return_top_row, return_block_row}
@@ -42,6 +42,7 @@ use Rattle.st_meaning.proofs.RowsSend.{test_row, send_row, super_row, special_ro
 record Ranged (c : Bytecode) : Type 0 where
   arithmetic : (k : ℕ) → c ≡ code.ArithmeticSend k → k < 16
   primitive : (k : ℕ) → c ≡ code.PrimitiveSend k → (22 ≤ k) × (k ≤ 26)
+  literal : (k n : ℕ) → c ≡ code.LiteralSend k n → n < 256
 
 ranged_if : (p : Bool) (x y : Bytecode) → (p ≡ true → Ranged x) → (p ≡ false → Ranged y) → Ranged (if p then x else y)
 ranged_if true x y f g = f refl
@@ -50,66 +51,75 @@ ranged_if false x y f g = g refl
 arithmetic_range : (b : ℕ) → nat_lt b 192 ≡ true → Ranged (code.ArithmeticSend (b - 176))
 arithmetic_range b e =
     let l : b < 192 = grind (arith, nat_tests, e) in
-    record { arithmetic = λ k q. (let i : b - 176 ≡ k = cc in omega (arith, l, i)); primitive = λ k q. cc }
+    record { arithmetic = λ k q. (let i : b - 176 ≡ k = cc in omega (arith, l, i)); primitive = λ k q. cc; literal = λ k n q. cc }
 
 primitive_range : (b : ℕ) → nat_lt b 198 ≡ false → nat_lt b 203 ≡ true → Ranged (code.PrimitiveSend (b - 176))
 primitive_range b e f =
     let l : 198 ≤ b = grind (arith, nat_tests, e) in
     let h : b < 203 = grind (arith, nat_tests, f) in
-    record { arithmetic = λ k q. cc; primitive = λ k q. (let i : b - 176 ≡ k = cc in (omega (arith, l, i), omega (arith, h, i))) }
+    record { arithmetic = λ k q. cc; primitive = λ k q. (let i : b - 176 ≡ k = cc in (omega (arith, l, i), omega (arith, h, i))); literal = λ k n q. cc }
+
+literal_range : (k n : ℕ) → n < 256 → Ranged (code.LiteralSend k n)
+literal_range k n l = record { arithmetic = λ j q. cc; primitive = λ j q. cc; literal = λ j i q. (let e : n ≡ i = cc in subst (λ x. x < 256) e l) }
 
 ranged : (b : ℕ) → Ranged (decoded b)
 ranged b =
-    ranged_if (nat_lt b 16) (code.Push (ReceiverVariable b)) _ (λ d. (record { arithmetic = λ k q. cc; primitive = λ k q. cc })) (λ d.
-    ranged_if (nat_lt b 32) (code.Push (TemporaryVariable (b - 16))) _ (λ d. (record { arithmetic = λ k q. cc; primitive = λ k q. cc })) (λ d.
-    ranged_if (nat_lt b 64) (code.Push (LiteralConstant (b - 32))) _ (λ d. (record { arithmetic = λ k q. cc; primitive = λ k q. cc })) (λ d.
-    ranged_if (nat_lt b 96) (code.Push (LiteralVariable (b - 64))) _ (λ d. (record { arithmetic = λ k q. cc; primitive = λ k q. cc })) (λ d.
-    ranged_if (nat_lt b 104) (code.StoreAndPop (ReceiverVariable (b - 96))) _ (λ d. (record { arithmetic = λ k q. cc; primitive = λ k q. cc })) (λ d.
-    ranged_if (nat_lt b 112) (code.StoreAndPop (TemporaryVariable (b - 104))) _ (λ d. (record { arithmetic = λ k q. cc; primitive = λ k q. cc })) (λ d.
-    ranged_if (b == 112) (code.PushReceiver) _ (λ d. (record { arithmetic = λ k q. cc; primitive = λ k q. cc })) (λ d.
-    ranged_if (b == 113) (code.PushConstant constant.True) _ (λ d. (record { arithmetic = λ k q. cc; primitive = λ k q. cc })) (λ d.
-    ranged_if (b == 114) (code.PushConstant constant.False) _ (λ d. (record { arithmetic = λ k q. cc; primitive = λ k q. cc })) (λ d.
-    ranged_if (b == 115) (code.PushConstant constant.Nil) _ (λ d. (record { arithmetic = λ k q. cc; primitive = λ k q. cc })) (λ d.
-    ranged_if (b == 116) (code.PushConstant constant.MinusOne) _ (λ d. (record { arithmetic = λ k q. cc; primitive = λ k q. cc })) (λ d.
-    ranged_if (b == 117) (code.PushConstant constant.Zero) _ (λ d. (record { arithmetic = λ k q. cc; primitive = λ k q. cc })) (λ d.
-    ranged_if (b == 118) (code.PushConstant constant.One) _ (λ d. (record { arithmetic = λ k q. cc; primitive = λ k q. cc })) (λ d.
-    ranged_if (b == 119) (code.PushConstant constant.Two) _ (λ d. (record { arithmetic = λ k q. cc; primitive = λ k q. cc })) (λ d.
-    ranged_if (b == 120) (code.ReturnReceiver) _ (λ d. (record { arithmetic = λ k q. cc; primitive = λ k q. cc })) (λ d.
-    ranged_if (b == 121) (code.ReturnConstant constant.True) _ (λ d. (record { arithmetic = λ k q. cc; primitive = λ k q. cc })) (λ d.
-    ranged_if (b == 122) (code.ReturnConstant constant.False) _ (λ d. (record { arithmetic = λ k q. cc; primitive = λ k q. cc })) (λ d.
-    ranged_if (b == 123) (code.ReturnConstant constant.Nil) _ (λ d. (record { arithmetic = λ k q. cc; primitive = λ k q. cc })) (λ d.
-    ranged_if (b == 124) (code.ReturnTopToSender) _ (λ d. (record { arithmetic = λ k q. cc; primitive = λ k q. cc })) (λ d.
-    ranged_if (b == 125) (code.ReturnTopToCaller) _ (λ d. (record { arithmetic = λ k q. cc; primitive = λ k q. cc })) (λ d.
-    ranged_if (nat_lt b 128) (code.Unused) _ (λ d. (record { arithmetic = λ k q. cc; primitive = λ k q. cc })) (λ d.
-    ranged_if (b == 128) (code.ExtendedPush) _ (λ d. (record { arithmetic = λ k q. cc; primitive = λ k q. cc })) (λ d.
-    ranged_if (b == 129) (code.ExtendedStore) _ (λ d. (record { arithmetic = λ k q. cc; primitive = λ k q. cc })) (λ d.
-    ranged_if (b == 130) (code.ExtendedStoreAndPop) _ (λ d. (record { arithmetic = λ k q. cc; primitive = λ k q. cc })) (λ d.
-    ranged_if (b == 131) (code.ExtendedSend) _ (λ d. (record { arithmetic = λ k q. cc; primitive = λ k q. cc })) (λ d.
-    ranged_if (b == 132) (code.DoubleExtendedSend) _ (λ d. (record { arithmetic = λ k q. cc; primitive = λ k q. cc })) (λ d.
-    ranged_if (b == 133) (code.ExtendedSuperSend) _ (λ d. (record { arithmetic = λ k q. cc; primitive = λ k q. cc })) (λ d.
-    ranged_if (b == 134) (code.DoubleExtendedSuperSend) _ (λ d. (record { arithmetic = λ k q. cc; primitive = λ k q. cc })) (λ d.
-    ranged_if (b == 135) (code.PopStack) _ (λ d. (record { arithmetic = λ k q. cc; primitive = λ k q. cc })) (λ d.
-    ranged_if (b == 136) (code.DuplicateTop) _ (λ d. (record { arithmetic = λ k q. cc; primitive = λ k q. cc })) (λ d.
-    ranged_if (b == 137) (code.PushActiveContext) _ (λ d. (record { arithmetic = λ k q. cc; primitive = λ k q. cc })) (λ d.
-    ranged_if (nat_lt b 144) (code.Unused) _ (λ d. (record { arithmetic = λ k q. cc; primitive = λ k q. cc })) (λ d.
-    ranged_if (nat_lt b 152) (code.ShortUnconditionalJump (b - 144)) _ (λ d. (record { arithmetic = λ k q. cc; primitive = λ k q. cc })) (λ d.
-    ranged_if (nat_lt b 160) (code.ShortJumpOnFalse (b - 152)) _ (λ d. (record { arithmetic = λ k q. cc; primitive = λ k q. cc })) (λ d.
-    ranged_if (nat_lt b 168) (code.LongUnconditionalJump (b - 160)) _ (λ d. (record { arithmetic = λ k q. cc; primitive = λ k q. cc })) (λ d.
-    ranged_if (nat_lt b 172) (code.LongJumpOnTrue (b - 168)) _ (λ d. (record { arithmetic = λ k q. cc; primitive = λ k q. cc })) (λ d.
-    ranged_if (nat_lt b 176) (code.LongJumpOnFalse (b - 172)) _ (λ d. (record { arithmetic = λ k q. cc; primitive = λ k q. cc })) (λ d.
+    ranged_if (nat_lt b 16) (code.Push (ReceiverVariable b)) _ (λ d. (record { arithmetic = λ k q. cc; primitive = λ k q. cc; literal = λ k n q. cc })) (λ d.
+    ranged_if (nat_lt b 32) (code.Push (TemporaryVariable (b - 16))) _ (λ d. (record { arithmetic = λ k q. cc; primitive = λ k q. cc; literal = λ k n q. cc })) (λ d.
+    ranged_if (nat_lt b 64) (code.Push (LiteralConstant (b - 32))) _ (λ d. (record { arithmetic = λ k q. cc; primitive = λ k q. cc; literal = λ k n q. cc })) (λ d.
+    ranged_if (nat_lt b 96) (code.Push (LiteralVariable (b - 64))) _ (λ d. (record { arithmetic = λ k q. cc; primitive = λ k q. cc; literal = λ k n q. cc })) (λ d.
+    ranged_if (nat_lt b 104) (code.StoreAndPop (ReceiverVariable (b - 96))) _ (λ d. (record { arithmetic = λ k q. cc; primitive = λ k q. cc; literal = λ k n q. cc })) (λ d.
+    ranged_if (nat_lt b 112) (code.StoreAndPop (TemporaryVariable (b - 104))) _ (λ d. (record { arithmetic = λ k q. cc; primitive = λ k q. cc; literal = λ k n q. cc })) (λ d.
+    ranged_if (b == 112) (code.PushReceiver) _ (λ d. (record { arithmetic = λ k q. cc; primitive = λ k q. cc; literal = λ k n q. cc })) (λ d.
+    ranged_if (b == 113) (code.PushConstant constant.True) _ (λ d. (record { arithmetic = λ k q. cc; primitive = λ k q. cc; literal = λ k n q. cc })) (λ d.
+    ranged_if (b == 114) (code.PushConstant constant.False) _ (λ d. (record { arithmetic = λ k q. cc; primitive = λ k q. cc; literal = λ k n q. cc })) (λ d.
+    ranged_if (b == 115) (code.PushConstant constant.Nil) _ (λ d. (record { arithmetic = λ k q. cc; primitive = λ k q. cc; literal = λ k n q. cc })) (λ d.
+    ranged_if (b == 116) (code.PushConstant constant.MinusOne) _ (λ d. (record { arithmetic = λ k q. cc; primitive = λ k q. cc; literal = λ k n q. cc })) (λ d.
+    ranged_if (b == 117) (code.PushConstant constant.Zero) _ (λ d. (record { arithmetic = λ k q. cc; primitive = λ k q. cc; literal = λ k n q. cc })) (λ d.
+    ranged_if (b == 118) (code.PushConstant constant.One) _ (λ d. (record { arithmetic = λ k q. cc; primitive = λ k q. cc; literal = λ k n q. cc })) (λ d.
+    ranged_if (b == 119) (code.PushConstant constant.Two) _ (λ d. (record { arithmetic = λ k q. cc; primitive = λ k q. cc; literal = λ k n q. cc })) (λ d.
+    ranged_if (b == 120) (code.ReturnReceiver) _ (λ d. (record { arithmetic = λ k q. cc; primitive = λ k q. cc; literal = λ k n q. cc })) (λ d.
+    ranged_if (b == 121) (code.ReturnConstant constant.True) _ (λ d. (record { arithmetic = λ k q. cc; primitive = λ k q. cc; literal = λ k n q. cc })) (λ d.
+    ranged_if (b == 122) (code.ReturnConstant constant.False) _ (λ d. (record { arithmetic = λ k q. cc; primitive = λ k q. cc; literal = λ k n q. cc })) (λ d.
+    ranged_if (b == 123) (code.ReturnConstant constant.Nil) _ (λ d. (record { arithmetic = λ k q. cc; primitive = λ k q. cc; literal = λ k n q. cc })) (λ d.
+    ranged_if (b == 124) (code.ReturnTopToSender) _ (λ d. (record { arithmetic = λ k q. cc; primitive = λ k q. cc; literal = λ k n q. cc })) (λ d.
+    ranged_if (b == 125) (code.ReturnTopToCaller) _ (λ d. (record { arithmetic = λ k q. cc; primitive = λ k q. cc; literal = λ k n q. cc })) (λ d.
+    ranged_if (nat_lt b 128) (code.Unused) _ (λ d. (record { arithmetic = λ k q. cc; primitive = λ k q. cc; literal = λ k n q. cc })) (λ d.
+    ranged_if (b == 128) (code.ExtendedPush) _ (λ d. (record { arithmetic = λ k q. cc; primitive = λ k q. cc; literal = λ k n q. cc })) (λ d.
+    ranged_if (b == 129) (code.ExtendedStore) _ (λ d. (record { arithmetic = λ k q. cc; primitive = λ k q. cc; literal = λ k n q. cc })) (λ d.
+    ranged_if (b == 130) (code.ExtendedStoreAndPop) _ (λ d. (record { arithmetic = λ k q. cc; primitive = λ k q. cc; literal = λ k n q. cc })) (λ d.
+    ranged_if (b == 131) (code.ExtendedSend) _ (λ d. (record { arithmetic = λ k q. cc; primitive = λ k q. cc; literal = λ k n q. cc })) (λ d.
+    ranged_if (b == 132) (code.DoubleExtendedSend) _ (λ d. (record { arithmetic = λ k q. cc; primitive = λ k q. cc; literal = λ k n q. cc })) (λ d.
+    ranged_if (b == 133) (code.ExtendedSuperSend) _ (λ d. (record { arithmetic = λ k q. cc; primitive = λ k q. cc; literal = λ k n q. cc })) (λ d.
+    ranged_if (b == 134) (code.DoubleExtendedSuperSend) _ (λ d. (record { arithmetic = λ k q. cc; primitive = λ k q. cc; literal = λ k n q. cc })) (λ d.
+    ranged_if (b == 135) (code.PopStack) _ (λ d. (record { arithmetic = λ k q. cc; primitive = λ k q. cc; literal = λ k n q. cc })) (λ d.
+    ranged_if (b == 136) (code.DuplicateTop) _ (λ d. (record { arithmetic = λ k q. cc; primitive = λ k q. cc; literal = λ k n q. cc })) (λ d.
+    ranged_if (b == 137) (code.PushActiveContext) _ (λ d. (record { arithmetic = λ k q. cc; primitive = λ k q. cc; literal = λ k n q. cc })) (λ d.
+    ranged_if (nat_lt b 144) (code.Unused) _ (λ d. (record { arithmetic = λ k q. cc; primitive = λ k q. cc; literal = λ k n q. cc })) (λ d.
+    ranged_if (nat_lt b 152) (code.ShortUnconditionalJump (b - 144)) _ (λ d. (record { arithmetic = λ k q. cc; primitive = λ k q. cc; literal = λ k n q. cc })) (λ d.
+    ranged_if (nat_lt b 160) (code.ShortJumpOnFalse (b - 152)) _ (λ d. (record { arithmetic = λ k q. cc; primitive = λ k q. cc; literal = λ k n q. cc })) (λ d.
+    ranged_if (nat_lt b 168) (code.LongUnconditionalJump (b - 160)) _ (λ d. (record { arithmetic = λ k q. cc; primitive = λ k q. cc; literal = λ k n q. cc })) (λ d.
+    ranged_if (nat_lt b 172) (code.LongJumpOnTrue (b - 168)) _ (λ d. (record { arithmetic = λ k q. cc; primitive = λ k q. cc; literal = λ k n q. cc })) (λ d.
+    ranged_if (nat_lt b 176) (code.LongJumpOnFalse (b - 172)) _ (λ d. (record { arithmetic = λ k q. cc; primitive = λ k q. cc; literal = λ k n q. cc })) (λ d.
     ranged_if (nat_lt b 192) (code.ArithmeticSend (b - 176)) _ (λ e. arithmetic_range b e) (λ e.
-    ranged_if (nat_lt b 198) (code.SpecialSend (b - 176)) _ (λ f. (record { arithmetic = λ k q. cc; primitive = λ k q. cc })) (λ f.
+    ranged_if (nat_lt b 198) (code.SpecialSend (b - 176)) _ (λ f. (record { arithmetic = λ k q. cc; primitive = λ k q. cc; literal = λ k n q. cc })) (λ f.
     ranged_if (nat_lt b 203) (code.PrimitiveSend (b - 176)) _ (λ g. primitive_range b f g) (λ g.
-    ranged_if (nat_lt b 208) (code.SpecialSend (b - 176)) _ (λ d. (record { arithmetic = λ k q. cc; primitive = λ k q. cc })) (λ d.
-    ranged_if (nat_lt b 224) (code.LiteralSend (b - 208) 0) _ (λ d. (record { arithmetic = λ k q. cc; primitive = λ k q. cc })) (λ d.
-    ranged_if (nat_lt b 240) (code.LiteralSend (b - 224) 1) _ (λ d. (record { arithmetic = λ k q. cc; primitive = λ k q. cc })) (λ d.
-    (record { arithmetic = λ k q. cc; primitive = λ k q. cc }))))))))))))))))))))))))))))))))))))))))))))
+    ranged_if (nat_lt b 208) (code.SpecialSend (b - 176)) _ (λ d. (record { arithmetic = λ k q. cc; primitive = λ k q. cc; literal = λ k n q. cc })) (λ d.
+    ranged_if (nat_lt b 224) (code.LiteralSend (b - 208) 0) _ (λ d. literal_range (b - 208) 0 (omega arith)) (λ d.
+    ranged_if (nat_lt b 240) (code.LiteralSend (b - 224) 1) _ (λ d. literal_range (b - 224) 1 (omega arith)) (λ d.
+    literal_range (b - 240) 2 (omega arith))))))))))))))))))))))))))))))))))))))))))))
 
 below_of : (a c : ℕ) → nat_lt a c ≡ true → a < c
 below_of a c e = grind (arith, nat_tests, e)
 
 from_of : (a c : ℕ) → nat_lt a c ≡ false → c ≤ a
 from_of a c e = grind (arith, nat_tests, e)
+
+few_of : (n : ℕ) → n < 256 → n % 256 ≡ n
+few_of n l = omega (arith, l)
+
+more_of : (n : ℕ) → n < 256 → (n + 256) % 256 ≡ n
+more_of n l = omega (arith, l)
 
 -- STATES BEHIND SOME BYTES
 
@@ -215,7 +225,7 @@ module _ {H : Type 0} (m : ObjectMemory H) (laws : KeepsOthers m) (k b : ℕ) wh
   two_behind s n c a = tt
 
   walked_behind : (s : State H) (n : ℕ) (c : Code) → IsWalked m s k b c → IsWalked m (behind m s n) k b c
-  walked_behind s n c w = record { no_home = w.no_home; no_active = w.no_active; apart = apart_behind s n c w.apart; names = w.names; few = w.few; selectors = named_behind s n c w.selectors; booleans = two_behind s n c w.booleans; home = w.home; block = w.block; stack = w.stack }
+  walked_behind s n c w = record { no_home = w.no_home; no_active = w.no_active; apart = apart_behind s n c w.apart; names = w.names; selectors = named_behind s n c w.selectors; booleans = two_behind s n c w.booleans; home = w.home; block = w.block; stack = w.stack }
 
   values_behind : (s : State H) (n : ℕ) (c : Code) (st : List (Option Value)) → walk_code (values_in m (behind m s n)) c st ≡ walk_code (values_in m s) c st
   values_behind s n (Push (Field i)) st = refl
@@ -252,16 +262,16 @@ module _ {H : Type 0} (m : ObjectMemory H) (laws : KeepsOthers m) (k b : ℕ) wh
 
   module _ (s t : State H) (o : Transition (State H) Outcome) (z : Outcome) (bytes : List ℕ) (at : ℕ) (c : IsCode m s bytes at) (q : o ≡ Went z t) where
     abbrev Seen : Found → Type 0
-    Seen x = Shows m k b x.step (walk_code (values_in m s) x.step (stack_in m b s)) (behind m s x.size) t o
+    Seen x = Shows m k b (as_sent x.step) (walk_code (values_in m s) (as_sent x.step) (stack_in m b s)) (behind m s x.size) t o
 
     abbrev Walks : Found → Type 0
-    Walks x = IsWalked m s k b x.step
+    Walks x = IsWalked m s k b (as_sent x.step)
 
-    from_row : (x : Code) (n : Step H Outcome) (j : ℕ) → RowShows m laws k b n x (behind m s j) → Walks (record { step = x; size = j }) → o ≡ n.run (behind m s j) → Seen (record { step = x; size = j })
+    from_row : (x : Code) (n : Step H Outcome) (j : ℕ) → RowShows m laws k b n (as_sent x) (behind m s j) → Walks (record { step = x; size = j }) → o ≡ n.run (behind m s j) → Seen (record { step = x; size = j })
     from_row x n j row w e =
-        subst (λ y. Shows m k b x y (behind m s j) t o) (values_behind s j x (stack_in m b s)) (row t o z (walked_behind s j x w) e q)
+        subst (λ y. Shows m k b (as_sent x) y (behind m s j) t o) (values_behind s j (as_sent x) (stack_in m b s)) (row t o z (walked_behind s j (as_sent x) w) e q)
 
-    one : (y : Code) (n : Step H Outcome) → RowShows m laws k b n y (behind m s 1) → (x : Found) → in_one y ≡ Some x → Walks x → o ≡ n.run (behind m s 1) → Seen x
+    one : (y : Code) (n : Step H Outcome) → RowShows m laws k b n (as_sent y) (behind m s 1) → (x : Found) → in_one y ≡ Some x → Walks x → o ≡ n.run (behind m s 1) → Seen x
     one y n row x e w i =
         let f : record { step = y; size = 1 } ≡ x = cc in
         subst Seen f (from_row y n 1 row (subst Walks (sym f) w) i)
@@ -293,7 +303,7 @@ module _ {H : Type 0} (m : ObjectMemory H) (laws : KeepsOthers m) (k b : ℕ) wh
           rest = i ∙ then_goes _ g (behind m s 2) p.state p.mid p.first ∙ ap (λ u. (g p.mid).run u) (n.is ∙ one_more m s bytes at 2 c);
         }
 
-    two : (f : ℕ → Code) (g : ℕ → Step H Outcome) → ((a : ℕ) → a < 256 → RowShows m laws k b (g a) (f a) (behind m s 2))
+    two : (f : ℕ → Code) (g : ℕ → Step H Outcome) → ((a : ℕ) → a < 256 → RowShows m laws k b (g a) (as_sent (f a)) (behind m s 2))
         → (x : Found) → in_two f (drop (at + 1) bytes) ≡ Some x → Walks x → o ≡ (next_byte m >>= g).run (behind m s 1) → Seen x
     two f g row x e w i =
         let r = second g i in
@@ -301,7 +311,7 @@ module _ {H : Type 0} (m : ObjectMemory H) (laws : KeepsOthers m) (k b : ℕ) wh
         let v : record { step = f r.byte; size = 2 } ≡ x = cc in
         subst Seen v (from_row (f r.byte) (g r.byte) 2 (row r.byte (c.all_bytes (at + 1) r.byte r.got)) (subst Walks (sym v) w) r.rest)
 
-    three : (f : ℕ → ℕ → Code) (g : ℕ → ℕ → Step H Outcome) → ((a i : ℕ) → HasFew m (f a i) → RowShows m laws k b (g a i) (f a i) (behind m s 3))
+    three : (f : ℕ → ℕ → Code) (g : ℕ → ℕ → Step H Outcome) → ((a i : ℕ) → a < 256 → RowShows m laws k b (g a i) (as_sent (f a i)) (behind m s 3))
         → (x : Found) → in_three f (drop (at + 1) bytes) ≡ Some x → Walks x → o ≡ (next_byte m >>= (λ a. next_byte m >>= g a)).run (behind m s 1) → Seen x
     three f g row x e w i =
         let r = second (λ a. next_byte m >>= g a) i in
@@ -309,17 +319,30 @@ module _ {H : Type 0} (m : ObjectMemory H) (laws : KeepsOthers m) (k b : ℕ) wh
         let d : in_three f (r.byte ∷ drop (at + 1 + 1) bytes) ≡ Some x = subst (λ bs. in_three f bs ≡ Some x) (drop_here bytes (at + 1) r.byte r.got) e in
         let d2 : in_three f (r.byte ∷ r2.byte ∷ drop (at + 1 + 1 + 1) bytes) ≡ Some x = subst (λ bs. in_three f (r.byte ∷ bs) ≡ Some x) (drop_here bytes (at + 1 + 1) r2.byte r2.got) d in
         let v : record { step = f r.byte r2.byte; size = 3 } ≡ x = cc in
-        let w2 = subst Walks (sym v) w in
-        subst Seen v (from_row (f r.byte r2.byte) (g r.byte r2.byte) 3 (row r.byte r2.byte w2.few) w2 r2.rest)
+        subst Seen v (from_row (f r.byte r2.byte) (g r.byte r2.byte) 3 (row r.byte r2.byte (c.all_bytes (at + 1) r.byte r.got)) (subst Walks (sym v) w) r2.rest)
 
     -- ROWS OF MORE THAN ONE BYTE, AND JUMPS
 
-    long_send : (above : Bool) (a i : ℕ) (p : Bool) → (nat_lt i 32 && nat_le a 7) ≡ p → HasFew m (sending above (if p then a + 256 else a) i)
-        → RowShows m laws k b (executed m (sent_by above i a)) (sending above (if p then a + 256 else a) i) (behind m s 3)
-    long_send true a i true e few = absurd (omega (arith, few))
-    long_send false a i true e few = absurd (omega (arith, few))
-    long_send true a i false e few = super_row m laws k b a i (behind m s 3)
-    long_send false a i false e few = send_row m laws k b a i (behind m s 3)
+    few_send : (n i : ℕ) (u : State H) → n < 256 → RowShows m laws k b (executed m (send_literal m i n)) (as_sent (Send n i)) u
+    few_send n i u l = subst (λ j. RowShows m laws k b (executed m (send_literal m i n)) (Send j i) u) (sym (few_of n l)) (send_row m laws k b n i u)
+
+    few_super : (n i : ℕ) (u : State H) → n < 256 → RowShows m laws k b (executed m (send_literal_to_super m i n)) (as_sent (SendSuper n i)) u
+    few_super n i u l = subst (λ j. RowShows m laws k b (executed m (send_literal_to_super m i n)) (SendSuper j i) u) (sym (few_of n l)) (super_row m laws k b n i u)
+
+    long_send : (above : Bool) (a i : ℕ) (p : Bool) → a < 256 → RowShows m laws k b (executed m (sent_by above i a)) (as_sent (sending above (if p then a + 256 else a) i)) (behind m s 3)
+    long_send true a i true l = subst (λ j. RowShows m laws k b (executed m (send_literal_to_super m i a)) (SendSuper j i) (behind m s 3)) (sym (more_of a l)) (super_row m laws k b a i (behind m s 3))
+    long_send false a i true l = subst (λ j. RowShows m laws k b (executed m (send_literal m i a)) (Send j i) (behind m s 3)) (sym (more_of a l)) (send_row m laws k b a i (behind m s 3))
+    long_send true a i false l = few_super a i (behind m s 3) l
+    long_send false a i false l = few_send a i (behind m s 3) l
+
+    pushed_row : (a : Pushed_constant) (u : State H) → RowShows m laws k b (goes_on (push_constant m a)) (as_sent (pushed_constant a)) u
+    pushed_row constant.True u = constant_row m laws k b constant.True u
+    pushed_row constant.False u = constant_row m laws k b constant.False u
+    pushed_row constant.Nil u = constant_row m laws k b constant.Nil u
+    pushed_row constant.MinusOne u = constant_row m laws k b constant.MinusOne u
+    pushed_row constant.Zero u = constant_row m laws k b constant.Zero u
+    pushed_row constant.One u = constant_row m laws k b constant.One u
+    pushed_row constant.Two u = constant_row m laws k b constant.Two u
 
     back_offset : (i a : ℕ) (y : ℤ) → i < 4 → a < 256 → y +ℤ long_offset i a ≡ y -ℤ pos ((4 - i) * 256 - a)
     back_offset zero a y l h = omega (arith, ints, h)
@@ -331,14 +354,14 @@ module _ {H : Type 0} (m : ObjectMemory H) (laws : KeepsOthers m) (k b : ℕ) wh
     on_offset : (i a : ℕ) → 4 ≤ i → long_offset i a ≡ pos ((i - 4) * 256 + a)
     on_offset i a l = omega (arith, ints, l)
 
-    on_by : (d : ℕ) (short : Bool) (u : State H) → RowShows m laws k b (goes_on (jump (pos d))) (if short then JumpPast d else Jump d) u
+    on_by : (d : ℕ) (short : Bool) (u : State H) → RowShows m laws k b (goes_on (jump (pos d))) (as_sent (if short then JumpPast d else Jump d)) u
     on_by d true u = ahead_row m laws k b d (JumpPast d) u refl
     on_by d false u = ahead_row m laws k b d (Jump d) u refl
 
-    long_by : (i a : ℕ) (p : Bool) (u : State H) → nat_lt i 4 ≡ p → a < 256 → RowShows m laws k b (goes_on (jump (long_offset i a))) (if p then JumpBack ((4 - i) * 256 - a) else long_on ((i - 4) * 256 + a)) u
+    long_by : (i a : ℕ) (p : Bool) (u : State H) → nat_lt i 4 ≡ p → a < 256 → RowShows m laws k b (goes_on (jump (long_offset i a))) (as_sent (if p then JumpBack ((4 - i) * 256 - a) else long_on ((i - 4) * 256 + a))) u
     long_by i a true u e h = back_row m laws k b ((4 - i) * 256 - a) (long_offset i a) (JumpBack ((4 - i) * 256 - a)) u (back_offset i a u.registers.ip (below_of i 4 e) h) refl
     long_by i a false u e h =
-        subst (λ j. RowShows m laws k b (goes_on (jump j)) (long_on ((i - 4) * 256 + a)) u) (sym (on_offset i a (from_of i 4 e)))
+        subst (λ j. RowShows m laws k b (goes_on (jump j)) (as_sent (long_on ((i - 4) * 256 + a))) u) (sym (on_offset i a (from_of i 4 e)))
         (on_by ((i - 4) * 256 + a) (is_short ((i - 4) * 256 + a)) u)
 
     going : (f : ℕ → Step H (Unit {0})) → (goes_on (next_byte m >>= f)).run (behind m s 1) ≡ (next_byte m >>= (λ a. goes_on (f a))).run (behind m s 1)
@@ -362,9 +385,9 @@ module _ {H : Type 0} (m : ObjectMemory H) (laws : KeepsOthers m) (k b : ℕ) wh
     second_behind = behind m s 2
 
     returns_constant : (a : Pushed_constant) (x : Found) → instruction_by (code.ReturnConstant a) (drop (at + 1) bytes) ≡ Some x → Walks x → o ≡ (executed_if_any m (return_constant m a)).run first_behind → Seen x
-    returns_constant constant.True x e w i = one (ReturnConstant True) (executed_if_any m (return_constant m constant.True)) (return_constant_row m laws k b constant.True (ReturnConstant True) first_behind (λ u. (refl, λ v. refl))) x e w i
-    returns_constant constant.False x e w i = one (ReturnConstant False) (executed_if_any m (return_constant m constant.False)) (return_constant_row m laws k b constant.False (ReturnConstant False) first_behind (λ u. (refl, λ v. refl))) x e w i
-    returns_constant constant.Nil x e w i = one (ReturnConstant Nil) (executed_if_any m (return_constant m constant.Nil)) (return_constant_row m laws k b constant.Nil (ReturnConstant Nil) first_behind (λ u. (refl, λ v. refl))) x e w i
+    returns_constant constant.True x e w i = one (ReturnConstant True) (executed_if_any m (return_constant m constant.True)) (return_constant_row m laws k b constant.True (ReturnConstant True) first_behind (λ u. (refl, λ v. refl, refl))) x e w i
+    returns_constant constant.False x e w i = one (ReturnConstant False) (executed_if_any m (return_constant m constant.False)) (return_constant_row m laws k b constant.False (ReturnConstant False) first_behind (λ u. (refl, λ v. refl, refl))) x e w i
+    returns_constant constant.Nil x e w i = one (ReturnConstant Nil) (executed_if_any m (return_constant m constant.Nil)) (return_constant_row m laws k b constant.Nil (ReturnConstant Nil) first_behind (λ u. (refl, λ v. refl, refl))) x e w i
     returns_constant constant.MinusOne x e w i = cc
     returns_constant constant.Zero x e w i = cc
     returns_constant constant.One x e w i = cc
@@ -379,7 +402,7 @@ module _ {H : Type 0} (m : ObjectMemory H) (laws : KeepsOthers m) (k b : ℕ) wh
         → o ≡ (executed m (next_byte m >>= (λ a. next_byte m >>= (λ j. sent_by above j a)))).run first_behind → Seen x
     unfolding executed
     doubles above x e w i =
-        three (λ a j. sending above (long_count a j) j) (λ a j. sent_by above j a >>= execute m) (λ a j few. long_send above a j (nat_lt j 32 && nat_le a 7) refl few) x e w
+        three (λ a j. sending above (long_count a j) j) (λ a j. sent_by above j a >>= execute m) (λ a j l. long_send above a j (nat_lt j 32 && nat_le a 7) l) x e w
         (i ∙ ap (λ (n : Step H Outcome). n.run first_behind) (double above))
 
     by_code : (y : Bytecode) → Ranged y → (x : Found) → instruction_by y (drop (at + 1) bytes) ≡ Some x → Walks x → o ≡ (bytecode m y).run first_behind → Seen x
@@ -387,7 +410,7 @@ module _ {H : Type 0} (m : ObjectMemory H) (laws : KeepsOthers m) (k b : ℕ) wh
     by_code (code.Push p) r x e w i = one (Push (place_of p)) (goes_on (push_operand m p)) (push_row m laws k b p first_behind) x e w i
     by_code (code.StoreAndPop p) r x e w i = one (PopStore (place_of p)) (goes_on (store_and_pop m p)) (pop_store_row m laws k b p first_behind) x e w i
     by_code code.PushReceiver r x e w i = one (PushConstant Receiver) (goes_on (push_receiver m)) (receiver_row m laws k b first_behind) x e w i
-    by_code (code.PushConstant a) r x e w i = one (pushed_constant a) (goes_on (push_constant m a)) (constant_row m laws k b a first_behind) x e w i
+    by_code (code.PushConstant a) r x e w i = one (pushed_constant a) (goes_on (push_constant m a)) (pushed_row a first_behind) x e w i
     by_code code.ReturnReceiver r x e w i = one (ReturnConstant Receiver) (executed_if_any m (return_receiver m)) (return_receiver_row m laws k b first_behind) x e w i
     by_code (code.ReturnConstant a) r x e w i = returns_constant a x e w i
     by_code code.ReturnTopToSender r x e w i = one ReturnTop (executed_if_any m (return_top_to_sender m)) (return_top_row m laws k b first_behind) x e w i
@@ -400,10 +423,10 @@ module _ {H : Type 0} (m : ObjectMemory H) (laws : KeepsOthers m) (k b : ℕ) wh
     by_code code.ExtendedStoreAndPop r x e w i =
         two (λ a. PopStore (place_in a)) (λ a. goes_on (store_and_pop m (operand_of a))) (λ a l. pop_store_row m laws k b (operand_of a) second_behind) x e w (i ∙ going (λ a. store_and_pop m (operand_of a)))
     by_code code.ExtendedSend r x e w i =
-        two (λ a. Send (arguments_of a) (selector_of a)) (λ a. executed m (send_literal m (selector_of a) (arguments_of a))) (λ a l. send_row m laws k b (arguments_of a) (selector_of a) second_behind) x e w (i ∙ calling (λ a. send_literal m (selector_of a) (arguments_of a)))
+        two (λ a. Send (arguments_of a) (selector_of a)) (λ a. executed m (send_literal m (selector_of a) (arguments_of a))) (λ a l. few_send (arguments_of a) (selector_of a) second_behind (omega (arith, l))) x e w (i ∙ calling (λ a. send_literal m (selector_of a) (arguments_of a)))
     by_code code.DoubleExtendedSend r x e w i = doubles false x e w i
     by_code code.ExtendedSuperSend r x e w i =
-        two (λ a. SendSuper (arguments_of a) (selector_of a)) (λ a. executed m (send_literal_to_super m (selector_of a) (arguments_of a))) (λ a l. super_row m laws k b (arguments_of a) (selector_of a) second_behind) x e w (i ∙ calling (λ a. send_literal_to_super m (selector_of a) (arguments_of a)))
+        two (λ a. SendSuper (arguments_of a) (selector_of a)) (λ a. executed m (send_literal_to_super m (selector_of a) (arguments_of a))) (λ a l. few_super (arguments_of a) (selector_of a) second_behind (omega (arith, l))) x e w (i ∙ calling (λ a. send_literal_to_super m (selector_of a) (arguments_of a)))
     by_code code.DoubleExtendedSuperSend r x e w i = doubles true x e w i
     by_code code.PopStack r x e w i = one Pop (goes_on (pop_stack m)) (pop_row m laws k b first_behind) x e w i
     by_code code.DuplicateTop r x e w i = one Duplicate (goes_on (duplicate_top m)) (duplicate_row m laws k b first_behind) x e w i
@@ -419,7 +442,7 @@ module _ {H : Type 0} (m : ObjectMemory H) (laws : KeepsOthers m) (k b : ℕ) wh
     by_code (code.ArithmeticSend j) r x e w i = one (SendSpecial (first_special + j)) (arithmetic_send m j) (arithmetic_row m laws k b j first_behind (r.arithmetic j refl)) x e w i
     by_code (code.SpecialSend j) r x e w i = one (SendSpecial (first_special + j)) (executed m (special_send m j)) (special_row m laws k b j first_behind) x e w i
     by_code (code.PrimitiveSend j) r x e w i = one (SendSpecial (first_special + j)) (primitive_send m j) (primitive_row j first_behind (r.primitive j refl)) x e w i
-    by_code (code.LiteralSend j n) r x e w i = one (Send n j) (executed m (send_literal m j n)) (send_row m laws k b n j first_behind) x e w i
+    by_code (code.LiteralSend j n) r x e w i = one (Send n j) (executed m (send_literal m j n)) (few_send n j first_behind (r.literal j n refl)) x e w i
 
 pub steps_walk : {H : Type 0} (m : ObjectMemory H) → KeepsOthers m → StepWalks m
 unfolding step

@@ -1,6 +1,6 @@
 -- A bytecode of the machine beside one instruction of a walk: what stands in variables and on the stack, what is sent, and what is
 -- returned (chapters 27 and 28). The machine is that over any memory.
-use Rattle.std.specs.Prelude.{◌≡◌, ◌≢◌, ◌⊎◌, ℕ, zero, suc, ◌+◌, ◌-◌, ◌*◌, ◌≤◌, ◌<◌, ◌==◌, ℤ, pos, ◌+ℤ◌, ◌-ℤ◌, Bool, true, false, not, List, [], ◌∷◌, length, slice_get, drop, Option, Some, None, option_map, if◌then◌else◌, nat_lt}
+use Rattle.std.specs.Prelude.{◌≡◌, ◌≢◌, ◌⊎◌, ℕ, zero, suc, ◌+◌, ◌-◌, ◌*◌, ◌%◌, ◌≤◌, ◌<◌, ◌==◌, ℤ, pos, ◌+ℤ◌, ◌-ℤ◌, Bool, true, false, not, List, [], ◌∷◌, length, slice_get, drop, Option, Some, None, option_map, if◌then◌else◌, nat_lt}
 use Rattle.st_model.specs.Values.{Value, Small, Ref, integer}
 use Rattle.st_model.specs.declared.page.PageObject.TheVariants.{TrueObject, FalseObject, NilObject, Selectors}
 use Rattle.st_model.specs.Objects.{Object, is_pointers, is_method, first_unit}
@@ -21,7 +21,7 @@ use Rattle.st_emit.specs.declared.step.Constant.TheVariants.{Receiver, True, Fal
 use Rattle.st_emit.specs.declared.step.Place.{Place}
 use Rattle.st_emit.specs.declared.step.Place.TheVariants.{Field, Temporary, Literal, Shared}
 use Rattle.st_emit.specs.declared.step.Step.{Step as Code}
-use Rattle.st_emit.specs.declared.step.Step.TheVariants.{Push, Store, PopStore, Send, SendSuper, SendSpecial, ReturnBlock, JumpIf}
+use Rattle.st_emit.specs.declared.step.Step.TheVariants.{Push, Store, PopStore, Send, SendSuper, SendSpecial, ReturnConstant, ReturnBlock, JumpIf}
 use Rattle.st_emit.specs.Resolving.{special_selectors, first_special}
 use Rattle.st_emit.specs.Selectors.{arity}
 use Rattle.st_resolved.specs.declared.reading.Found.{Found}
@@ -46,6 +46,12 @@ small_at (suc n) = Small n
 abbrev pub laid : {A : Type 0} → List A → List A → List A
 laid [] below = below
 laid (v ∷ vs) below = laid vs (v ∷ below)
+
+-- the machine takes the number of arguments that the bytes say
+abbrev pub as_sent : Code → Code
+as_sent (Send n i) = Send (n % 256) i
+as_sent (SendSuper n i) = SendSuper (n % 256) i
+as_sent code = code
 
 -- an object that is stored is read again, and no other object changes
 pub record KeepsOthers {H : Type 0} (m : ObjectMemory H) : Type 0 where
@@ -129,12 +135,6 @@ module _ {H : Type 0} (m : ObjectMemory H) where
   StoresApart s (PopStore (Shared n)) = IsApart s (literal_at s n)
   StoresApart s code = Unit {0}
 
-  -- a message has fewer than 256 arguments, as each has that compiled code comes to
-  abbrev pub HasFew : Code → Type 0
-  HasFew (Send n i) = n < 256
-  HasFew (SendSuper n i) = n < 256
-  HasFew code = Unit {0}
-
   -- the page's special selectors are those of the codes from 176 on, each with its number of arguments
   pub record IsSelector (s : State H) (k : ℕ) (text : List ℕ) : Type 0 where
     pub selector : Value
@@ -164,7 +164,6 @@ module _ {H : Type 0} (m : ObjectMemory H) where
     pub no_active : s.registers.receiver ≢ s.registers.active
     pub apart : StoresApart s code
     pub names : NamesOne temporaries code
-    pub few : HasFew code
     pub selectors : SendsNamed s code
     pub booleans : TestsTwo s code
     pub home : s.registers.active ≡ s.registers.home → below ≡ temporaries
@@ -246,13 +245,16 @@ module _ {H : Type 0} (m : ObjectMemory H) where
   return_by ReturnBlock v = return_to_caller m v
   return_by code v = return_to_sender m v
 
-  -- it returns this value, from a state whose objects are those of u
+  -- a constant is returned from the state as it is, all else once it is popped
+  abbrev pub returning : Code → State H → State H
+  returning (ReturnConstant c) u = u
+  returning code u = record u { registers = record u.registers { sp = u.registers.sp - 1 } }
+
+  -- it returns this value
   pub record Returns (code : Code) (value : Option Value) (u : State H) (o : Transition (State H) Outcome) : Type 0 where
     pub word : Value
     pub is : value ≡ Some word
-    pub state : State H
-    pub objects : state.memory ≡ u.memory
-    pub goes : o ≡ (executed_if_any m (return_by code word)).run state
+    pub goes : o ≡ (executed_if_any m (return_by code word)).run (returning code u)
 
   abbrev pub boolean_at : State H → Bool → Option Value
   boolean_at s true = Some (constant_at s True)
@@ -277,8 +279,8 @@ module _ {H : Type 0} (m : ObjectMemory H) where
   abbrev pub StepWalks : Type 0
   StepWalks =
       (s t : State H) (z : Outcome) (bytes : List ℕ) (at temporaries below : ℕ) (x : Found) → IsCode s bytes at → instruction (drop at bytes) ≡ Some x
-      → IsWalked s temporaries below x.step → (step m).run s ≡ Went z t
-      → Shows temporaries below x.step (walk_code (values_in s) x.step (stack_in below s)) (behind s x.size) t ((step m).run s)
+      → IsWalked s temporaries below (as_sent x.step) → (step m).run s ≡ Went z t
+      → Shows temporaries below (as_sent x.step) (walk_code (values_in s) (as_sent x.step) (stack_in below s)) (behind s x.size) t ((step m).run s)
 
   -- no signal is pending and no process waits
   pub record IsCalm (s : State H) : Type 0 where
