@@ -18,7 +18,7 @@ use Rattle.st_scope.specs.declared.fault.InstallFault.{InstallFault}
 use Rattle.st_scope.specs.declared.fault.InstallFault.TheVariants as fault
 use Rattle.st_scope.specs.inside.Alike.{SeesAlike}
 use Rattle.st_scope.specs.Calls.{names}
-use Rattle.st_scope.proofs.Alike.{code_alike}
+use Rattle.st_parts.proofs.CodeAlike.{code_alike}
 use Rattle.st_parts.specs.inside.NamesFor.{AnswersFor}
 use Rattle.st_parts.specs.Keys.{HasOneName, literals_in, mentioning, names_for}
 use Rattle.st_parts.specs.Parts.{Place, parts_at}
@@ -26,7 +26,7 @@ use Rattle.st_parts.proofs.OneName.{one_name}
 use Rattle.st_parts.proofs.PartsAlike.{parts_alike}
 use Rattle.st_expression_stack.specs.Names.{name_in, calling_of}
 use Rattle.st_decompile.specs.Whole.{candidate}
-use Rattle.st_decompile.specs.inside.Answers.{IsPrintedRead}
+use Rattle.st_decompile.specs.inside.Answers.{IsSourceOf, IsPrintedRead}
 use Rattle.st_decompile.proofs.CallsAlike.{calls_alike}
 use Rattle.st_browse.specs.Display.{answer_in, answer_of}
 use Rattle.st_browse.specs.Decompiling.{names_at}
@@ -101,6 +101,11 @@ module _ (a b : NamesView) (alike : SeesAlike a b) (one : HasOneName a) where
 
   same_parts : (v : View) (at : Place) (text : Option (List ℕ)) → IsTextOfParts b (parts_at b v at) text → IsTextOfParts a (parts_at a v at) text
   same_parts v at text h = subst (λ (p : Option PartsView). IsTextOfParts a p text) (sym (parts_alike a b alike v at)) (same_by (parts_at b v at) text h)
+
+-- the printed text of the tree that was found
+pub printed_text : (names : NamesView) (p : PartsView) (t : MethodView) (text : List ℕ) → text ≡ printed t → IsSourceOf names p (printed t) t → IsPrintedRead names p (printed t)
+    → IsTextOf names p (Some text)
+printed_text names p t text e answer read = subst (λ (x : List ℕ). IsTextOf names p (Some x)) (sym e) ((t, answer), read)
 
 -- MADE
 

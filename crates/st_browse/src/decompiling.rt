@@ -10,12 +10,13 @@ ghost use Rattle.st_browse.specs.{inside.MadeTexts.{IsMade, IsTextOfParts}, insi
 
 use crate::sought::find_compiled;
 use st_chunk::Side;
-use st_decompile::decompile;
+use st_decompile::{decompile, parts_of};
 use st_emit::Names;
+use st_install::{InstallFault, method_names};
 use st_memory::Memory;
-use st_parts::{Compiled, method_names, parts_of};
+use st_parts::Compiled;
+use st_print::print;
 use st_scan::Text;
-use st_scope::InstallFault;
 use std::alloc::{AllocError, Global};
 
 /// The names that a method sees, where its class has the form that an installation asks.
@@ -45,11 +46,20 @@ fn text_under<M: Memory>(
         let parts = parts_at names (M.view m.now) (place_of of.entry) in
         IfOk result (λ text. IsTextOfParts names parts (option_map text_of text)) }
 {
-    let Some(parts) = parts_of(alloc, m, names, of)? else {
+    let Some(parts) = parts_of(
+        alloc,
+        m,
+        of.class,
+        of.name,
+        of.meta,
+        of.selector,
+        names,
+        of.method,
+    )? else {
         return Ok(None);
     };
     match decompile(alloc, &parts, names)? {
-        Some(found) => Ok(Some(found.text)),
+        Some(tree) => Ok(Some(print(alloc, &tree)?)),
         None => Ok(None),
     }
 }

@@ -25,5 +25,5 @@ mod sought;
 mod source;
 
 pub use ask::{Ask, Side};
-pub use saying::{BrowseFault, SourceFault, browse, browse_line, browse_source, source_line};
+pub use saying::{BrowseFault, SourceFault, browse, browse_line, browse_source};
 pub use sought::find_method;

@@ -263,29 +263,8 @@ fn say_made<H: Host, M: Memory>(
 }
 
 /// Says the text of a class's method: that of its last definition in this list, or else one that has its code; and whether there is
-/// one: where there is none, or class or method is missing, nothing is said. After an error some first bytes of the answer were
-/// said, or none or all. It takes memory where a text has to be made, and reads no file.
-pub fn source_line<H: Host, M: Memory>(
-    alloc: Global,
-    m: &M,
-    changes: &Changes,
-    side: Lent<'_>,
-    selector: &[u8],
-    host: &mut H,
-) -> Result<bool, SourceFault>
-    ensures answers { let v = M.view m.now in let side = side_of side.entry in
-        (text : Option (List ℕ)) → IsShown v changes.now.listed side selector.now text
-        → Answers H.Host.own (reply v text (Source side selector.now)) host.old host.new result }
-    ensures cause { HasSourceCause (H.say_faults host.old) (H.say_faults host.new) result }
-    ensures starved { IsErrOf result NoMemory → host.new ≡ host.old }
-{
-    match changes.last_text(side.class, side.meta, selector) {
-        Some(text) => say_text(m, side, selector, Some(text), host),
-        None => say_made(alloc, m, side, selector, host),
-    }
-}
-
-/// The same, of a side that isn't lent.
+/// one: if there is none, or class or method is missing, nothing is said. After an error some first bytes of the answer were said, or
+/// none or all. It takes memory if a text has to be made, and reads no file.
 pub fn browse_source<M: Memory, H: Host>(
     alloc: Global,
     m: &M,
@@ -300,5 +279,9 @@ pub fn browse_source<M: Memory, H: Host>(
     ensures cause { HasSourceCause (H.say_faults host.old) (H.say_faults host.new) result }
     ensures starved { IsErrOf result NoMemory → host.new ≡ host.old }
 {
-    source_line(alloc, m, changes, side.lend(), selector, host)
+    let side = side.lend();
+    match changes.last_text(side.class, side.meta, selector) {
+        Some(text) => say_text(m, side, selector, Some(text), host),
+        None => say_made(alloc, m, side, selector, host),
+    }
 }

@@ -36,7 +36,7 @@ module _ (names : NamesView) (p : PartsView) where
       by_none i = absurd cc
 
   module _ (tree : MethodView) (is : candidate (name_in (calling_of names p.literals)) p ≡ Some tree) where
-    tree_is : (f : IsFound names p) → f.tree ≡ tree
+    pub tree_is : (f : IsFound names p) → f.tree ≡ tree
     tree_is f = let same = sym f.is ∙ is in cc
 
     pub back_is : (t : MethodView) → IsSource names p t → (u : MethodView) × Means (printed tree) u × (code u names ≡ Ok p)

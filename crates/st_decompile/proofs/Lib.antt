@@ -41,6 +41,7 @@ mod Written
 mod ReadTrees
 pub mod Answered
 pub mod Finding
+mod Placeless
 mod Tested
 pub mod CallsAlike
 mod Sides

@@ -5,21 +5,23 @@ use Rattle.st_scan.specs.declared.tree.MethodTree.{MethodTree}
 use Rattle.st_scan.specs.declared.fault.SyntaxFault.{SyntaxFault}
 use Rattle.st_scan.specs.declared.fault.SyntaxFault.TheVariants.{At, OutOfMemory}
 use Rattle.st_scan.specs.Views.{MethodView, method_view}
+use Rattle.st_scan.specs.inside.Placeless.{without_places}
 use Rattle.st_grammar.specs.inside.Meant.{Means}
 use Rattle.st_grammar.specs.Texts.{IsOnly}
 use Rattle.st_print.specs.Printed.{printed}
+use Rattle.st_print.specs.inside.Printing.{IsPrintedBack}
 use Rattle.st_emit.specs.Names.{NamesView}
 use Rattle.st_code.specs.declared.fault.Fault.{Fault}
 use Rattle.st_code.specs.declared.fault.CodeFault.{CodeFault}
 use Rattle.st_code.specs.Reported.{reported}
 use Rattle.st_code.specs.Methods.{PartsView, code, fault, parts_or}
-use Rattle.st_decompile.specs.declared.decompiler.Decompiled.{Decompiled}
 use Rattle.st_decompile.specs.Comparing.{same_parts}
 use Rattle.st_decompile.specs.Whole.{candidate}
 use Rattle.st_expression_stack.specs.Names.{CallingView, calling_of, name_in}
 use Rattle.st_decompile.specs.inside.Answers.{IsCandidate, IsMeant, HasCode, IsSource, IsSourceOf, IsPrintedRead, IsDecompiled}
 use Rattle.st_decompile.proofs.Sameness.{parts_are, parts_same}
-use Rattle.st_decompile.proofs.Finding.{back_is}
+use Rattle.st_decompile.proofs.Finding.{found, tree_is, back_is}
+use Rattle.st_decompile.proofs.Placeless.{printed_alike}
 
 -- PARSED
 
@@ -71,21 +73,29 @@ module _ (names : NamesView) (p : PartsView) (tree : MethodView) (is : IsCandida
       let b = back_is names p tree is t s in
       h (ap (λ (x : MethodView). code x names) (sym (m.1 b.0 b.1)) ∙ b.2)
 
-  pub one_same : (text : List ℕ) (u : MethodTree) → text ≡ printed tree → IsMeant (printed tree) (Some u) → HasCode (method_view u) names p true
-      → IsSourceOf names p text (method_view u) × IsPrintedRead names p text
-  one_same text u e m h =
+  -- what the printed text of the tree means is the tree, places aside
+  printed_as_read : (u : MethodTree) → IsMeant (printed tree) (Some u) → HasCode (method_view u) names p true → printed (method_view u) ≡ printed tree
+  printed_as_read u m h =
+      let f = found names p (method_view u) (record { text = printed tree; means = m.0; same = h }) in
+      let back = subst IsPrintedBack (tree_is names p tree is f) f.back in
+      printed_alike (method_view u) tree (ap without_places (sym (m.1 back.tree back.means)) ∙ back.is_same)
+
+  pub one_same : (u : MethodTree) → IsMeant (printed tree) (Some u) → HasCode (method_view u) names p true
+      → IsSourceOf names p (printed (method_view u)) (method_view u) × IsPrintedRead names p (printed (method_view u))
+  one_same u m h =
+      let e = printed_as_read u m h in
       (record { means = subst (λ (x : List ℕ). Means x (method_view u)) (sym e) m.0; same = h }, record { tree = tree; is = is; text_is = e })
 
 -- ANSWERED
 
-pub right : (names : NamesView) (p : PartsView) (d : Option Decompiled) → IsDecompiled names p d → IfSome d (λ s. IsSourceOf names p s.text.items (method_view s.tree))
+pub right : (names : NamesView) (p : PartsView) (d : Option MethodTree) → IsDecompiled names p d → IfSome d (λ t. IsSourceOf names p (printed (method_view t)) (method_view t))
 right names p None h = tt
 right names p (Some s) h = h.0
 
-pub read : (names : NamesView) (p : PartsView) (d : Option Decompiled) → IsDecompiled names p d → IfSome d (λ s. IsPrintedRead names p s.text.items)
+pub read : (names : NamesView) (p : PartsView) (d : Option MethodTree) → IsDecompiled names p d → IfSome d (λ t. IsPrintedRead names p (printed (method_view t)))
 read names p None h = tt
 read names p (Some s) h = h.1
 
-pub missed : (names : NamesView) (p : PartsView) (d : Option Decompiled) → IsDecompiled names p d → IfNone d ((t : MethodView) → IsSource names p t → ⊥)
+pub missed : (names : NamesView) (p : PartsView) (d : Option MethodTree) → IsDecompiled names p d → IfNone d ((t : MethodView) → IsSource names p t → ⊥)
 missed names p None h = h
 missed names p (Some s) h = tt

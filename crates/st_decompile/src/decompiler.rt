@@ -2,6 +2,7 @@
 
 ghost use Rattle.std.specs.Prelude.{◌≡◌, Some, IfOk, IfSome, IfNone, option_map};
 ghost use Rattle.st_scan.specs.Views.{MethodView, method_view};
+ghost use Rattle.st_print.specs.Printed.{printed};
 ghost use Rattle.st_emit.specs.inside.NameViews.{names_view};
 ghost use Rattle.st_code.specs.inside.MethodDrafts.{parts_view};
 ghost use Rattle.st_decompile.specs.inside.Answers.{IsCandidate, IsMeant, HasCode, IsDecompiled, IsSource, IsSourceOf, IsPrintedRead};
@@ -13,15 +14,8 @@ use st_emit::Names;
 use st_expression_stack::{NO_ARGUMENTS, arity, calling_of};
 use st_parse::parse;
 use st_print::print;
-use st_scan::{MethodTree, SyntaxFault, Text};
+use st_scan::{MethodTree, SyntaxFault};
 use std::alloc::{AllocError, Global};
-
-/// A text that has the code of a method, and the tree that it means.
-#[derive(Drop)]
-pub struct Decompiled {
-    pub text: Text,
-    pub tree: MethodTree,
-}
 
 /// The most bytes of a text.
 const MOST_BYTES: usize = 4_294_967_294;
@@ -56,13 +50,13 @@ fn has_code(
     }
 }
 
-/// The printed text of the tree that is read, if what it means has the code that was read.
+/// What the printed text of the tree that is read means, if it has the code that was read.
 fn printed_back(
     alloc: Global,
     tree: &MethodTree,
     names: &Names,
     parts: &MethodParts,
-) -> Result<Option<Decompiled>, AllocError>
+) -> Result<Option<MethodTree>, AllocError>
     requires { IsCandidate (names_view names.now) (parts_view parts.now) (Some (method_view tree.now)) }
     ensures { IfOk result (IsDecompiled (names_view names.now) (parts_view parts.now)) }
 {
@@ -71,11 +65,7 @@ fn printed_back(
         return Ok(None);
     };
     let same = has_code(alloc, &back, names, parts)?;
-    if same {
-        Ok(Some(Decompiled { text, tree: back }))
-    } else {
-        Ok(None)
-    }
+    if same { Ok(Some(back)) } else { Ok(None) }
 }
 
 /// The tree that is read of a method's parts, if one is.
@@ -92,19 +82,19 @@ fn candidate_of(
     candidate(alloc, &calling, parts)
 }
 
-/// A text of a class with these names that has this code, and the tree that it means. There is none exactly where no text has it.
+/// A tree that some text means and that has this code in a class with these names. There is none exactly if no text has the code.
 /// It takes memory.
 pub fn decompile(
     alloc: Global,
     parts: &MethodParts,
     names: &Names,
-) -> Result<Option<Decompiled>, AllocError>
-    // The text means the tree, and this has the code.
-    ensures answer { IfOk result (λ d. IfSome d (λ s.
-        IsSourceOf (names_view names.now) (parts_view parts.now) s.text.items (method_view s.tree))) }
+) -> Result<Option<MethodTree>, AllocError>
+    // Its printed text means the tree, and this has the code.
+    ensures answer { IfOk result (λ d. IfSome d (λ t. IsSourceOf
+        (names_view names.now) (parts_view parts.now) (printed (method_view t)) (method_view t))) }
     // It is the text of the tree that is read.
-    ensures read { IfOk result (λ d. IfSome d (λ s.
-        IsPrintedRead (names_view names.now) (parts_view parts.now) s.text.items)) }
+    ensures read { IfOk result (λ d. IfSome d (λ t.
+        IsPrintedRead (names_view names.now) (parts_view parts.now) (printed (method_view t)))) }
     // None is missed.
     ensures complete { IfOk result (λ d. IfNone d ((t : MethodView)
         → IsSource (names_view names.now) (parts_view parts.now) t → ⊥)) }

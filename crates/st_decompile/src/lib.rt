@@ -10,6 +10,7 @@ mod reading;
 mod region;
 mod whole;
 
-pub use decompiler::{Decompiled, decompile};
+pub use decompiler::decompile;
 pub use laws::{code_is_read_back, names_call_alike};
 pub use reading::Reading;
+pub use st_parts::parts_of;

@@ -26,7 +26,7 @@ use Rattle.st_scope.specs.inside.Meanings.{class_found}
 use Rattle.st_install.specs.inside.Rooms.{TellsReady}
 use Rattle.st_scope.specs.inside.Seen.{AnswersNames}
 use Rattle.st_scope.specs.inside.Alike.{SeesAlike}
-use Rattle.st_scope.proofs.Alike.{code_alike}
+use Rattle.st_parts.proofs.CodeAlike.{code_alike}
 use Rattle.st_chunk.specs.Definitions.{Definition}
 use Rattle.st_protocol.specs.declared.refusal.Refusal.{Refusal}
 use Rattle.st_protocol.specs.declared.refusal.Refusal.TheVariants.{Syntax, Code}
@@ -80,7 +80,7 @@ module _ (v : View) (d : Definition) where
       names_refuse_all : (f : InstallFault) → Reads (names table v.head w d.meta tree) (λ x. x) v.objects (Ok (Err f)) → Refuses (of_install f)
       names_refuse_all f h c s over shows = refused_names c s shows d w (found c over) tree reads f (subst (λ a. (names table a w d.meta tree).run c ≡ Went (Err f) c) (sym over.head) (h c over.objects))
 
-      pub names_refuse : (f : InstallFault) → AnswersNames tree (names table v.head w d.meta tree) v.objects (Err f) → PreparesAs v d (Err (by_install f))
+      pub names_refuse : (f : InstallFault) → AnswersNames (names table v.head w d.meta tree) v.objects (Err f) → PreparesAs v d (Err (by_install f))
       names_refuse fault_of.NoClass h = names_refuse_all fault_of.NoClass h
       names_refuse fault_of.NoGlobals h = names_refuse_all fault_of.NoGlobals h
       names_refuse (fault_of.NoRoom demand) h = names_refuse_all (fault_of.NoRoom demand) h

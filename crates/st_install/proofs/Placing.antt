@@ -21,7 +21,7 @@ use Rattle.st_model.specs.inside.Calls.{Reads}
 use Rattle.st_emit.specs.inside.Views.{literal_view, literals_view, members_view}
 use Rattle.st_install.specs.declared.plan.Part.{Part as CodePart}
 use Rattle.st_install.specs.declared.plan.NewObject.{NewObject as CodeObject}
-use Rattle.st_scope.specs.declared.classes.Owner.{Owner}
+use Rattle.st_install.specs.declared.plan.Owner.{Owner}
 use Rattle.st_scope.specs.declared.unread.Unread.{Unread}
 use Rattle.st_scope.specs.declared.unread.Unread.TheVariants.{Dies, OutOfMemory}
 use Rattle.st_install.specs.Plans.{Part, Made, NewObject, pointers_object}

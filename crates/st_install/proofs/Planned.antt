@@ -15,7 +15,7 @@ use Rattle.st_emit.specs.inside.Views.{literals_view}
 use Rattle.st_code.specs.Methods.{PartsView}
 use Rattle.st_install.specs.declared.plan.Part.{Part as CodePart}
 use Rattle.st_install.specs.declared.plan.NewObject.{NewObject as CodeObject}
-use Rattle.st_scope.specs.declared.classes.Owner.{Owner}
+use Rattle.st_install.specs.declared.plan.Owner.{Owner}
 use Rattle.st_install.specs.declared.symbol_plan.SymbolPlan.{SymbolPlan}
 use Rattle.st_install.specs.Plans.{Part}
 use Rattle.st_install.specs.Symbols.{NamedSymbol, symbol_part, symbols_in, symbols_for}

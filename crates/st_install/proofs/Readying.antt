@@ -12,7 +12,7 @@ use Rattle.st_model.specs.Objects.{place_of}
 use Rattle.st_model.specs.Machine.{Head, State, Died, Went, Step, after, answer, or_left, tried, ◌>>=◌}
 use Rattle.st_model.specs.Table.{Table, table}
 use Rattle.st_model.specs.inside.Calls.{Reads}
-use Rattle.st_model.specs.View.{View, table_of}
+use Rattle.st_model.specs.View.{table_of}
 use Rattle.st_model.proofs.Runs.{run-then, after-went, after-died, run-some, run-none, run-tried_went, run-tried_died}
 use Rattle.st_emit.specs.declared.literal.Literal.{Literal}
 use Rattle.st_emit.specs.inside.Views.{literals_view}
@@ -25,14 +25,13 @@ use Rattle.st_install.specs.declared.plan.NewObject.{NewObject as CodeObject}
 use Rattle.st_install.specs.declared.plan.Part.{Part as CodePart}
 use Rattle.st_install.specs.declared.plan.Ready.{Ready}
 use Rattle.st_install.specs.declared.planning.PlanDraft.{PlanDraft}
-use Rattle.st_scope.specs.declared.classes.Owner.{Owner}
+use Rattle.st_install.specs.declared.plan.Owner.{Owner}
 use Rattle.st_install.specs.declared.symbol_plan.SymbolPlan.{SymbolPlan}
 use Rattle.st_scope.specs.declared.unread.Unread.{Unread}
 use Rattle.st_scope.specs.declared.unread.Unread.TheVariants.{Dies, OutOfMemory}
 use Rattle.st_install.specs.Plans.{There, Plan, method_object}
 use Rattle.st_install.specs.Symbols.{symbol_part, symbols_in, symbols_for}
 use Rattle.st_scope.specs.Classes.{class_association}
-use Rattle.st_scope.specs.inside.Owners.{IsOwner}
 use Rattle.st_install.specs.Literals.{PlacedAll}
 use Rattle.st_install.specs.Calls.{planned_for, planned, ready_for, ready, with_room}
 use Rattle.st_install.specs.inside.Readies.{part_of, parts_of, object_of, objects_of, stores_of, plan_of}
@@ -187,10 +186,3 @@ module _ (head : Head) (class : Value) (name : List ℕ) (meta : Bool) (parts : 
 
       pub ready_of : (r : Result Ready InstallFault) → TellsReady (ready_for table head (value association) class meta parts) t r → TellsReady (ready table head class name meta parts) t r
       ready_of r h = told (ready_for table head (value association) class meta parts) (ready table head class name meta parts) t of_class r h
-
--- what is ready for the owner that was found by a name is ready for the name
-pub ready_by_name : (v : View) (name : List ℕ) (meta : Bool) (o : Owner) → IsOwner v name meta o → (parts : PartsView) (r : Result Ready InstallFault)
-    → TellsReady (ready_step v.head o parts) v.objects r → TellsReady (ready table v.head (value o.class) name meta parts) v.objects r
-ready_by_name v name meta o is parts r h =
-    ready_of v.head (value o.class) name meta parts v.objects is.global.globals is.global.is o.association is.global.association r
-    (subst (λ b. TellsReady (ready_for table v.head (value o.association) (value o.class) b parts) v.objects r) is.side h)

@@ -48,7 +48,7 @@ fn make_and_store<M: Memory>(m: &mut M, ready: Ready)
 }
 
 /// Installs what is ready: its objects are made, and its stores done, in the order symbol table, the class's dictionary,
-/// selector, method, tally; then what nothing supports is dropped. The memory is as it was when `ready_for` answered. It takes
+/// selector, method, tally; then what nothing supports is dropped. The memory is as it was when `ready` answered. It takes
 /// no memory, and doesn't fail.
 pub fn install<M: Memory>(m: &mut M, ready: Ready)
     requires ready { IsReadyFor (M.view m.old) (plan_of ready) }

@@ -1,7 +1,7 @@
 //! Definitions of methods: what comes of one is that it is installed in an image, or refused with its cause (`define`).
-//! `owner_of_name` finds its class, `names` the names that its method sees, `ready_for` says whether the method can be installed and
-//! makes the plan of that, and `install` carries the plan out. `install_shows_births` is the law that joins `class_of_name`, `names`,
-//! `ready` and `install` over a table to the same over births, and `install_gains` the one of what is found afterwards.
+//! `class_of_name` finds its class, `names` the names that its method sees, `ready` tells whether the method can be installed and
+//! makes the plan of that, and `install` carries the plan out. `install_shows_births` is the law that joins these four over a table to
+//! the same over births, and `install_gains` the one of what is found afterwards.
 #![tactic(auto)]
 
 mod defining;
@@ -33,7 +33,8 @@ pub use installing::install;
 pub use laws::{install_gains, install_shows_births};
 pub use plan::Ready;
 pub use preparing::{Prepared, prepare};
-pub use readiness::{ready, ready_for};
-pub use st_scope::{InstallFault, Owner, class_of_name, names, owner_of_name};
+pub use readiness::ready;
+pub use st_parts::method_names;
+pub use st_scope::{InstallFault, class_of_name, names};
 pub use symbols::symbol_named;
 pub use unprepared::Unprepared;

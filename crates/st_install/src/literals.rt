@@ -5,7 +5,7 @@ ghost use Rattle.st_install.specs.Plans.{Made};
 ghost use Rattle.st_install.specs.inside.Readies.{part_of, objects_of};
 ghost use Rattle.st_install.specs.inside.Told.{single_placed, literal_step, literals_step, array_step, Places, PlacesAll};
 
-use crate::plan::{NewObject, Part};
+use crate::plan::{NewObject, Owner, Part};
 use crate::single::{
     ARRAY_CLASS, NamedSymbols, Single, place_character, place_number, place_owner, place_pointer,
     place_string, place_symbol, pointers_object,
@@ -13,7 +13,7 @@ use crate::single::{
 use st_emit::Literal;
 use st_memory::Memory;
 use st_scan::Signed;
-use st_scope::{Owner, Unread};
+use st_scope::Unread;
 use std::alloc::{AllocError, Global};
 
 /// Puts an object behind the others, which are fewer than 2^32.

@@ -2,6 +2,15 @@
 
 use st_model::{Kind, Oop};
 
+/// What a method belongs to: the global association of its class, the class, and whether that is the class side.
+#[derive(Clone, Copy)]
+pub(crate) struct Owner {
+    pub association: Oop,
+    /// The class, or on the class side its metaclass.
+    pub class: Oop,
+    pub meta: bool,
+}
+
 /// A value that is there, or the object of this number among those that are made, counted from 0.
 #[derive(Clone, Copy)]
 pub(crate) enum Part {

@@ -9,14 +9,14 @@ ghost use Rattle.st_scope.specs.inside.Findings.{Finds};
 
 use crate::growing::grown_for;
 use crate::literals::{place_literals, put_object};
-use crate::plan::{NewObject, Part, Ready, SymbolStore};
+use crate::plan::{NewObject, Owner, Part, Ready, SymbolStore};
 use crate::single::named_symbol;
 use crate::sizes::{check_size, method_object};
 use crate::symbol_plan::symbols_for;
 use st_code::MethodParts;
 use st_memory::Memory;
 use st_model::{Dead, Oop};
-use st_scope::{Owner, Unread, fetch_field};
+use st_scope::{Unread, fetch_field};
 use std::alloc::{AllocError, Global};
 
 /// A plan up to the method: the objects before it.

@@ -6,13 +6,13 @@ ghost use Rattle.st_chunk.specs.inside.ScriptDefinitions.{definition_of};
 ghost use Rattle.st_install.specs.inside.Prepareds.{PreparesAs};
 
 use crate::plan::Ready;
-use crate::readiness::ready_for;
+use crate::readiness::ready;
 use crate::unprepared::Unprepared;
 use st_chunk::Definition;
 use st_code::compile;
 use st_memory::Memory;
 use st_parse::parse;
-use st_scope::{names, owner_of_name};
+use st_scope::{class_of_name, names};
 use std::alloc::Global;
 
 /// A method that is ready to be installed.
@@ -35,11 +35,11 @@ pub fn prepare<M: Memory>(
     requires good { IsDefinition (definition_of definition.now) }
     ensures { PreparesAs (M.view m.now) (definition_of definition.now) result }
 {
-    let owner = owner_of_name(m, definition.class, definition.meta)?;
+    let class = class_of_name(m, definition.class, definition.meta)?;
     let tree = parse(alloc, definition.text)?;
-    let seen = names(alloc, m, owner.class, definition.meta, &tree)?;
+    let seen = names(alloc, m, class, definition.meta, &tree)?;
     let parts = compile(alloc, &tree, &seen)?;
     let selector = parts.selector.to_vec(alloc)?;
-    let ready = ready_for(alloc, m, owner, parts)?;
+    let ready = ready(alloc, m, class, definition.class, definition.meta, parts)?;
     Ok(Prepared { selector, ready })
 }

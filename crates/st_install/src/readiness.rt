@@ -7,13 +7,13 @@ ghost use Rattle.st_install.specs.{Calls.ready, inside.Readies.{plan_of, HasRoom
 ghost use Rattle.st_install.specs.{inside.Carried.HasSmallBodies, inside.Rooms.TellsReady};
 ghost use Rattle.st_scope.specs.inside.Findings.{Finds};
 
-use crate::plan::Ready;
+use crate::plan::{Owner, Ready};
 use crate::planning::plan;
 use crate::room::with_room;
 use st_code::MethodParts;
 use st_memory::Memory;
 use st_model::{Dead, Oop};
-use st_scope::{InstallFault, Owner, Unread, class_association};
+use st_scope::{InstallFault, Unread, class_association};
 use std::alloc::Global;
 
 /// The plan for parts that were compiled for a class.
@@ -30,11 +30,8 @@ fn planned<M: Memory>(alloc: Global, m: &M, of: Owner, parts: MethodParts) -> Re
     plan(alloc, m, symbols, of, parts)
 }
 
-/// What the installation of a method makes and stores, with all memory that it needs; nothing is changed. What the method belongs to
-/// is what `owner_of_name` answered for its class, and the parts were compiled under what `names` answered for the class. `Shape`
-/// comes where the plan dies, also for an object of more than 65535 words, `NoRoom` where its objects have no room beside those that
-/// are kept, and `OutOfMemory` where there was no memory, or for 2^32 objects, fields or words or more.
-pub fn ready_for<M: Memory>(
+/// The plan, if its objects have room beside those that are kept.
+fn ready_for<M: Memory>(
     alloc: Global,
     m: &M,
     of: Owner,
@@ -52,8 +49,10 @@ pub fn ready_for<M: Memory>(
     }
 }
 
-/// The same of a class without its association, which is found by the name: `class_of_name` answered the class for this name and
-/// side. `Shape` comes also where there is no such association.
+/// What the installation of a method makes and stores, with all memory that it needs; nothing is changed. `class_of_name` answered
+/// the class for this name and side, and the parts were compiled under what `names` answered for it. `Shape` comes if the name is no
+/// class's, or if the plan dies, also for an object of more than 65535 words. `NoRoom` comes if its objects have no room beside those
+/// that are kept, and `OutOfMemory` if there was no memory, or for 2^32 objects, fields or words or more.
 pub fn ready<M: Memory>(
     alloc: Global,
     m: &M,

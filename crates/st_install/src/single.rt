@@ -7,11 +7,11 @@ ghost use Rattle.st_install.specs.Literals.{negated, large_bytes, place_number, 
 ghost use Rattle.st_install.specs.inside.Readies.{part_of, parts_of, object_of};
 ghost use Rattle.st_install.specs.inside.Told.{IsSingle, TellsSingle, part_placed, owner_step, named_of};
 
-use crate::plan::{NewObject, Part};
+use crate::plan::{NewObject, Owner, Part};
 use st_memory::Memory;
 use st_model::{Dead, Kind, Oop};
 use st_scan::{Signed, Text};
-use st_scope::{Owner, Unread, class_of, fetch_field};
+use st_scope::{Unread, class_of, fetch_field};
 use std::alloc::{AllocError, Global};
 use std::collections::BTreeMap;
 

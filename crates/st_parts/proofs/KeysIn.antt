@@ -13,7 +13,6 @@ use Rattle.st_scan.specs.Views.{StatementsView, no_statements}
 use Rattle.st_emit.specs.Names.{NamesView, SharedName, Variable, field, shared, field_named, variable_named, or_else}
 use Rattle.st_emit.specs.inside.NameViews.{pointer_of, shared_view}
 use Rattle.st_emit.proofs.Sharing.{shared_found}
-use Rattle.st_scan.specs.Views.{MethodView}
 use Rattle.st_model.specs.Machine.{Step}
 use Rattle.std.specs.BTreeMap.{BTreeMap}
 use Rattle.st_emit.specs.declared.names.Names.{Names}
@@ -141,17 +140,17 @@ pub kept_alike : (names : Names) (t : Table) (vs : List Value) (map : BTreeMap (
 kept_alike names t vs map h = record { fields = refl; shared = λ text. sym (h text) ∙ found_at map.entries text; symbols = refl }
 
 -- those that were seen, once none is left but what names a literal
-pub seen_for : (tree : MethodView) (vs : List Value) (step : Step Table (Result NamesView InstallFault)) (t : Table) (seen names : Names) → AreSeen tree step Ok t seen
+pub seen_for : (vs : List Value) (step : Step Table (Result NamesView InstallFault)) (t : Table) (seen names : Names) → AreSeen step Ok t seen
     → SeesAlike (names_for t vs (names_view seen)) (names_view names) → AreNamesFor vs step Ok t names
-seen_for tree vs step t seen names h k = record {
+seen_for vs step t seen names h k = record {
   listed = h.listed;
   reads = h.reads;
   alike = alike_then (names_for t vs h.listed) (names_for t vs (names_view seen)) (names_view names) (alike_for h.listed (names_view seen) h.alike t vs) k;
 }
 
-pub fault_for : (tree : MethodView) (vs : List Value) (step : Step Table (Result NamesView InstallFault)) (t : Table) (f : InstallFault) → AnswersNames tree step t (Err f) → AnswersFor vs step t (Err f)
-fault_for tree vs step t fault.NoClass h = h
-fault_for tree vs step t fault.NoGlobals h = h
-fault_for tree vs step t (fault.NoRoom d) h = h
-fault_for tree vs step t fault.Shape h = h
-fault_for tree vs step t fault.OutOfMemory h = tt
+pub fault_for : (vs : List Value) (step : Step Table (Result NamesView InstallFault)) (t : Table) (f : InstallFault) → AnswersNames step t (Err f) → AnswersFor vs step t (Err f)
+fault_for vs step t fault.NoClass h = h
+fault_for vs step t fault.NoGlobals h = h
+fault_for vs step t (fault.NoRoom d) h = h
+fault_for vs step t fault.Shape h = h
+fault_for vs step t fault.OutOfMemory h = tt

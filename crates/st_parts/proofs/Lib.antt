@@ -1,6 +1,7 @@
 mod KeysIn
 pub mod OneName
 pub mod PartsAlike
+pub mod CodeAlike
 mod PartsRead
 mod Taking
 mod Sizes

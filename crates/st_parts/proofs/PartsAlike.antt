@@ -1,13 +1,12 @@
 -- Under names that tell no text apart a method is made of the same parts.
 use Rattle.std.proofs.Common.{◌≡◌, ℕ, ◌-◌, Bool, List, [], ◌∷◌, ◌++◌, take, length, Option, refl, ap, ap₂, ◌∙◌}
-use Rattle.std.specs.Prelude.{Some, None, option_map, if◌then◌else◌}
+use Rattle.std.specs.Prelude.{Some, None, option_and_then, option_map, if◌then◌else◌}
 use Rattle.st_model.specs.Values.{Value}
 use Rattle.st_model.specs.Table.{Table}
 use Rattle.st_model.specs.View.{View, object_of}
 use Rattle.st_emit.specs.Names.{NamesView}
 use Rattle.st_emit.specs.Literals.{LiteralView, named, owner}
 use Rattle.st_code.specs.Methods.{PartsView}
-use Rattle.st_resolved.specs.Instructions.{on_some}
 use Rattle.st_scope.specs.inside.Alike.{SeesAlike}
 use Rattle.st_parts.specs.declared.ending.Ending.{Ending}
 use Rattle.st_parts.specs.declared.ending.Ending.TheVariants.{Plain, Owned, Extended}
@@ -23,7 +22,7 @@ module _ (a b : NamesView) (alike : SeesAlike a b) where
 
   same_literals : (t : Table) (vs : List Value) → literals_read a t vs ≡ literals_read b t vs
   same_literals t [] = refl
-  same_literals t (v ∷ vs) = ap₂ (λ (x : Option LiteralView) (xs : Option (List LiteralView)). on_some x (λ l. option_map (λ ls. l ∷ ls) xs)) (same_literal t v) (same_literals t vs)
+  same_literals t (v ∷ vs) = ap₂ (λ (x : Option LiteralView) (xs : Option (List LiteralView)). option_and_then (λ l. option_map (λ ls. l ∷ ls) xs) x) (same_literal t v) (same_literals t vs)
 
   module _ (v : View) (at : Place) where
     same_before : (n : ℕ) (last : List LiteralView) (vs : List Value) → read_before a v at n last vs ≡ read_before b v at n last vs

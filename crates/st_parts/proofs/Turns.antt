@@ -1,6 +1,6 @@
 -- Turns of the loops over literals.
 use Rattle.std.proofs.Common.{◌≡◌, ℕ, zero, suc, ◌+◌, ◌<◌, ◌≤◌, List, [], ◌∷◌, ◌++◌, length, take, drop, Option, Some, None, Bool, true, false, refl, sym, ap, ap₂, ◌∙◌, arith}
-use Rattle.std.specs.Prelude.{slice_index_or, slice_get, min, nat_lt, ◌&&◌, option_map, if◌then◌else◌}
+use Rattle.std.specs.Prelude.{slice_index_or, slice_get, min, nat_lt, ◌&&◌, option_and_then, option_map, if◌then◌else◌}
 use Rattle.std.proofs.lemmas.Bool.{ltb-true, ltb-false}
 use Rattle.std.proofs.lemmas.Bool.Decides.{nat_tests}
 use Rattle.std.proofs.lemmas.List.{at_drop_more, drop_all, append_assoc, append-nil, map-append}
@@ -12,7 +12,6 @@ use Rattle.st_model.specs.Steps.{same_value}
 use Rattle.st_emit.specs.declared.literal.Literal.{Literal}
 use Rattle.st_emit.specs.Literals.{LiteralView, LiteralsView, character, no_literals, literal}
 use Rattle.st_emit.specs.inside.Views.{literal_view, literals_view, members_view}
-use Rattle.st_resolved.specs.Instructions.{on_some}
 use Rattle.st_scope.specs.inside.Meanings.{values}
 use Rattle.st_model.specs.Table.{Table}
 use Rattle.st_emit.specs.Names.{NamesView}
@@ -115,16 +114,16 @@ module _ (f : Value → Option LiteralView) (vs : List Oop) where
   members_end i done l h = sym (ap Some (onto_none done)) ∙ (sym (ap (λ xs. option_map (members_onto done) (members_by f (values xs))) (drop_all i vs l)) ∙ h)
 
   module _ (i : ℕ) (d : Oop) (l : i < length vs) (done : List Literal) (h : LeftMembers i done) where
-    members_turn : option_map (members_onto done) (on_some (member_by f (value (slice_index_or vs i d))) (λ x. option_map (literal x) (members_by f (values (drop (i + 1) vs))))) ≡ members_by f (values vs)
+    members_turn : option_map (members_onto done) (option_and_then (λ x. option_map (literal x) (members_by f (values (drop (i + 1) vs)))) (member_by f (value (slice_index_or vs i d)))) ≡ members_by f (values vs)
     members_turn = sym (at_drop_more (λ xs. option_map (members_onto done) (members_by f (values xs))) vs i d l) ∙ h
 
     pub members_fail : None ≡ member_by f (value (slice_index_or vs i d)) → None ≡ members_by f (values vs)
-    members_fail e = ap (λ (x : Option LiteralView). option_map (members_onto done) (on_some x (λ y. option_map (literal y) (members_by f (values (drop (i + 1) vs)))))) e ∙ members_turn
+    members_fail e = ap (λ (x : Option LiteralView). option_map (members_onto done) (option_and_then (λ y. option_map (literal y) (members_by f (values (drop (i + 1) vs)))) x)) e ∙ members_turn
 
     pub members_more : (x : Literal) → Some (literal_view x) ≡ member_by f (value (slice_index_or vs i d)) → LeftMembers (i + 1) (done ++ x ∷ [])
     members_more x e =
         by (members_by f (values (drop (i + 1) vs)))
-        ∙ (ap (λ (y : Option LiteralView). option_map (members_onto done) (on_some y (λ z. option_map (literal z) (members_by f (values (drop (i + 1) vs)))))) e ∙ members_turn)
+        ∙ (ap (λ (y : Option LiteralView). option_map (members_onto done) (option_and_then (λ z. option_map (literal z) (members_by f (values (drop (i + 1) vs)))) y)) e ∙ members_turn)
       where
         by : (r : Option LiteralsView) → option_map (members_onto (done ++ x ∷ [])) r ≡ option_map (members_onto done) (option_map (literal (literal_view x)) r)
         by None = refl
@@ -151,7 +150,7 @@ module _ (names : NamesView) (t : Table) (vs : List Oop) where
 
   module _ (i : ℕ) (d : Oop) (l : i < length vs) (done : List Literal) (h : LeftLiterals i done) where
     abbrev with_first : Option LiteralView → Option (List LiteralView)
-    with_first x = before done (on_some x (λ y. option_map (λ ls. y ∷ ls) (literals_read names t (values (drop (i + 1) vs)))))
+    with_first x = before done (option_and_then (λ y. option_map (λ ls. y ∷ ls) (literals_read names t (values (drop (i + 1) vs)))) x)
 
     literals_turn : with_first (literal_read names t (value (slice_index_or vs i d))) ≡ literals_read names t (values vs)
     literals_turn = sym (at_drop_more (λ xs. before done (literals_read names t (values xs))) vs i d l) ∙ h

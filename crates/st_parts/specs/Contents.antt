@@ -1,5 +1,5 @@
 -- A literal by its contents: what a compiler makes such an object of.
-use Rattle.std.specs.Prelude.{ℕ, zero, suc, ◌+◌, ◌==◌, ◌&&◌, nat_lt, List, [], ◌∷◌, Option, Some, None, option_map, if◌then◌else◌}
+use Rattle.std.specs.Prelude.{ℕ, zero, suc, ◌+◌, ◌==◌, ◌&&◌, nat_lt, List, [], ◌∷◌, Option, Some, None, option_and_then, option_map, if◌then◌else◌}
 use Rattle.st_model.specs.declared.kind.Kind.{Kind}
 use Rattle.st_model.specs.declared.kind.Kind.TheVariants as kind
 use Rattle.st_model.specs.Values.{Value, Small, Ref, is_small}
@@ -10,7 +10,6 @@ use Rattle.st_model.specs.Table.{Table}
 use Rattle.st_model.specs.View.{is_live, object_of}
 use Rattle.st_emit.specs.Names.{or_else}
 use Rattle.st_emit.specs.Literals.{LiteralView, LiteralsView, character, bytes, symbol, array, named, no_literals, literal}
-use Rattle.st_resolved.specs.Instructions.{on_some}
 use Rattle.st_parts.specs.Numbers.{small_number, large_number}
 
 -- the name of a class; no SmallInteger is one
@@ -62,7 +61,7 @@ member_by contents v = or_else (contents v) (constant_named v)
 
 abbrev pub members_by : (Value → Option LiteralView) → List Value → Option LiteralsView
 members_by contents [] = Some no_literals
-members_by contents (v ∷ vs) = on_some (member_by contents v) (λ l. option_map (literal l) (members_by contents vs))
+members_by contents (v ∷ vs) = option_and_then (λ l. option_map (literal l) (members_by contents vs)) (member_by contents v)
 
 -- given how an Array is read by its fields: what an object of this kind is, and what a value is
 abbrev pub made_by : (List Value → Option LiteralView) → Object → Kind → Option LiteralView

@@ -1,5 +1,5 @@
 -- What a compiled method was made of (chapter 27): selector, header, literals and bytes, as the compiler answers them.
-use Rattle.std.specs.Prelude.{ℕ, ◌+◌, ◌/◌, ◌==◌, ◌||◌, List, [], ◌∷◌, ◌++◌, Option, Some, None, Bool, false, ◌&&◌, option_map, if◌then◌else◌, get_or, take, length, nat_le, ◌-◌}
+use Rattle.std.specs.Prelude.{ℕ, ◌+◌, ◌/◌, ◌==◌, ◌||◌, List, [], ◌∷◌, ◌++◌, Option, Some, None, Bool, false, ◌&&◌, option_and_then, option_map, if◌then◌else◌, get_or, take, length, nat_le, ◌-◌}
 use Rattle.std.specs.List.{list_any}
 use Rattle.st_model.specs.Values.{Value, is_small}
 use Rattle.st_model.specs.Objects.{nil}
@@ -8,7 +8,6 @@ use Rattle.st_model.specs.View.{View, object_of}
 use Rattle.st_emit.specs.Names.{NamesView}
 use Rattle.st_emit.specs.Literals.{LiteralView, named, owner}
 use Rattle.st_code.specs.Methods.{PartsView}
-use Rattle.st_resolved.specs.Instructions.{on_some}
 use Rattle.st_parts.specs.Cutting.{codes_of}
 use Rattle.st_parts.specs.Keys.{word_of, key_in, is_named_by}
 use Rattle.st_parts.specs.declared.ending.Ending.{Ending}
@@ -33,7 +32,7 @@ literal_read names t v = if is_named_by names (key_in t v) (word_of v) then Some
 
 abbrev pub literals_read : NamesView → Table → List Value → Option (List LiteralView)
 literals_read names t [] = Some []
-literals_read names t (v ∷ vs) = on_some (literal_read names t v) (λ l. option_map (λ ls. l ∷ ls) (literals_read names t vs))
+literals_read names t (v ∷ vs) = option_and_then (λ l. option_map (λ ls. l ∷ ls) (literals_read names t vs)) (literal_read names t v)
 
 -- LAST LITERALS
 

@@ -6,7 +6,7 @@ ghost use Rattle.st_emit.specs.{inside.NameViews.names_view, inside.Views.litera
 ghost use Rattle.st_code.specs.inside.MethodDrafts.{parts_view};
 ghost use Rattle.st_scope.specs.inside.Meanings.{values};
 ghost use Rattle.st_parts.specs.Parts.{literal_read, literals_read, ends_owned, ends_extended, from_end, owned_read, extended_read, all_read, parts_at};
-ghost use Rattle.st_parts.specs.{inside.Places.place_of, inside.Readings.literals_if};
+ghost use Rattle.st_parts.specs.{inside.Places.{place_at, place_of}, inside.Readings.literals_if};
 
 use crate::bodies::{behind_header, bytes_of, fields_of};
 use crate::contents::{MOST_DEEP, contents_of};
@@ -153,22 +153,33 @@ fn all_literals<M: Memory>(
     }
 }
 
-/// What a method was made of, under the names that its class's methods see. There is none exactly where a literal isn't what
-/// its place asks. It takes memory.
+/// What the method of a selector was made of, in the class of this name, or, on the class side, in its metaclass, under the names
+/// that its class's methods see. There is none exactly if a literal isn't what its place asks. It takes memory.
 #[tactic(auto, unfolding(crate::specs::Parts::parts_at))]
 pub fn parts_of<M: Memory>(
     alloc: Global,
     m: &M,
+    class: Oop,
+    name: &[u8],
+    meta: bool,
+    selector: &[u8],
     names: &Names,
-    of: Compiled<'_>,
+    method: Oop,
 ) -> Result<Option<MethodParts>, AllocError>
-    requires live { is_live (M.view m.now).objects (value of.method) ≡ true }
-    requires kind { is_method (object_of (M.view m.now).objects (value of.method)).kind ≡ true }
-    ensures { IfOk result (λ p. option_map parts_view p
-        ≡ parts_at (names_view names.now) (M.view m.now) (place_of of.entry)) }
+    requires live { is_live (M.view m.now).objects (value method) ≡ true }
+    requires kind { is_method (object_of (M.view m.now).objects (value method)).kind ≡ true }
+    ensures { let at = place_at class name.now meta selector.now method in
+        IfOk result (λ p. option_map parts_view p ≡ parts_at (names_view names.now) (M.view m.now) at) }
 {
-    let words = fields_of(alloc, m, of.method)?;
-    let bytes = bytes_of(alloc, m, of.method)?;
+    let of = Compiled {
+        class,
+        name,
+        meta,
+        selector,
+        method,
+    };
+    let words = fields_of(alloc, m, method)?;
+    let bytes = bytes_of(alloc, m, method)?;
     let vs = behind_header(&words);
     let [header, ..] = words.as_slice() else {
         return Ok(None);
@@ -178,7 +189,7 @@ pub fn parts_of<M: Memory>(
         return Ok(None);
     };
     Ok(Some(MethodParts {
-        selector: of.selector.to_vec(alloc)?,
+        selector: selector.to_vec(alloc)?,
         header: header.0,
         literals,
         bytes,

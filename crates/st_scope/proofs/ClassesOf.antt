@@ -34,7 +34,7 @@ pub ruleset classes = (small-class, object-class)
 
 -- CLASSES BY NAME
 
-pub globals_if : (w : ℕ) (b : Bool) (o : Option Value) → (if b then None else Some (value_of w)) ≡ o → b ≡ false → o ≡ Some (value_of w)
+globals_if : (w : ℕ) (b : Bool) (o : Option Value) → (if b then None else Some (value_of w)) ≡ o → b ≡ false → o ≡ Some (value_of w)
 globals_if w true o e f = cc
 globals_if w false o e f = sym e
 

@@ -6,7 +6,6 @@ pub mod Tallies
 pub mod LeftTables
 pub mod Lineages
 pub mod Passing
-pub mod Alike
 pub mod Finding
 pub mod FieldsOf
 pub mod TextsOf

@@ -39,7 +39,6 @@ use Rattle.st_scope.specs.inside.Findings.{Finds, texts_of}
 use Rattle.st_scope.specs.inside.Lineages.{lineage_of}
 use Rattle.st_scope.specs.inside.Sought.{is_among, shared_at, AreShared}
 use Rattle.st_scope.specs.inside.Alike.{SeesAlike}
-use Rattle.st_scope.proofs.Alike.{code_alike}
 use Rattle.st_scope.proofs.Finding.{then_finds}
 use Rattle.st_scope.specs.inside.Seen.{AreSeen, FindsNames}
 
@@ -176,7 +175,7 @@ module _ (head : Head) (class : Value) (meta : Bool) (tree : MethodView) (t : Ta
       → (tables : List Oop) → values tables ≡ values_of own ++ as_table head.globals
       → (shared : BTreeMap (Vec ℕ) Oop) → AreShared t tables (mentioned_in tree.body) shared.entries
       → (symbols : Bool) → symbols ≡ is_some head.symbols
-      → AreSeen tree (names_seen table head class meta tree) itself t (record { fields = fields; shared = shared; symbols = symbols })
+      → AreSeen (names_seen table head class meta tree) itself t (record { fields = fields; shared = shared; symbols = symbols })
   unfolding names_seen
   all_seen chains r1 fields r2 own r3 d r4 c r5 tables e shared are symbols q =
       let listed : NamesView = record { fields = texts_of fields; shared = in_order shared.entries (mentioned_in tree.body); symbols = is_some head.symbols } in
@@ -189,22 +188,20 @@ module _ (head : Head) (class : Value) (meta : Bool) (tree : MethodView) (t : Ta
             ap (λ vs. (shared_names table vs (mentioned_in tree.body)).run s) (sym e) ∙ order_read t tables shared.entries are.live (mentioned_in tree.body) are.each s f in
             simp (run-then, run-next, r1 s f, after-went, r2 s f, r3 s f, r4 s f, r5 s f, last, run-answer) refl;
         alike = alike;
-        code = code_alike tree listed (names_view (record { fields = fields; shared = shared; symbols = symbols })) alike;
       }
 
 -- where the walk fails
-pub names_fail : (tree : MethodView) (step : Step Table NamesView) (t : Table) (r : Result Names Unread) (u : Unread) → r ≡ Err u → Finds step (itself {A = NamesView}) t (Err u) → FindsNames tree step t r
-names_fail tree step t r (Dies k) e h = subst (λ x. FindsNames tree step t x) (sym e) h
-names_fail tree step t r OutOfMemory e h = subst (λ x. FindsNames tree step t x) (sym e) tt
+pub names_fail : (step : Step Table NamesView) (t : Table) (r : Result Names Unread) (u : Unread) → r ≡ Err u → Finds step (itself {A = NamesView}) t (Err u) → FindsNames step t r
+names_fail step t r (Dies k) e h = subst (λ x. FindsNames step t x) (sym e) h
+names_fail step t r OutOfMemory e h = subst (λ x. FindsNames step t x) (sym e) tt
 
 module _ (head : Head) (class : Value) (meta : Bool) (tree : MethodView) (t : Table) where
-  pub answers_seen : (ns : Names) → AreSeen tree (names_seen table head class meta tree) itself t ns → AreSeen tree (names table head class meta tree) Ok t ns
+  pub answers_seen : (ns : Names) → AreSeen (names_seen table head class meta tree) itself t ns → AreSeen (names table head class meta tree) Ok t ns
   unfolding names tried
   answers_seen ns h = record {
     listed = h.listed;
     reads = λ s e. simp (run-then, h.reads s e, after-went, run-answer) refl;
     alike = h.alike;
-    code = h.code;
   }
 
   pub answers_shape : (k : Dead) → Reads (names_seen table head class meta tree) (itself {A = NamesView}) t (Err k) → Reads (names table head class meta tree) itself t (Ok (Err fault.Shape))
@@ -223,11 +220,11 @@ module _ (head : Head) (class : Value) (meta : Bool) (tree : MethodView) (t : Ta
       → (owners : List Oop) → owners ≡ chains.owners.items → (fields : Vec (Vec ℕ)) → Reads (field_names table (values owners)) texts_of t (Ok fields)
       → (sharers : List Oop) → sharers ≡ chains.sharers.items → (tables : Vec Oop) → Reads (pools table (values sharers)) values_of t (Ok tables)
       → (r : Result Names Unread) (u : Unread) → r ≡ Err u → Finds (behind_tables (texts_of fields) (values_of tables)) (itself {A = NamesView}) t (Err u)
-      → FindsNames tree (names_seen table head class meta tree) t r
+      → FindsNames (names_seen table head class meta tree) t r
   unfolding names_seen
   seen_behind chains ran owners e fields k sharers d tables l r u q h =
       let named = subst (λ os. Reads (field_names table (values os)) texts_of t (Ok fields)) e k in
       let shared = subst (λ os. Reads (pools table (values os)) values_of t (Ok tables)) d l in
-      names_fail tree _ t r u q
+      names_fail _ t r u q
       (then_finds (itself {A = NamesView}) lineage_of t (Err u) _ _ chains ran
       (then_finds (itself {A = NamesView}) texts_of t (Err u) _ _ fields named (then_finds (itself {A = NamesView}) values_of t (Err u) _ _ tables shared h)))

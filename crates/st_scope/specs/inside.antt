@@ -1,5 +1,4 @@
 pub mod Meanings
-pub mod Owners
 pub mod Findings
 pub mod Lineages
 pub mod Walks

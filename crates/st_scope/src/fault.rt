@@ -2,7 +2,7 @@
 
 use st_model::Demand;
 
-/// Why a definition isn't installed; nothing has changed then. `owner_of_name` and `class_of_name` answer
+/// Why a definition isn't installed; nothing has changed then. `class_of_name` answers
 /// `NoClass` and `NoGlobals` alone.
 #[derive(Clone, Copy, Debug, PartialEq, Eq)]
 pub enum InstallFault {

@@ -1,4 +1,4 @@
-//! What a definition is read with of an image: `owner_of_name` finds its class, and `names` the names that its method sees. They are
+//! What a definition is read with of an image: `class_of_name` finds its class, and `names` the names that its method sees. They are
 //! defined in `specs/Calls.antt`. The steps that they are made of serve `st_install` too.
 #![tactic(auto)]
 
@@ -18,7 +18,7 @@ mod sought;
 mod tables;
 mod unread;
 
-pub use classes::{Owner, class_association, class_of_name, owner_of_name};
+pub use classes::{class_association, class_of_name};
 pub use fault::InstallFault;
 pub use naming::names;
 pub use reading::{class_of, count_fields, fetch_field, is_text};

@@ -48,7 +48,7 @@ fn names_seen<M: Memory>(
     t: &MethodTree,
 ) -> Result<Names, Unread>
     ensures { let v = M.view m.now in let tree = method_view t.now in
-        FindsNames tree (names_seen table v.head (value class) meta tree) v.objects result }
+        FindsNames (names_seen table v.head (value class) meta tree) v.objects result }
 {
     let chains = lineage(alloc, m, class, meta)?;
     let fields = field_names(alloc, m, &chains.owners)?;
@@ -80,7 +80,7 @@ pub fn names<M: Memory>(
     t: &MethodTree,
 ) -> Result<Names, InstallFault>
     ensures { let v = M.view m.now in let tree = method_view t.now in
-        AnswersNames tree (names table v.head (value class) meta tree) v.objects result }
+        AnswersNames (names table v.head (value class) meta tree) v.objects result }
 {
     match names_seen(alloc, m, class, meta, t) {
         Ok(names) => Ok(names),

@@ -12,7 +12,9 @@ use Rattle.st_chunk.specs.Definitions.{Definition}
 use Rattle.st_chunk.specs.Asks.{Side, Ask, Object, Display, Classes, Methods, Source, Bytecodes, Senders, Until}
 use Rattle.st_changes.specs.Last.{HasSelector, IsOf, IsNowhere, IsLastText}
 use Rattle.st_model.specs.View.{View}
-use Rattle.st_browse.specs.Asked.{IsTextFor}
+use Rattle.st_host.specs.declared.host.Host.{Ghosts}
+use Rattle.st_browse.specs.Asked.{IsTextFor, reply}
+use Rattle.st_browse.specs.inside.Answering.{Answers}
 use Rattle.st_browse.specs.inside.MadeTexts.{IsKeptOrMade, IsShown}
 use Rattle.st_session.specs.Decompiled.{made_text}
 use Rattle.st_session.proofs.Written.{made_is}
@@ -120,6 +122,14 @@ shown_is v ds side selector = record { kept = last_text ds side selector; is_kep
     by : (kept : Option (List ℕ)) → IsKeptOrMade v side selector kept (option_or kept (made_text v side selector))
     by (Some text) = refl
     by None = made_is v side selector
+
+-- what is answered of that text, by a side of its own memory
+pub shown_of : {D E : Type 0} (host : Ghosts D) (v : View) (ds : List Definition) (own side : Side) (selector : List ℕ) (old new : D) (result : Result Bool E) → own ≡ side
+    → ((text : Option (List ℕ)) → IsShown v ds own selector text → Answers {E = E} host (reply v text (Source own selector)) old new result)
+    → Answers {E = E} host (reply v (shown_text v ds side selector) (Source side selector)) old new result
+shown_of {E = E} host v ds own side selector old new result e answers =
+    subst (λ (s : Side). Answers {E = E} host (reply v (shown_text v ds s selector) (Source s selector)) old new result) e
+    (answers (shown_text v ds own selector) (shown_is v ds own selector))
 
 -- a condensed store shows the same
 pub condensed_shows : (v : View) (c d : Commit) (side : Side) (selector : List ℕ) → IsCondensed c d → shown_text v (all_of d) side selector ≡ shown_text v (all_of c) side selector

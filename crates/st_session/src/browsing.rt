@@ -7,14 +7,14 @@ ghost use Rattle.st_call.specs.inside.Telling.{Tells};
 
 use crate::debugging::run_until;
 use crate::kept::Kept;
-use st_browse::{SourceFault, browse_line, source_line};
+use st_browse::{Side, SourceFault, browse_line, browse_source};
 use st_call::{Reply, say_reply};
 use st_changes::Changes;
-use st_chunk::{Ask, Side};
+use st_chunk::{Ask, Side as Lent};
 use st_host::{Host, SayFault};
 use st_memory::Memory;
 use st_protocol::Status;
-use std::alloc::Global;
+use std::alloc::{AllocError, Global};
 
 /// Says what a memory shows of what is asked for, and these definitions of a method's text, or that it is missing.
 fn say_asked<H: Host, M: Memory>(
@@ -34,20 +34,28 @@ fn say_asked<H: Host, M: Memory>(
 }
 
 /// Says the text of a class's method: that of its last definition among these, or else one that is made of its code; or that there is
-/// none. Where there is no memory, nothing is said.
+/// none. Without memory nothing is said.
 fn say_source<H: Host, M: Memory>(
     alloc: Global,
     host: &mut H,
     m: &M,
     changes: &Changes,
-    side: Side<'_>,
+    side: Lent<'_>,
     selector: &[u8],
 ) -> Result<(), Status>
     ensures { let v = M.view m.now in let ask = Source (side_of side.entry) selector.now in
         let text = asked_text v (shown_text v changes.now.listed) ask in
         TellsOrStarves H.Host.own text host.old host.new result }
 {
-    match source_line(alloc, m, changes, side, selector, host) {
+    let class = match side.class.to_vec(alloc) {
+        Ok(class) => class,
+        Err(AllocError) => return Err(Status::OutOfMemory),
+    };
+    let side = Side {
+        class,
+        meta: side.meta,
+    };
+    match browse_source(alloc, m, changes, &side, selector, host) {
         Ok(true) => Ok(()),
         Ok(false) => say_reply(host, Reply::Missing),
         Err(SourceFault::Disk) => Err(Status::DiskFault),

@@ -7,7 +7,6 @@ use Rattle.st_print.specs.Printed.{printed}
 use Rattle.st_print.specs.inside.Printing.{IsPrintedBack}
 use Rattle.st_emit.specs.Names.{NamesView}
 use Rattle.st_code.specs.Methods.{PartsView, code}
-use Rattle.st_decompile.specs.declared.decompiler.Decompiled.{Decompiled}
 use Rattle.st_expression_stack.specs.Names.{calling_of, name_in}
 use Rattle.st_decompile.specs.Whole.{candidate}
 
@@ -50,7 +49,7 @@ pub record IsPrintedRead (names : NamesView) (p : PartsView) (text : List ℕ) :
   pub is : IsCandidate names p (Some tree)
   pub text_is : text ≡ printed tree
 
--- such a text; or no text means a tree with this code
-abbrev pub IsDecompiled : NamesView → PartsView → Option Decompiled → Type 0
+-- a tree that its printed text means, which is such a text; or no text means a tree with this code
+abbrev pub IsDecompiled : NamesView → PartsView → Option MethodTree → Type 0
 IsDecompiled names p None = (t : MethodView) → IsSource names p t → ⊥
-IsDecompiled names p (Some d) = IsSourceOf names p d.text.items (method_view d.tree) × IsPrintedRead names p d.text.items
+IsDecompiled names p (Some t) = IsSourceOf names p (printed (method_view t)) (method_view t) × IsPrintedRead names p (printed (method_view t))

@@ -10,7 +10,7 @@ use Rattle.st_code.specs.Methods.{PartsView}
 use Rattle.st_install.specs.declared.plan.Ready.{Ready}
 use Rattle.st_install.specs.declared.planning.PlanDraft.{PlanDraft}
 use Rattle.st_install.specs.declared.planning.Growth.{Growth}
-use Rattle.st_scope.specs.declared.classes.Owner.{Owner}
+use Rattle.st_install.specs.declared.plan.Owner.{Owner}
 use Rattle.st_scope.specs.declared.fault.InstallFault.{InstallFault}
 use Rattle.st_scope.specs.declared.unread.Unread.{Unread}
 use Rattle.st_scope.specs.declared.unread.Unread.TheVariants.{Dies, OutOfMemory}

@@ -10,7 +10,7 @@ use Rattle.st_install.specs.declared.plan.Part.{Part as CodePart}
 use Rattle.st_install.specs.declared.plan.NewObject.{NewObject as CodeObject}
 use Rattle.st_install.specs.declared.single.Single.{Single}
 use Rattle.st_install.specs.declared.single.Single.TheVariants as single
-use Rattle.st_scope.specs.declared.classes.Owner.{Owner}
+use Rattle.st_install.specs.declared.plan.Owner.{Owner}
 use Rattle.st_install.specs.Plans.{NewObject}
 use Rattle.st_install.specs.Symbols.{NamedSymbol}
 use Rattle.st_emit.specs.declared.literal.Literal.{Literal}

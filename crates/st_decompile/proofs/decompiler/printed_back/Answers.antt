@@ -17,10 +17,10 @@ pub returns-then-same : goal.returns-then-same
 returns-then-same c =
     let back = meant_as c.deref.result.now (printed (method_view c.args.tree.now)) _ (Some c.in-Some.back) (c.deref.ensures.value ∙ c.in_ok-text.ensures) c.in-Some.is c.in_ok-back.ensures in
     let same = subst (HasCode (method_view c.in-Some.back) (names_view c.args.names.now) (parts_view c.args.parts.now)) c.if-same.true c.in_ok-same.ensures in
-    one_same (names_view c.args.names.now) (parts_view c.args.parts.now) (method_view c.args.tree.now) c.requires c.in_ok-text.text.items c.in-Some.back c.in_ok-text.ensures back same
+    one_same (names_view c.args.names.now) (parts_view c.args.parts.now) (method_view c.args.tree.now) c.requires c.in-Some.back back same
 
-pub returns-else-same : goal.returns-else-same
-returns-else-same c =
+pub returns : goal.returns
+returns c =
     let back = meant_as c.deref.result.now (printed (method_view c.args.tree.now)) _ (Some c.in-Some.back) (c.deref.ensures.value ∙ c.in_ok-text.ensures) c.in-Some.is c.in_ok-back.ensures in
     let same = subst (HasCode (method_view c.in-Some.back) (names_view c.args.names.now) (parts_view c.args.parts.now)) c.if-same.false c.in_ok-same.ensures in
     none_same (names_view c.args.names.now) (parts_view c.args.parts.now) (method_view c.args.tree.now) c.requires c.in-Some.back back same

@@ -5,7 +5,7 @@ use Rattle.st_emit.specs.inside.Views.{literals_view}
 use Rattle.st_code.specs.Methods.{PartsView}
 use Rattle.st_scope.specs.inside.Meanings.{values}
 use Rattle.st_parts.specs.Parts.{ending_of, all_read}
-use Rattle.st_parts.specs.inside.Places.{place_of}
+use Rattle.st_parts.specs.inside.Places.{place_at}
 use Rattle.st_parts.specs.inside.Readings.{literals_if}
 use Rattle.st_parts.proofs.PartsRead.{made_of, parts_told}
 use Rattle.st_parts.proofs.parts.parts_of.Goals as goal
@@ -14,7 +14,7 @@ pub returns-in_default-2 : goal.returns-in_default-2
 returns-in_default-2 g c =
     let v = g.M.Memory.view c.args.m.now in
     let names = names_view c.args.names.now in
-    let at = place_of c.args.of in
+    let at = place_at c.args.class c.args.name.now c.args.meta c.args.selector.now c.args.method in
     let words = c.as_slice.result.now in
     let bytes = c.in_ok-bytes.bytes.items in
     let header : Oop = get_or words 0 (record { 0 = 0 }) in
@@ -28,7 +28,7 @@ pub returns : goal.returns
 returns g c =
     let v = g.M.Memory.view c.args.m.now in
     let names = names_view c.args.names.now in
-    let at = place_of c.args.of in
+    let at = place_at c.args.class c.args.name.now c.args.meta c.args.selector.now c.args.method in
     let words = c.as_slice.result.now in
     let bytes = c.in_ok-bytes.bytes.items in
     let header : Oop = get_or words 0 (record { 0 = 0 }) in

@@ -15,5 +15,5 @@ returns-in-Ok g c =
 pub returns-in-Err-Dies : goal.returns-in-Err-Dies
 returns-in-Err-Dies g c =
     let v = g.M.Memory.view c.args.m.now in
-    let dies = subst (λ u. FindsNames (method_view c.args.t.now) (names_seen table v.head (value c.args.class) c.args.meta (method_view c.args.t.now)) v.objects (Err u)) c.in-Err-Dies.field-0-is c.in-Err-Dies.ensures in
+    let dies = subst (λ u. FindsNames (names_seen table v.head (value c.args.class) c.args.meta (method_view c.args.t.now)) v.objects (Err u)) c.in-Err-Dies.field-0-is c.in-Err-Dies.ensures in
     answers_shape v.head (value c.args.class) c.args.meta (method_view c.args.t.now) v.objects c.in-Err-Dies.field-0-0 dies

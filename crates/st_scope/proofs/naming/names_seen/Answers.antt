@@ -22,7 +22,7 @@ pub returns-in_err-chains : goal.returns-in_err-chains
 unfolding names_seen
 returns-in_err-chains g c =
     let u = c.in_err-chains.field-0.0 in
-    names_fail _ _ _ _ u (search rules) (first_fails (itself {A = NamesView}) lineage_of _ (Err u) _ _ u refl c.in_err-chains.ensures)
+    names_fail _ _ _ u (search rules) (first_fails (itself {A = NamesView}) lineage_of _ (Err u) _ _ u refl c.in_err-chains.ensures)
 
 pub returns-in_err-fields : goal.returns-in_err-fields
 unfolding names_seen
@@ -30,7 +30,7 @@ returns-in_err-fields g c =
     let u = c.in_err-fields.field-0.0 in
     let t = (g.M.Memory.view c.args.m.now).objects in
     let fails = subst (λ os. Finds (field_names table (values os)) texts_of t (Err u)) c.deref.ensures.value c.in_err-fields.ensures in
-    names_fail _ _ _ _ u (search rules)
+    names_fail _ _ _ u (search rules)
     (then_finds (itself {A = NamesView}) lineage_of _ (Err u) _ _ c.in_ok-chains.chains c.in_ok-chains.ensures (first_fails (itself {A = NamesView}) texts_of _ (Err u) _ _ u refl fails))
 
 pub returns-in_err-tables : goal.returns-in_err-tables
@@ -40,7 +40,7 @@ returns-in_err-tables g c =
     let t = (g.M.Memory.view c.args.m.now).objects in
     let fields = subst (λ os. Reads (field_names table (values os)) texts_of t (Ok c.in_ok-fields.fields)) c.deref.ensures.value c.in_ok-fields.ensures in
     let fails = subst (λ os. Finds (pools table (values os)) values_of t (Err u)) c.deref-2.ensures.value c.in_err-tables.ensures in
-    names_fail _ _ _ _ u (search rules)
+    names_fail _ _ _ u (search rules)
     (then_finds (itself {A = NamesView}) lineage_of _ (Err u) _ _ c.in_ok-chains.chains c.in_ok-chains.ensures
     (then_finds (itself {A = NamesView}) texts_of _ (Err u) _ _ c.in_ok-fields.fields fields (first_fails (itself {A = NamesView}) values_of _ (Err u) _ _ u refl fails)))
 

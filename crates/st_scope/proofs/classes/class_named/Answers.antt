@@ -1,15 +1,11 @@
 use Rattle.std.proofs.Common.{arith}
 use Rattle.st_model.proofs.Runs.{runs}
 use Rattle.st_scope.specs.Classes.{class_named}
-use Rattle.st_scope.proofs.classes.owner_named.Goals as goal
+use Rattle.st_scope.proofs.classes.class_named.Goals as goal
 
 pub returns-in_err-association-clause-class : goal.returns-in_err-association-clause-class
 unfolding class_named
 returns-in_err-association-clause-class g c = grind (arith, runs)
-
-pub returns-in_err-named-clause-class : goal.returns-in_err-named-clause-class
-unfolding class_named
-returns-in_err-named-clause-class g c = grind (arith, runs)
 
 pub returns-in_err-class-clause-class : goal.returns-in_err-class-clause-class
 unfolding class_named
@@ -18,7 +14,3 @@ returns-in_err-class-clause-class g c = grind (arith, runs)
 pub returns-clause-class : goal.returns-clause-class
 unfolding class_named
 returns-clause-class g c = grind (arith, runs)
-
-pub returns-clause-association : goal.returns-clause-association
-unfolding class_named
-returns-clause-association g c = grind (arith, runs)
