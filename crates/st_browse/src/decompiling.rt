@@ -55,7 +55,8 @@ fn text_under<M: Memory>(
         of.selector,
         names,
         of.method,
-    )? else {
+    )?
+    else {
         return Ok(None);
     };
     match decompile(alloc, &parts, names)? {
