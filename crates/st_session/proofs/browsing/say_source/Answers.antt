@@ -1,4 +1,4 @@
-use Rattle.std.proofs.Common.{Err, inl, inr, refl, sym, ap, subst, ◌∙◌}
+use Rattle.std.proofs.Common.{Err, inl, sym, subst, ◌∙◌}
 use Rattle.st_chunk.specs.Asks.{Source, side_of}
 use Rattle.st_browse.specs.declared.saying.SourceFault.{SourceFault}
 use Rattle.st_browse.specs.inside.SourceFaults.{IsCaused}
@@ -35,6 +35,3 @@ returns-in-Err-Say g c =
     let said = shown_of g.H.Host v c.args.changes.now.listed (record { class = c.in-Ok.class.items; meta = c.args.side.meta }) (side_of c.args.side) c.args.selector.now _ _ _
     (λ i. record { class = c.in-Ok.ensures.items_if_clones_equal (λ x y h. h) i; meta = c.args.side.meta }) c.in-Err-Say.ensures.answers in
     inl (unsaid g.H.Host missing_text (reply v text (Source (side_of c.args.side) c.args.selector.now)) _ _ said.says (subst (λ (e : SourceFault). IsCaused (g.H.Host.say_faults c.args.host.now) (g.H.Host.say_faults c.browse_source.new.host) (Err e)) c.in-Err-Say.field-0-is c.in-Err-Say.ensures.cause.caused))
-
-pub returns-in-Err-OutOfMemory : goal.returns-in-Err-OutOfMemory
-returns-in-Err-OutOfMemory g c = inr (refl, c.in-Err-OutOfMemory.ensures.starved (ap Err c.in-Err-OutOfMemory.field-0-is))
