@@ -1,6 +1,6 @@
 -- What is known stays known while each object keeps its kind and its sizes, as it does whatever a row does but exchange.
 use Rattle.std.proofs.Common.{◌≡◌, ℕ, ◌+◌, ◌*◌, zero, suc, Bool, true, false, List, [], ◌∷◌, length, length-set, is_some, Result, Ok, Err, refl, sym, ap, ◌∙◌, subst, arith, inl, inr}
-use Rattle.std.specs.Prelude.{Option, Some, None, unwrap_or, ⊤, nat_lt, is_err, if◌then◌else◌, pos, ◌≤ℤ◌}
+use Rattle.std.specs.Prelude.{Option, Some, None, unwrap_or, ⊤, nat_lt, IfErr, if◌then◌else◌, pos, ◌≤ℤ◌}
 use Rattle.std.proofs.lemmas.Bool.{cases_eq}
 use Rattle.st_model.specs.declared.dead.Dead.{Dead}
 use Rattle.st_model.specs.declared.kind.Kind.{Kind}
@@ -249,11 +249,15 @@ near_changed m f r v w k keeps changes held near =
     let s : State Table = record (some_state v.objects) { head = v.head } in
     near_kept v w k (keeps s _ _ (changes s refl refl)) held near
 
--- where it did not die
-pub near_unless : {A B : Type 0} (m : Step Table A) (f : B → A) (r : Result B Dead) (v w : View) (k : Known) → KeepsBy m → is_err r ≡ false
-    → Changes m f v.objects v.head r w.objects → w.held ≡ v.held → IsNear v k → IsNear w k
-near_unless m f (Ok b) v w k keeps ok changes held near = near_changed m f b v w k keeps changes held near
-near_unless m f (Err d) v w k keeps ok changes held near = cc
+-- if it died, the objects are as they were
+pub near_unless : {A B : Type 0} (m : Step Table A) (f : B → A) (r : Result B Dead) (v w : View) (k : Known) → KeepsBy m
+    → Changes m f v.objects v.head r w.objects → IfErr r (λ e. w.objects ≡ v.objects) → w.held ≡ v.held → IsNear v k → IsNear w k
+near_unless m f (Ok b) v w k keeps changes dead held near = near_changed m f b v w k keeps changes held near
+near_unless m f (Err d) v w k keeps changes dead held near = near_kept v w k (keeps_same v.objects w.objects dead) held near
+
+-- a new object
+pub near_placed : (v w : View) (k : Known) (o : Object) → w.objects ≡ placed v.objects o → w.held ≡ v.held → IsNear v k → IsNear w k
+near_placed v w k o e held near = near_kept v w k (subst (λ t. KeepsSizes v.objects t) (sym e) (keeps_placed v.objects o)) held near
 
 pub near_stored : (v w : View) (k : Known) (o : Value) (i : ℕ) (x : Value) → w.objects ≡ with_stored v.objects o i x → w.held ≡ v.held → IsNear v k → IsNear w k
 near_stored v w k o i x e held near =

@@ -18,3 +18,4 @@ mod TwoFields
 mod Placed
 mod Direct
 mod Settled
+pub mod Uses

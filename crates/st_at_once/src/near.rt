@@ -1,14 +1,16 @@
-ghost use Rattle.std.specs.Prelude.{◌≡◌, ◌<◌, ◌≤◌, IfSome};
-ghost use Rattle.st_model.specs.{Values.{value, word}, View.{Has, SettlesTo}, Table.bounded_table};
+ghost use Rattle.std.specs.Prelude.{◌≡◌, ◌<◌, ◌≤◌, ◌/◌, true, IfSome};
+ghost use Rattle.st_model.specs.{Values.{Ref, value, word}, Formed.{IsMakeable, fresh}};
+ghost use Rattle.st_model.specs.{View.{Has, SettlesTo, demand_of, fits, is_live}, Machine.used};
+ghost use Rattle.st_model.specs.Table.{table, bounded_table, first_free, placed};
 ghost use Rattle.st_model.specs.{Steps.store_field, inside.Calls.{Changes, itself}};
 ghost use Rattle.st_frames.specs.inside.Shown.{IsFrame};
 ghost use Rattle.st_at_once.specs.inside.Known.{IsNear, ArePlaced, IsCodeAt, HasLiteral, HasNumber};
 
 use crate::known::{Body, Code, Known};
-use crate::looking::look;
+use crate::looking::{look, look_after_make};
 use st_frames::Frame;
 use st_memory::{Memory, live_value, store_live_field};
-use st_model::{Dead, Oop, Word};
+use st_model::{Dead, Kind, Oop, Word};
 
 /// The objects of a memory, with what is known of the active context, its home and its method, which it holds. As long as they
 /// are held, a field or a byte of them is read and stored at its place, without a look at the object; and a field of the last
@@ -169,6 +171,8 @@ impl<'a, M: Memory> Near<'a, M> {
         ensures stores { Changes (store_field bounded_table (value object.object) i (word x)) itself
             (M.view self.old.memory.now).objects (M.view self.old.memory.now).head
             result (M.view self.new.memory.now).objects }
+        ensures used { used table (M.view self.new.memory.now).objects
+            ≡ used table (M.view self.old.memory.now).objects }
         ensures held { (M.view self.new.memory.now).held ≡ (M.view self.old.memory.now).held }
         ensures head { (M.view self.new.memory.now).head ≡ (M.view self.old.memory.now).head }
         ensures same_memory { self.new.memory.ghost_name ≡ self.old.memory.ghost_name }
@@ -183,21 +187,54 @@ impl<'a, M: Memory> Near<'a, M> {
         }
     }
 
-    /// Stores x in field i of an object that isn't near at hand. Nothing is known any more where it dies.
+    /// Stores x in field i of an object that isn't near at hand.
     #[inline(never)]
-    #[tactic(auto, using(crate::proofs::Keeping::near_nothing, crate::proofs::Placed::placed_nothing))]
     pub(crate) fn store_elsewhere(&mut self, o: Word, i: u32, x: Word) -> Result<(), Dead>
         ensures stores { Changes (store_field bounded_table (word o) i (word x)) itself
             (M.view self.old.memory.now).objects (M.view self.old.memory.now).head
             result (M.view self.new.memory.now).objects }
+        ensures used { used table (M.view self.new.memory.now).objects
+            ≡ used table (M.view self.old.memory.now).objects }
         ensures held { (M.view self.new.memory.now).held ≡ (M.view self.old.memory.now).held }
         ensures head { (M.view self.new.memory.now).head ≡ (M.view self.old.memory.now).head }
         ensures same_memory { self.new.memory.ghost_name ≡ self.old.memory.ghost_name }
     {
-        let done = store_live_field(self.memory, o, i, x);
-        if done.is_err() {
-            self.known = Known::NONE;
+        store_live_field(self.memory, o, i, x)
+    }
+
+    /// Stores x in field i of an object of kind Pointers. As much is used as before, also if that dies.
+    #[inline(always)]
+    pub fn store(&mut self, o: Word, i: u32, x: Word) -> Result<(), Dead>
+        ensures stores { Changes (store_field bounded_table (word o) i (word x)) itself
+            (M.view self.old.memory.now).objects (M.view self.old.memory.now).head
+            result (M.view self.new.memory.now).objects }
+        ensures used { used table (M.view self.new.memory.now).objects
+            ≡ used table (M.view self.old.memory.now).objects }
+        ensures held { (M.view self.new.memory.now).held ≡ (M.view self.old.memory.now).held }
+        ensures head { (M.view self.new.memory.now).head ≡ (M.view self.old.memory.now).head }
+        ensures same_memory { self.new.memory.ghost_name ≡ self.old.memory.ghost_name }
+    {
+        match self.find_place(o, i) {
+            Some(object) => self.store_near(object, i, x),
+            None => self.store_elsewhere(o, i, x),
         }
-        done
+    }
+
+    /// A new object as the memory makes it, which has room for it.
+    pub fn make_object(&mut self, class: Oop, kind: Kind, size: u32, literals: u32) -> Oop
+        requires class { is_live (M.view self.old.memory.now).objects (value class) ≡ true }
+        requires makeable { IsMakeable (class.0 / 2) kind size literals }
+        requires room { fits (M.view self.old.memory.now) (demand_of (fresh (class.0 / 2) kind size literals))
+            ≡ true }
+        ensures pointer { value result ≡ Ref (first_free (M.view self.old.memory.now).objects) }
+        ensures objects { (M.view self.new.memory.now).objects
+            ≡ placed (M.view self.old.memory.now).objects (fresh (class.0 / 2) kind size literals) }
+        ensures held { (M.view self.new.memory.now).held ≡ (M.view self.old.memory.now).held }
+        ensures head { (M.view self.new.memory.now).head ≡ (M.view self.old.memory.now).head }
+        ensures same_memory { self.new.memory.ghost_name ≡ self.old.memory.ghost_name }
+    {
+        let made = Memory::make(self.memory, class, kind, size, literals);
+        self.known = look_after_make(self.memory, self.known, Word::from(made));
+        made
     }
 }

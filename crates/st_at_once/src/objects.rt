@@ -3,7 +3,7 @@ ghost use Rattle.st_model.specs.Table.{bounded_table};
 use crate::known::Known;
 use crate::looking::{look_after_make, look_at_places};
 use crate::near::Near;
-use st_memory::{ContextFields, Memory, Objects, live_value, transfer_live_fields};
+use st_memory::{ContextFields, Memory, Objects, live_value};
 use st_model::{Dead, Demand, Kind, Word};
 
 impl<'a, M: Memory> Objects for Near<'a, M> {
@@ -125,13 +125,9 @@ impl<'a, M: Memory> Objects for Near<'a, M> {
 
     #[inline(always)]
     fn store_field(&mut self, o: Word, i: u32, x: Word) -> Result<(), Dead> {
-        match self.find_place(o, i) {
-            Some(object) => self.store_near(object, i, x),
-            None => self.store_elsewhere(o, i, x),
-        }
+        self.store(o, i, x)
     }
 
-    #[tactic(auto, using(crate::proofs::Keeping::near_nothing, crate::proofs::Placed::placed_nothing))]
     fn transfer(
         &mut self,
         n: u32,
@@ -140,18 +136,7 @@ impl<'a, M: Memory> Objects for Near<'a, M> {
         target: Word,
         to: u32,
     ) -> Result<(), Dead> {
-        if n == 1 {
-            return self.transfer_field(source, from, target, to);
-        }
-        if n == 2 && from < 65536 && to < 65536 {
-            return self.transfer_pair(source, from, target, to);
-        }
-        // Elsewhere nothing is known any more where it dies.
-        let done = transfer_live_fields(self.memory, n, source, from, target, to);
-        if done.is_err() {
-            self.known = Known::NONE;
-        }
-        done
+        self.transfer_fields(n, source, from, target, to)
     }
 
     #[tactic(auto, using(crate::proofs::Keeping::near_nothing, crate::proofs::Placed::placed_nothing))]

@@ -1,10 +1,11 @@
 ghost use Rattle.std.specs.Prelude.{◌≡◌, ◌<◌};
-ghost use Rattle.st_model.specs.{Values.word, Table.bounded_table, Steps.transfer};
+ghost use Rattle.st_model.specs.{Values.word, Machine.used, Steps.transfer};
+ghost use Rattle.st_model.specs.Table.{table, bounded_table};
 ghost use Rattle.st_model.specs.inside.Calls.{Changes, itself};
 ghost use Rattle.st_control.specs.inside.Borrowed.{fixed_of};
 
 use crate::near::Near;
-use st_memory::{Memory, Objects};
+use st_memory::{Memory, Objects, transfer_live_fields};
 use st_model::{Dead, Word};
 
 impl<'a, M: Memory> Near<'a, M> {
@@ -21,12 +22,14 @@ impl<'a, M: Memory> Near<'a, M> {
         ensures transfers { Changes (transfer bounded_table 1 (word source) from (word target) to) itself
             (M.view self.old.memory.now).objects (M.view self.old.memory.now).head
             result (M.view self.new.memory.now).objects }
+        ensures used { used table (M.view self.new.memory.now).objects
+            ≡ used table (M.view self.old.memory.now).objects }
         ensures head { (M.view self.new.memory.now).head ≡ (M.view self.old.memory.now).head }
         ensures fixed { fixed_of (M.view self.new.memory.now) self.new.memory.ghost_name
             ≡ fixed_of (M.view self.old.memory.now) self.old.memory.ghost_name }
     {
         let x = self.fetch_field(source, from)?;
-        self.store_field(target, to, x)
+        self.store(target, to, x)
     }
 
     /// Stores two fields of an object in fields of another, once both are fetched.
@@ -43,13 +46,43 @@ impl<'a, M: Memory> Near<'a, M> {
         ensures transfers { Changes (transfer bounded_table 2 (word source) from (word target) to) itself
             (M.view self.old.memory.now).objects (M.view self.old.memory.now).head
             result (M.view self.new.memory.now).objects }
+        ensures used { used table (M.view self.new.memory.now).objects
+            ≡ used table (M.view self.old.memory.now).objects }
         ensures head { (M.view self.new.memory.now).head ≡ (M.view self.old.memory.now).head }
         ensures fixed { fixed_of (M.view self.new.memory.now) self.new.memory.ghost_name
             ≡ fixed_of (M.view self.old.memory.now) self.old.memory.ghost_name }
     {
         let first = self.fetch_field(source, from)?;
         let second = self.fetch_field(source, from + 1)?;
-        self.store_field(target, to, first)?;
-        self.store_field(target, to + 1, second)
+        self.store(target, to, first)?;
+        self.store(target, to + 1, second)
+    }
+
+    /// Stores n fields of one object in fields of another, once all of them are fetched. As much is used as before, also if that
+    /// dies.
+    pub fn transfer_fields(
+        &mut self,
+        n: u32,
+        source: Word,
+        from: u32,
+        target: Word,
+        to: u32,
+    ) -> Result<(), Dead>
+        ensures transfers { Changes (transfer bounded_table n (word source) from (word target) to) itself
+            (M.view self.old.memory.now).objects (M.view self.old.memory.now).head
+            result (M.view self.new.memory.now).objects }
+        ensures used { used table (M.view self.new.memory.now).objects
+            ≡ used table (M.view self.old.memory.now).objects }
+        ensures head { (M.view self.new.memory.now).head ≡ (M.view self.old.memory.now).head }
+        ensures fixed { fixed_of (M.view self.new.memory.now) self.new.memory.ghost_name
+            ≡ fixed_of (M.view self.old.memory.now) self.old.memory.ghost_name }
+    {
+        if n == 1 {
+            return self.transfer_field(source, from, target, to);
+        }
+        if n == 2 && from < 65536 && to < 65536 {
+            return self.transfer_pair(source, from, target, to);
+        }
+        transfer_live_fields(self.memory, n, source, from, target, to)
     }
 }

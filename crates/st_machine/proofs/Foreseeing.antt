@@ -16,7 +16,7 @@ use Rattle.st_model.specs.inside.Foreseen.{foreseen, foreseen_from, foreseen_cyc
 use Rattle.st_model.specs.View.{View, fits}
 use Rattle.st_control.specs.inside.Foreseen.{IsForeseen}
 use Rattle.st_machine.specs.inside.Cycling.{GoesBy, Finishes, foreseen_step}
-use Rattle.st_step.specs.inside.Doing.{IsDone}
+use Rattle.st_machine.specs.inside.Doing.{IsDone}
 use Rattle.st_step.specs.inside.Planned.{Plans, plus}
 use Rattle.st_frames.specs.declared.frame.Frame.{Frame}
 use Rattle.st_frames.specs.inside.Shown.{shown, registers_of}
@@ -70,7 +70,7 @@ module _ (c : State Table) where
   dies_at_once cause e = ap (foreseen c) e
 
 -- what is still to be done of the cycle of a bytecode that was done at once
-pub goes_by : (c d : State Table) → IsForeseen c × ((step bounded_table).run c ≡ Went outcome.Went d) → GoesBy (foreseen_step c) (Finishes d)
+pub goes_by : (c d : State Table) → IsForeseen c × ((step bounded_table).run c ≡ Went outcome.Went d) → GoesBy (foreseen_step c) outcome.Went (Finishes d)
 goes_by c d h e w = cycle_done c outcome.Went d e h.0 h.1 w
 
 -- how a bytecode goes that was done straight on, since there was room

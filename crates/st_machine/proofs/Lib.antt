@@ -1,4 +1,6 @@
 mod Endings
+mod Rooms
+mod RowDone
 mod Foreseeing
 mod Calm
 mod Runs

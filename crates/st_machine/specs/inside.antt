@@ -1,5 +1,7 @@
 pub mod Asked
 pub mod Cycling
+pub mod Doing
 pub mod Machines
+pub mod Room
 pub mod Runs
 pub mod Strides

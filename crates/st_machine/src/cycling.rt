@@ -5,12 +5,13 @@ ghost use Rattle.st_model.specs.inside.Calls.{transition_of};
 ghost use Rattle.st_frames.specs.{Naming.{IsNaming, naming}, inside.Shown.{IsFrame, IsReady, shown}};
 ghost use Rattle.st_machine.specs.{inside.Cycling.{Finishes, GoesAtOnce, foreseen_step, warns}, inside.Runs.ending_of};
 
+use crate::doing::{do_with_room, has_room};
 use crate::switching::check_process_switch;
 use st_at_once::step_at_once;
 use st_frames::{Frame, World, signal_once};
 use st_memory::Memory;
 use st_model::{Dead, Demand, Device, Outcome};
-use st_step::{do_with_room, has_room, plan, step};
+use st_step::{plan, step};
 
 /// How a cycle ended in which the machine didn't die.
 #[derive(Clone, Copy)]

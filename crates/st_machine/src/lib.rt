@@ -4,9 +4,11 @@
 
 mod coming;
 mod cycling;
+mod doing;
 mod ending;
 mod machine;
 mod preparing;
+mod roomy;
 mod running;
 mod saving;
 mod signals;

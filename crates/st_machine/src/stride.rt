@@ -49,6 +49,10 @@ fn do_after<M: Memory>(
             finish(m, f, w);
         }
         Some(StretchEnd::Warns) => warn(m, w),
+        Some(StretchEnd::Asks(outcome)) => {
+            finish(m, f, w);
+            return Ok(CycleEnd::With(outcome));
+        }
     }
     Ok(CycleEnd::With(Outcome::Went))
 }

@@ -7,6 +7,3 @@ mod Failing
 mod Called
 pub mod Executes
 pub mod NumberChanges
-mod Uses
-mod Rooms
-mod RowDone

@@ -1,6 +1,4 @@
-pub mod Doing
 pub mod Jumping
 pub mod Planned
 pub mod Responding
-pub mod Room
 pub mod Trying

@@ -63,7 +63,7 @@ fn say_top<M: Memory>(m: &M, f: &Frame) -> Outcome
 }
 
 /// The outcome of a step that ended so.
-pub(crate) fn outcome<M: Memory>(m: &M, f: &Frame, end: StepEnd) -> Outcome
+pub fn outcome<M: Memory>(m: &M, f: &Frame, end: StepEnd) -> Outcome
     requires frame { IsFrame (M.view m.now) f.now }
     requires ended { HasEnded (M.view m.now) f.now end }
     ensures { outcome_of result ≡ end_of end }

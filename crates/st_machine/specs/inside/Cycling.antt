@@ -3,7 +3,7 @@ use Rattle.std.specs.Prelude.{◌≡◌, ◌==◌, ◌&&◌, not, nat_lt, length
 use Rattle.st_model.specs.declared.dead.Dead.{Dead}
 use Rattle.st_model.specs.declared.deed.Deed.{Deed}
 use Rattle.st_model.specs.declared.demand.Demand.{Demand}
-use Rattle.st_model.specs.Outcomes.{Ending, With}
+use Rattle.st_model.specs.Outcomes.{Outcome, Ending, With, outcome_of}
 use Rattle.st_model.specs.Outcomes as outcome
 use Rattle.st_model.specs.Machine.{State, World, Transition, Died, Went}
 use Rattle.st_model.specs.Objects.{nil}
@@ -15,7 +15,7 @@ use Rattle.st_model.specs.Cycles.{is_low, warned}
 use Rattle.st_model.specs.Deeds.{with_deed}
 use Rattle.st_model.specs.inside.Foreseen.{foreseen}
 use Rattle.st_machine.specs.declared.stretch.StretchEnd.{StretchEnd}
-use Rattle.st_machine.specs.declared.stretch.StretchEnd.TheVariants.{ToForesee, Leaves, Warns}
+use Rattle.st_machine.specs.declared.stretch.StretchEnd.TheVariants.{ToForesee, Leaves, Warns, Asks}
 
 -- the cycle from the bytecode on
 abbrev pub foreseen_step : State Table → Transition (State Table) Ending
@@ -39,15 +39,17 @@ IsCalm w = (length w.devices.pending == 0 && not (is_held nil w.devices.new_proc
 abbrev pub warns : Demand → World → Bool
 warns free w = is_held nil w.devices.low_space && (is_low free w && nat_lt (length w.devices.pending) 4096)
 
--- A cycle goes on from its bytecode to whatever comes of c by what is still to be done.
-abbrev pub GoesBy : Transition (State Table) Ending → (State Table → Type 0) → Type 0
-GoesBy o left = (d : State Table) → left d → o ≡ Went (With outcome.Went) d
+-- A cycle ends so from its bytecode on, with whatever comes of c by what is still to be done.
+abbrev pub GoesBy : Transition (State Table) Ending → Outcome → (State Table → Type 0) → Type 0
+GoesBy t o left = (d : State Table) → left d → t ≡ Went (With o) d
 
--- In a calm world a bytecode that is tried at once dies as the cycle does, or goes on as that does, or changes nothing; or of the
--- cycle is still to be done the deed that is left and what comes after a bytecode, or the warning alone.
+-- In a calm world a bytecode that is done without a plan dies as the cycle does, or goes on as that does, or changes nothing; or of the
+-- cycle is still to be done the deed that is left and what comes after a bytecode, or the warning alone, or what comes after one that
+-- asks for something besides.
 abbrev pub GoesCalmly : State Table → Deed → Result (Option StretchEnd) Dead → State Table → Type 0
 GoesCalmly c left (Err cause) d = foreseen_step c ≡ Died cause
 GoesCalmly c left (Ok None) d = foreseen_step c ≡ Went (With outcome.Went) d
 GoesCalmly c left (Ok (Some ToForesee)) d = d ≡ c
-GoesCalmly c left (Ok (Some Leaves)) d = GoesBy (foreseen_step c) (Finishes (with_deed left d))
-GoesCalmly c left (Ok (Some Warns)) d = GoesBy (foreseen_step c) (λ e. warned table d ≡ e)
+GoesCalmly c left (Ok (Some Leaves)) d = GoesBy (foreseen_step c) outcome.Went (Finishes (with_deed left d))
+GoesCalmly c left (Ok (Some Warns)) d = GoesBy (foreseen_step c) outcome.Went (λ e. warned table d ≡ e)
+GoesCalmly c left (Ok (Some (Asks o))) d = GoesBy (foreseen_step c) (outcome_of o) (Finishes d)

@@ -21,8 +21,8 @@ loop-done-init g c =
 
 pub returns-in-Ok-Some-clause-goes : goal.returns-in-Ok-Some-clause-goes
 returns-in-Ok-Some-clause-goes g c = λ s h.
-    let v = g.M.Memory.view c.loop-done.near.memory.now in
-    let u = g.M.Memory.view c.do_calmly.new.near.memory.now in
+    let v = g.M.Memory.view c.loop-done.roomy.near.memory.now in
+    let u = g.M.Memory.view c.do_calmly.new.roomy.near.memory.now in
     let f = c.loop-done.f in
     let q = c.do_calmly.new.f in
     let w = c.args.w.now in
@@ -30,24 +30,24 @@ returns-in-Ok-Some-clause-goes g c = λ s h.
     let end : c.do_calmly.result ≡ Ok (Some c.in-Ok-Some.end) = c.in-Ok-Some.is ∙ ap (λ x. Ok x) c.in-Ok-Some.field-0-is in
     let step = subst (λ y. GoesCalmly (shown v f c.loop-done.r.world.now) c.do_calmly.new.left y (shown u q c.loop-done.r.world.now)) end c.do_calmly.ensures.step in
     subst (λ y. StretchEnds c.loop-done.done s c.do_calmly.new.left (Ok (Some c.in-Ok-Some.end)) (shown (g.M.Memory.view y) q w)) (search rules)
-    (calm_ends v f w (g.met.M.Memory.whole c.loop-done.near.memory.now) far.ready c.loop-done.done s c.do_calmly.new.left c.in-Ok-Some.end (shown u q w) c.requires.calm (far.shows s h)
+    (calm_ends v f w (g.met.M.Memory.whole c.loop-done.roomy.near.memory.now) far.ready c.loop-done.done s c.do_calmly.new.left c.in-Ok-Some.end (shown u q w) c.requires.calm (far.shows s h)
     (subst (λ x. GoesCalmly (shown v f x) c.do_calmly.new.left (Ok (Some c.in-Ok-Some.end)) (shown u q x)) far.world step))
 
 pub returns-in-Err-clause-goes : goal.returns-in-Err-clause-goes
 returns-in-Err-clause-goes g c = λ s h.
-    let v = g.M.Memory.view c.loop-done.near.memory.now in
-    let u = g.M.Memory.view c.do_calmly.new.near.memory.now in
+    let v = g.M.Memory.view c.loop-done.roomy.near.memory.now in
+    let u = g.M.Memory.view c.do_calmly.new.roomy.near.memory.now in
     let f = c.loop-done.f in
     let q = c.do_calmly.new.f in
     let w = c.args.w.now in
     let far = c.loop-done.invariant in
-    calm_dies v f w (g.met.M.Memory.whole c.loop-done.near.memory.now) far.ready c.loop-done.done s c.do_calmly.new.left c.in-Err.cause (shown u q w) c.requires.calm (far.shows s h)
+    calm_dies v f w (g.met.M.Memory.whole c.loop-done.roomy.near.memory.now) far.ready c.loop-done.done s c.do_calmly.new.left c.in-Err.cause (shown u q w) c.requires.calm (far.shows s h)
     (subst (λ x. GoesCalmly (shown v f x) c.do_calmly.new.left (Err c.in-Err.cause) (shown u q x)) far.world c.in-Err.ensures.step)
 
 pub loop-done-preserved : goal.loop-done-preserved
 loop-done-preserved g c =
-    let v = g.M.Memory.view c.loop-done.near.memory.now in
-    let u = g.M.Memory.view c.do_calmly.new.near.memory.now in
+    let v = g.M.Memory.view c.loop-done.roomy.near.memory.now in
+    let u = g.M.Memory.view c.do_calmly.new.roomy.near.memory.now in
     let f = c.loop-done.f in
     let q = c.do_calmly.new.f in
     let w = c.args.w.now in
@@ -60,7 +60,7 @@ loop-done-preserved g c =
       same = one.same end;
       world = one.world ∙ far.world;
       name = one.same_memory ∙ far.name;
-      shows = λ s h. calm_goes v f w (g.met.M.Memory.whole c.loop-done.near.memory.now) far.ready c.loop-done.done s c.do_calmly.new.left (shown u q w) c.requires.calm (far.shows s h)
+      shows = λ s h. calm_goes v f w (g.met.M.Memory.whole c.loop-done.roomy.near.memory.now) far.ready c.loop-done.done s c.do_calmly.new.left (shown u q w) c.requires.calm (far.shows s h)
           (subst (λ x. GoesCalmly (shown v f x) c.do_calmly.new.left (Ok None) (shown u q x)) far.world step);
     }
 
@@ -69,4 +69,4 @@ returns-clause-goes g c = λ s h.
     let f = c.loop-done.f in
     let w = c.args.w.now in
     subst (λ y. SoFar c.args.n s (shown (g.M.Memory.view y) f w)) (search rules)
-    (subst (λ k. SoFar k s (shown (g.M.Memory.view c.loop-done.near.memory.now) f w)) (search rules) (c.loop-done.invariant.shows s h))
+    (subst (λ k. SoFar k s (shown (g.M.Memory.view c.loop-done.roomy.near.memory.now) f w)) (search rules) (c.loop-done.invariant.shows s h))

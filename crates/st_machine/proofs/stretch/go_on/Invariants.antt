@@ -11,9 +11,9 @@ use Rattle.st_machine.proofs.stretch.go_on.Given as goal
 -- was borrowed
 abbrev pub invariant-loop-done : goal.invariant-loop-done
 invariant-loop-done g l = record {
-  ready : IsReady (g.M.Memory.view l.near.memory.now) l.f l.w;
+  ready : IsReady (g.M.Memory.view l.roomy.near.memory.now) l.f l.w;
   same : registers_in l.r ≡ registers_of l.f;
   world : l.r.world.now ≡ l.w;
-  name : l.near.memory.ghost_name ≡ l.initial.near.memory.ghost_name;
-  shows : (s : State Births) → Shows (shown (g.M.Memory.view l.fn.m) l.fn.f l.w) s → SoFar l.done s (shown (g.M.Memory.view l.near.memory.now) l.f l.w);
+  name : l.roomy.near.memory.ghost_name ≡ l.initial.roomy.near.memory.ghost_name;
+  shows : (s : State Births) → Shows (shown (g.M.Memory.view l.fn.m) l.fn.f l.w) s → SoFar l.done s (shown (g.M.Memory.view l.roomy.near.memory.now) l.f l.w);
 }
