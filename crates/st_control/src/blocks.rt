@@ -2,16 +2,15 @@ ghost use Rattle.std.specs.Prelude.{◌≡◌, ◌<◌, ◌≤◌, ◌+◌, ◌�
 ghost use Rattle.st_model.specs.Values.{word, small_integer};
 ghost use Rattle.st_model.specs.Blocks.{check_context, home_of_block, fill_block, new_block, primitive_block_copy, blocks};
 ghost use Rattle.st_model.specs.inside.Calls.{itself};
-ghost use Rattle.st_model.specs.Deeds.{is_done, deed_of_trial};
 ghost use Rattle.st_frames.specs.inside.Answering.{succeed_by};
-ghost use Rattle.st_frames.specs.inside.Rows.{RowReads, RowDoes, RowLeaves, Takes, tried_changes, block_changes};
+ghost use Rattle.st_frames.specs.inside.Rows.{RowReads, RowDoes, RowTries, Takes, tried_changes, block_changes};
 
 use crate::values::{primitive_value, primitive_value_with};
 use st_frames::{
-    Registers, answer_with, home_of, page, positive_small, small, small_integer, top, under,
+    Registers, Tried, answer_with, home_of, page, positive_small, small, small_integer, top, under,
 };
 use st_memory::Objects;
-use st_model::{Dead, Deed, PageObject, Tried, Word};
+use st_model::{Dead, PageObject, Word};
 
 /// What a new block is made of.
 #[derive(Clone, Copy)]
@@ -117,8 +116,7 @@ fn answer_block<O: Objects>(m: &mut O, r: &mut Registers, shape: Shape) -> Resul
 #[tactic(auto, using(st_frames::proofs::Tries::effects), unfolding(st_model::specs::Blocks::primitive_block_copy))]
 pub fn primitive_block_copy<O: Objects>(m: &mut O, r: &mut Registers) -> Result<Tried, Dead>
     requires room { block_changes ≤ O.room m.old }
-    ensures does { RowLeaves O.Objects.own (primitive_block_copy O.names)
-        is_done deed_of_trial m.old r.old result m.new r.new }
+    ensures does { RowTries O.Objects.own (primitive_block_copy O.names) m.old r.old result m.new r.new }
     ensures takes { Takes O.Objects.own (tried_changes block_changes result) m.old m.new }
 {
     let context = under(m, r, 1)?;
@@ -126,7 +124,7 @@ pub fn primitive_block_copy<O: Objects>(m: &mut O, r: &mut Registers) -> Result<
     match home_of_block(m, r, context, count) {
         Ok(home) => {
             answer_block(m, r, Shape { home, count })?;
-            Ok(Tried::Done(Deed::Nothing))
+            Ok(Tried::Done)
         }
         Err(_) => Ok(Tried::Failed),
     }
@@ -142,8 +140,8 @@ pub fn try_blocks<O: Objects>(
 ) -> Result<Tried, Dead>
     requires few { arguments < 16384 }
     requires room { block_changes ≤ O.room m.old }
-    ensures does { RowLeaves O.Objects.own (blocks O.names primitive arguments)
-        is_done deed_of_trial m.old r.old result m.new r.new }
+    ensures does { RowTries O.Objects.own (blocks O.names primitive arguments)
+        m.old r.old result m.new r.new }
     ensures takes { Takes O.Objects.own (tried_changes block_changes result) m.old m.new }
 {
     match primitive {

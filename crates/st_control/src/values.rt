@@ -2,17 +2,16 @@ ghost use Rattle.std.specs.Prelude.{◌≡◌, ◌<◌, ◌≤◌, ◌+◌, true
 ghost use Rattle.st_model.specs.Values.{word};
 ghost use Rattle.st_model.specs.Blocks.{start_of, enter_block, value_with_words, primitive_value, passing, value_with_fields, primitive_value_with};
 ghost use Rattle.st_model.specs.inside.Calls.{itself};
-ghost use Rattle.st_model.specs.Deeds.{is_done, deed_of_trial};
 ghost use Rattle.st_control.specs.inside.Passed.{first_of, passing_of};
-ghost use Rattle.st_frames.specs.inside.Rows.{RowReads, RowDoes, RowLeaves, Takes, tried_changes, block_changes};
+ghost use Rattle.st_frames.specs.inside.Rows.{RowReads, RowDoes, RowTries, Takes, tried_changes, block_changes};
 
 use crate::passing::Passing;
 use st_frames::{
-    Registers, check_class, drop_words, fetch_integer, positive_small, small, small_integer,
+    Registers, Tried, check_class, drop_words, fetch_integer, positive_small, small, small_integer,
     switch, top, under,
 };
 use st_memory::Objects;
-use st_model::{Dead, Deed, PageObject, Tried, Word};
+use st_model::{Dead, PageObject, Word};
 
 /// What is passed to a block that takes n arguments, and has fields for them.
 #[tactic(auto, using(crate::proofs::Valued::starts), unfolding(st_model::specs::Blocks::start_of))]
@@ -94,12 +93,11 @@ pub fn value_at_once<O: Objects>(m: &mut O, r: &mut Registers, n: u32) -> Result
 pub fn primitive_value<O: Objects>(m: &mut O, r: &mut Registers, n: u32) -> Result<Tried, Dead>
     requires few { n < 16384 }
     requires room { block_changes ≤ O.room m.old }
-    ensures does { RowLeaves O.Objects.own (primitive_value O.names n)
-        is_done deed_of_trial m.old r.old result m.new r.new }
+    ensures does { RowTries O.Objects.own (primitive_value O.names n) m.old r.old result m.new r.new }
     ensures takes { Takes O.Objects.own (tried_changes block_changes result) m.old m.new }
 {
     if value_at_once(m, r, n)? {
-        Ok(Tried::Done(Deed::Nothing))
+        Ok(Tried::Done)
     } else {
         Ok(Tried::Failed)
     }
@@ -140,8 +138,7 @@ fn value_with_fields<O: Objects>(
 #[tactic(auto, using(crate::proofs::Valued::values), unfolding(st_model::specs::Blocks::primitive_value_with, st_model::specs::Blocks::value_with_if_any))]
 pub fn primitive_value_with<O: Objects>(m: &mut O, r: &mut Registers) -> Result<Tried, Dead>
     requires room { block_changes ≤ O.room m.old }
-    ensures does { RowLeaves O.Objects.own (primitive_value_with O.names)
-        is_done deed_of_trial m.old r.old result m.new r.new }
+    ensures does { RowTries O.Objects.own (primitive_value_with O.names) m.old r.old result m.new r.new }
     ensures takes { Takes O.Objects.own (tried_changes block_changes result) m.old m.new }
 {
     let block = under(m, r, 1)?;
@@ -149,7 +146,7 @@ pub fn primitive_value_with<O: Objects>(m: &mut O, r: &mut Registers) -> Result<
     match passing(m, r, block, array) {
         Ok(passing) => {
             value_with_fields(m, r, array, passing)?;
-            Ok(Tried::Done(Deed::Nothing))
+            Ok(Tried::Done)
         }
         Err(_) => Ok(Tried::Failed),
     }

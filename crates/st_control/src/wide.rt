@@ -4,16 +4,16 @@ ghost use Rattle.st_model.specs.Steps.{or_die};
 ghost use Rattle.st_model.specs.Integers.{large, large_shift};
 ghost use Rattle.st_model.specs.inside.Calls.{itself};
 ghost use Rattle.st_model.specs.Values.{word};
-ghost use Rattle.st_model.specs.Deeds.{is_done, deed_of_trial, copies_pixels};
+ghost use Rattle.st_model.specs.Deeds.{copies_pixels};
 ghost use Rattle.st_model.specs.Arithmetic.{large_under, large_answer, value_of_large, large_arithmetic, shift_answer, shift_large};
 ghost use Rattle.st_frames.specs.inside.Answering.{succeed_by, answer_word, answer_deed};
-ghost use Rattle.st_frames.specs.inside.Rows.{RowReads, RowLeaves, Takes};
+ghost use Rattle.st_frames.specs.inside.Rows.{RowReads, RowLeaves, RowTries, Takes};
 
 use crate::arithmetic::integer_under;
-use st_frames::{Answer, Registers, number, page, succeed_leaving, under, value_within};
+use st_frames::{Answer, Registers, Tried, number, page, succeed_leaving, under, value_within};
 use st_ints::{LargeAnswer, large, shift};
 use st_memory::Objects;
-use st_model::{Dead, Deed, PageObject, Tried};
+use st_model::{Dead, Deed, PageObject};
 
 /// The integer from 0 up, of at most 16 bytes, k words below the top.
 #[tactic(auto, using(st_frames::proofs::Doing::rows), unfolding(st_model::specs::Arithmetic::large_under))]
@@ -88,8 +88,8 @@ fn answer_large<O: Objects>(
     answer: LargeAnswer,
 ) -> Result<Tried, Dead>
     requires room { 2 ≤ O.room m.old }
-    ensures does { RowLeaves O.Objects.own (succeed_by O.names 1 (value_of_large O.names answer))
-        is_done deed_of_trial m.old r.old result m.new r.new }
+    ensures does { RowTries O.Objects.own (succeed_by O.names 1 (value_of_large O.names answer))
+        m.old r.old result m.new r.new }
     ensures takes { Takes O.Objects.own 2 m.old m.new }
 {
     let value = value_of_large(m, r, answer)?;
@@ -102,8 +102,7 @@ pub fn large_arithmetic<O: Objects>(m: &mut O, r: &mut Registers, n: u32) -> Res
     requires first { 21 ≤ n }
     requires last { n ≤ 36 }
     requires room { 2 ≤ O.room m.old }
-    ensures does { RowLeaves O.Objects.own (large_arithmetic O.names n)
-        is_done deed_of_trial m.old r.old result m.new r.new }
+    ensures does { RowTries O.Objects.own (large_arithmetic O.names n) m.old r.old result m.new r.new }
     ensures takes { Takes O.Objects.own 2 m.old m.new }
 {
     match large_answer(m, r, n) {
@@ -138,8 +137,7 @@ fn shift_answer<O: Objects>(m: &O, r: &Registers) -> Result<u128, Dead>
 #[tactic(auto, using(st_frames::proofs::Tries::effects), unfolding(st_model::specs::Arithmetic::shift_large))]
 pub fn shift_large<O: Objects>(m: &mut O, r: &mut Registers) -> Result<Tried, Dead>
     requires room { 2 ≤ O.room m.old }
-    ensures does { RowLeaves O.Objects.own (shift_large O.names)
-        is_done deed_of_trial m.old r.old result m.new r.new }
+    ensures does { RowTries O.Objects.own (shift_large O.names) m.old r.old result m.new r.new }
     ensures takes { Takes O.Objects.own 2 m.old m.new }
 {
     match shift_answer(m, r) {

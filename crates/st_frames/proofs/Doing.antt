@@ -2,7 +2,9 @@
 use Rattle.std.proofs.Common.{◌≡◌, true, refl, sym, ap}
 use Rattle.std.specs.Prelude.{ℤ, pos, ◌+ℤ◌, ◌≤ℤ◌, int_le}
 use Rattle.st_model.specs.declared.dead.Dead.TheVariants as dead
+use Rattle.st_model.specs.declared.deed.Deed.{Deed}
 use Rattle.st_model.specs.declared.page.PageObject.{PageObject}
+use Rattle.st_model.specs.declared.word.Word.{Word}
 use Rattle.st_model.specs.Values.{Ref, word}
 use Rattle.st_model.specs.Objects.{place_of}
 use Rattle.st_model.specs.Machine.{ObjectMemory, Head, State, Went}
@@ -20,6 +22,16 @@ row-memory t a r = refl
 pub row-head : (t : Table) (a : Head) (r : Words) → (row_state t a r).head ≡ a
 unfolding row_state
 row-head t a r = refl
+
+-- what a row leaves is no part of the state
+
+pub row-left : (t : Table) (a : Head) (r : Words) (d : Deed) → row_state t a (record r { left = d }) ≡ row_state t a r
+unfolding row_state
+row-left t a r d = refl
+
+pub row-said : (t : Table) (a : Head) (r : Words) (w : Word) → row_state t a (record r { said = w }) ≡ row_state t a r
+unfolding row_state
+row-said t a r w = refl
 
 pub row-stored : (t u : Table) (a b : Head) (r : Words) → b ≡ a → record (row_state t a r) { memory = u } ≡ row_state u b r
 unfolding row_state
@@ -58,10 +70,10 @@ row-page m h q s = rw h.named refl
 pub ruleset pages = (row-page)
 
 -- what a row is made of
-pub ruleset rows = (row-memory, row-head, row-stored, row-active, row-home, row-method, row-receiver, row-ip, row-sp, run-then, run-next, after-went, after-died, run-answer, run-die)
+pub ruleset rows = (row-memory, row-head, row-left, row-said, row-stored, row-active, row-home, row-method, row-receiver, row-ip, row-sp, run-then, run-next, after-went, after-died, run-answer, run-die)
 
 -- a row with checks of numbers
-pub ruleset checks = (tests, row-memory, row-head, row-stored, row-active, row-home, row-method, row-receiver, row-ip, row-sp, run-then, run-next, after-went, after-died, run-answer, run-die)
+pub ruleset checks = (tests, row-memory, row-head, row-left, row-said, row-stored, row-active, row-home, row-method, row-receiver, row-ip, row-sp, run-then, run-next, after-went, after-died, run-answer, run-die)
 
 pub ruleset jumps = (row-ip, run-passed, run-failed, run-then, run-next, after-went, after-died)
 

@@ -49,6 +49,8 @@ fn set_registers<O: Objects>(_m: &O, r: &mut Registers, new: &Fetched)
         ip: new.ip,
         sp: new.sp,
         world: r.world,
+        left: r.left,
+        said: r.said,
     };
 }
 

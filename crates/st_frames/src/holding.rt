@@ -12,7 +12,7 @@ use crate::reading::read_registers;
 use crate::registers::Registers;
 use crate::world::World;
 use st_memory::Memory;
-use st_model::{Dead, Oop, RootPlace, Word};
+use st_model::{Dead, Deed, Oop, RootPlace, Word};
 
 /// The registers, as the row of a bytecode works on them.
 pub fn load<'a, M: Memory>(m: &M, f: &Frame, w: &'a World) -> Registers<'a>
@@ -28,6 +28,8 @@ pub fn load<'a, M: Memory>(m: &M, f: &Frame, w: &'a World) -> Registers<'a>
         ip: f.ip,
         sp: f.sp,
         world: w,
+        left: Deed::Nothing,
+        said: Word::NIL,
     }
 }
 

@@ -2,9 +2,10 @@ ghost use Rattle.std.specs.Prelude.{◌≤◌, ◌≤ℤ◌, pos, negsuc};
 ghost use Rattle.st_frames.specs.inside.Narrow.{IsNarrow};
 
 use crate::world::World;
-use st_model::Word;
+use st_model::{Deed, Word};
 
-/// The registers of the interpreter (chapter 27), as the rows of bytecodes work on them, and the world, which no row changes.
+/// The registers of the interpreter (chapter 27), as the rows of bytecodes work on them; the world, which no row changes; and what
+/// the row leaves, if its end tells that it leaves something.
 #[derive(Clone, Copy)]
 pub struct Registers<'a> {
     /// The active context.
@@ -21,6 +22,10 @@ pub struct Registers<'a> {
     pub sp: u32,
     /// What lies round the machine.
     pub world: &'a World,
+    /// The deed that is left to be done.
+    pub left: Deed,
+    /// The object whose bytes are to be said.
+    pub said: Word,
     pub ghost active_narrow: { IsNarrow active },
     pub ghost home_narrow: { IsNarrow home },
     pub ghost method_narrow: { IsNarrow method },

@@ -2,13 +2,13 @@ ghost use Rattle.std.specs.Prelude.{◌≡◌, ◌≤◌, ◌+◌, false, IfOk};
 ghost use Rattle.st_model.specs.Values.{word};
 ghost use Rattle.st_model.specs.Input.{check_four_bytes, store_time, store_seconds, primitive_second_clock, store_milliseconds, primitive_millisecond_clock};
 ghost use Rattle.st_model.specs.inside.Calls.{itself};
-ghost use Rattle.st_model.specs.Deeds.{is_done, deed_of_trial, copies_pixels};
+ghost use Rattle.st_model.specs.Deeds.{copies_pixels};
 ghost use Rattle.st_frames.specs.inside.Answering.{succeed_by, answer_word, answer_deed};
-ghost use Rattle.st_frames.specs.inside.Rows.{RowReads, RowLeaves, Takes};
+ghost use Rattle.st_frames.specs.inside.Rows.{RowReads, RowLeaves, RowTries, Takes};
 
-use st_frames::{Answer, Registers, check_bytes, find_bytes, succeed_leaving, top, under};
+use st_frames::{Answer, Registers, Tried, check_bytes, find_bytes, succeed_leaving, top, under};
 use st_memory::Objects;
-use st_model::{Dead, Deed, Tried, Word};
+use st_model::{Dead, Deed, Word};
 
 /// An object of kind Bytes with four bytes or more.
 #[tactic(auto, using(st_frames::proofs::Doing::checks), unfolding(st_model::specs::Input::check_four_bytes))]
@@ -52,9 +52,9 @@ fn answer_seconds<O: Objects>(
     receiver: Word,
 ) -> Result<Tried, Dead>
     requires room { 1 ≤ O.room m.old }
-    ensures does { RowLeaves O.Objects.own
+    ensures does { RowTries O.Objects.own
         (succeed_by O.names 1 (store_seconds O.names (word object) (word receiver)))
-        is_done deed_of_trial m.old r.old result m.new r.new }
+        m.old r.old result m.new r.new }
     ensures takes { Takes O.Objects.own 1 m.old m.new }
 {
     let answer = store_time(m, r, object, r.world.second_clock(), receiver)?;
@@ -65,8 +65,7 @@ fn answer_seconds<O: Objects>(
 #[tactic(auto, using(st_frames::proofs::Tries::effects), unfolding(st_model::specs::Input::primitive_second_clock))]
 pub fn primitive_second_clock<O: Objects>(m: &mut O, r: &mut Registers) -> Result<Tried, Dead>
     requires room { 1 ≤ O.room m.old }
-    ensures does { RowLeaves O.Objects.own (primitive_second_clock O.names)
-        is_done deed_of_trial m.old r.old result m.new r.new }
+    ensures does { RowTries O.Objects.own (primitive_second_clock O.names) m.old r.old result m.new r.new }
     ensures takes { Takes O.Objects.own 1 m.old m.new }
 {
     let receiver = under(m, r, 1)?;
@@ -86,9 +85,9 @@ fn answer_milliseconds<O: Objects>(
     receiver: Word,
 ) -> Result<Tried, Dead>
     requires room { 1 ≤ O.room m.old }
-    ensures does { RowLeaves O.Objects.own
+    ensures does { RowTries O.Objects.own
         (succeed_by O.names 1 (store_milliseconds O.names (word object) (word receiver)))
-        is_done deed_of_trial m.old r.old result m.new r.new }
+        m.old r.old result m.new r.new }
     ensures takes { Takes O.Objects.own 1 m.old m.new }
 {
     let answer = store_time(m, r, object, r.world.millisecond_clock(), receiver)?;
@@ -99,8 +98,8 @@ fn answer_milliseconds<O: Objects>(
 #[tactic(auto, using(st_frames::proofs::Tries::effects), unfolding(st_model::specs::Input::primitive_millisecond_clock))]
 pub fn primitive_millisecond_clock<O: Objects>(m: &mut O, r: &mut Registers) -> Result<Tried, Dead>
     requires room { 1 ≤ O.room m.old }
-    ensures does { RowLeaves O.Objects.own (primitive_millisecond_clock O.names)
-        is_done deed_of_trial m.old r.old result m.new r.new }
+    ensures does { RowTries O.Objects.own (primitive_millisecond_clock O.names)
+        m.old r.old result m.new r.new }
     ensures takes { Takes O.Objects.own 1 m.old m.new }
 {
     let receiver = under(m, r, 1)?;

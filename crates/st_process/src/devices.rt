@@ -2,19 +2,19 @@ ghost use Rattle.std.specs.Prelude.{◌≡◌, ◌<◌, ◌≤◌, ◌+◌, IfOk
 ghost use Rattle.st_model.specs.Values.{word};
 ghost use Rattle.st_model.specs.Input.{check_truth, hold_and_answer, primitive_input_semaphore, word_that_waits, take_word, primitive_input_word};
 ghost use Rattle.st_model.specs.inside.Calls.{itself};
-ghost use Rattle.st_model.specs.Deeds.{is_done, deed_of_trial, copies_pixels};
+ghost use Rattle.st_model.specs.Deeds.{copies_pixels};
 ghost use Rattle.st_process.specs.inside.Devices.{check_setting, set_device, be_device};
 ghost use Rattle.st_frames.specs.inside.Answering.{succeed_by, answer_word, answer_deed};
-ghost use Rattle.st_frames.specs.inside.Rows.{RowReads, RowLeaves, Takes};
+ghost use Rattle.st_frames.specs.inside.Rows.{RowReads, RowLeaves, RowTries, Takes};
 
 use crate::holding::hold;
 use crate::processes::check_fields;
 use crate::shapes::Setting;
 use st_frames::{
-    Answer, Registers, bits_or_die, number, page, succeed_leaving, succeed_with, top, under,
+    Answer, Registers, Tried, bits_or_die, number, page, succeed_leaving, succeed_with, top, under,
 };
 use st_memory::Objects;
-use st_model::{Dead, Deed, Device, PageObject, Tried, Word};
+use st_model::{Dead, Deed, Device, PageObject, Word};
 
 /// True or false.
 #[tactic(auto, using(st_frames::proofs::Doing::rows, st_frames::proofs::Tries::tests, crate::proofs::Changing::truths), unfolding(st_model::specs::Input::check_truth))]
@@ -49,8 +49,7 @@ fn check_setting<O: Objects>(m: &O, r: &Registers, setting: Setting, v: Word) ->
 #[tactic(auto, using(st_frames::proofs::Tries::tries, crate::proofs::Changing::same), unfolding(crate::specs::inside::Devices::set_device))]
 pub fn set_device<O: Objects>(m: &mut O, r: &mut Registers, setting: Setting) -> Result<Tried, Dead>
     requires room { 1 ≤ O.room m.old }
-    ensures does { RowLeaves O.Objects.own (set_device O.names setting)
-        is_done deed_of_trial m.old r.old result m.new r.new }
+    ensures does { RowTries O.Objects.own (set_device O.names setting) m.old r.old result m.new r.new }
     ensures takes { Takes O.Objects.own 1 m.old m.new }
 {
     let receiver = under(m, r, 1)?;
@@ -73,9 +72,9 @@ fn answer_held<O: Objects>(
 ) -> Result<Tried, Dead>
     requires few { n < 256 }
     requires room { 1 ≤ O.room m.old }
-    ensures does { RowLeaves O.Objects.own
+    ensures does { RowTries O.Objects.own
         (succeed_by O.names n (hold_and_answer O.names device (word object) (word receiver)))
-        is_done deed_of_trial m.old r.old result m.new r.new }
+        m.old r.old result m.new r.new }
     ensures takes { Takes O.Objects.own 1 m.old m.new }
 {
     let deed = hold(m, r, device, object)?;
@@ -87,8 +86,7 @@ fn answer_held<O: Objects>(
 #[tactic(auto, using(st_frames::proofs::Tries::effects), unfolding(st_model::specs::Input::primitive_input_semaphore))]
 pub fn primitive_input_semaphore<O: Objects>(m: &mut O, r: &mut Registers) -> Result<Tried, Dead>
     requires room { 1 ≤ O.room m.old }
-    ensures does { RowLeaves O.Objects.own (primitive_input_semaphore O.names)
-        is_done deed_of_trial m.old r.old result m.new r.new }
+    ensures does { RowTries O.Objects.own (primitive_input_semaphore O.names) m.old r.old result m.new r.new }
     ensures takes { Takes O.Objects.own 1 m.old m.new }
 {
     let receiver = under(m, r, 1)?;
@@ -133,8 +131,8 @@ fn take_word<O: Objects>(m: &mut O, r: &Registers, oldest: u16) -> Result<Answer
 #[tactic(auto, using(st_frames::proofs::Doing::rows), unfolding(st_frames::specs::inside::Answering::succeed_by))]
 fn answer_word_taken<O: Objects>(m: &mut O, r: &mut Registers, oldest: u16) -> Result<Tried, Dead>
     requires room { 2 ≤ O.room m.old }
-    ensures does { RowLeaves O.Objects.own (succeed_by O.names 0 (take_word O.names oldest))
-        is_done deed_of_trial m.old r.old result m.new r.new }
+    ensures does { RowTries O.Objects.own (succeed_by O.names 0 (take_word O.names oldest))
+        m.old r.old result m.new r.new }
     ensures takes { Takes O.Objects.own 2 m.old m.new }
 {
     let answer = take_word(m, r, oldest)?;
@@ -145,8 +143,7 @@ fn answer_word_taken<O: Objects>(m: &mut O, r: &mut Registers, oldest: u16) -> R
 #[tactic(auto, using(st_frames::proofs::Tries::effects), unfolding(st_model::specs::Input::primitive_input_word))]
 pub fn primitive_input_word<O: Objects>(m: &mut O, r: &mut Registers) -> Result<Tried, Dead>
     requires room { 2 ≤ O.room m.old }
-    ensures does { RowLeaves O.Objects.own (primitive_input_word O.names)
-        is_done deed_of_trial m.old r.old result m.new r.new }
+    ensures does { RowTries O.Objects.own (primitive_input_word O.names) m.old r.old result m.new r.new }
     ensures takes { Takes O.Objects.own 2 m.old m.new }
 {
     match word_that_waits(m, r) {
@@ -159,8 +156,7 @@ pub fn primitive_input_word<O: Objects>(m: &mut O, r: &mut Registers) -> Result<
 #[tactic(auto, using(st_frames::proofs::Tries::effects), unfolding(crate::specs::inside::Devices::be_device))]
 pub fn be_device<O: Objects>(m: &mut O, r: &mut Registers, device: Device) -> Result<Tried, Dead>
     requires room { 1 ≤ O.room m.old }
-    ensures does { RowLeaves O.Objects.own (be_device O.names device)
-        is_done deed_of_trial m.old r.old result m.new r.new }
+    ensures does { RowTries O.Objects.own (be_device O.names device) m.old r.old result m.new r.new }
     ensures takes { Takes O.Objects.own 1 m.old m.new }
 {
     let receiver = top(m, r)?;

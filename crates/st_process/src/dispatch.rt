@@ -1,9 +1,8 @@
 ghost use Rattle.std.specs.Prelude.{◌≡◌, ◌≤◌, ◌+◌, false, IfOk};
 ghost use Rattle.st_model.specs.Processes.{processes};
 ghost use Rattle.st_model.specs.Input.{input};
-ghost use Rattle.st_model.specs.Deeds.{is_done, deed_of_trial};
 ghost use Rattle.st_process.specs.inside.Numbers.{process_takes, input_takes};
-ghost use Rattle.st_frames.specs.inside.Rows.{RowLeaves, Takes, tried_changes, process_changes};
+ghost use Rattle.st_frames.specs.inside.Rows.{RowTries, Takes, tried_changes, process_changes, is_done};
 
 use crate::clocks::{primitive_millisecond_clock, primitive_second_clock};
 use crate::devices::{be_device, primitive_input_semaphore, primitive_input_word, set_device};
@@ -12,9 +11,9 @@ use crate::mouse::{primitive_mouse_point, primitive_move_mouse};
 use crate::processes::{primitive_resume, primitive_signal, primitive_suspend, primitive_wait};
 use crate::shapes::Setting;
 use crate::timer::primitive_timer;
-use st_frames::Registers;
+use st_frames::{Registers, Tried};
 use st_memory::Objects;
-use st_model::{Dead, Device, Tried};
+use st_model::{Dead, Device};
 
 /// Whether a primitive on processes of this number takes so many arguments.
 fn process_takes(primitive: u32, arguments: u32) -> bool
@@ -39,8 +38,8 @@ pub fn try_process<O: Objects>(
     arguments: u32,
 ) -> Result<Tried, Dead>
     requires room { process_changes ≤ O.room m.old }
-    ensures does { RowLeaves O.Objects.own (processes O.names primitive arguments)
-        is_done deed_of_trial m.old r.old result m.new r.new }
+    ensures does { RowTries O.Objects.own (processes O.names primitive arguments)
+        m.old r.old result m.new r.new }
     ensures takes { Takes O.Objects.own (tried_changes process_changes result) m.old m.new }
     ensures still { IfOk result (λ t. is_done t ≡ false → m.new ≡ m.old) }
 {
@@ -87,8 +86,7 @@ pub fn try_input<O: Objects>(
     arguments: u32,
 ) -> Result<Tried, Dead>
     requires room { 4 ≤ O.room m.old }
-    ensures does { RowLeaves O.Objects.own (input O.names primitive arguments)
-        is_done deed_of_trial m.old r.old result m.new r.new }
+    ensures does { RowTries O.Objects.own (input O.names primitive arguments) m.old r.old result m.new r.new }
     ensures takes { Takes O.Objects.own 4 m.old m.new }
 {
     if !input_takes(primitive, arguments) {

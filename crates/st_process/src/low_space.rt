@@ -1,16 +1,16 @@
 ghost use Rattle.std.specs.Prelude.{◌≡◌, ◌≤◌, ◌+◌, false, IfOk};
 ghost use Rattle.st_model.specs.Values.{word};
 ghost use Rattle.st_model.specs.Input.{low_space, set_low_space, primitive_low_space};
-ghost use Rattle.st_model.specs.Deeds.{is_done, deed_of_trial, copies_pixels};
+ghost use Rattle.st_model.specs.Deeds.{copies_pixels};
 ghost use Rattle.st_process.specs.inside.Timing.{low_in};
 ghost use Rattle.st_frames.specs.inside.Answering.{answer_word, answer_deed};
-ghost use Rattle.st_frames.specs.inside.Rows.{RowReads, RowLeaves, Takes};
+ghost use Rattle.st_frames.specs.inside.Rows.{RowReads, RowLeaves, RowTries, Takes};
 
 use crate::processes::check_fields;
 use crate::shapes::Low;
-use st_frames::{Answer, Registers, positive_value, succeed_leaving, top, under};
+use st_frames::{Answer, Registers, Tried, positive_value, succeed_leaving, top, under};
 use st_memory::Objects;
-use st_model::{Dead, Deed, Tried, Word};
+use st_model::{Dead, Deed, Word};
 
 /// A semaphore's conditions, and the numbers of free entries and words that two values say.
 #[tactic(auto, using(st_frames::proofs::Doing::rows), unfolding(st_model::specs::Input::low_space))]
@@ -61,8 +61,7 @@ fn set_low_space<O: Objects>(m: &O, r: &Registers, low: Low, receiver: Word) -> 
 #[tactic(auto, using(st_frames::proofs::Tries::effects), unfolding(st_model::specs::Input::primitive_low_space))]
 pub fn primitive_low_space<O: Objects>(m: &mut O, r: &mut Registers) -> Result<Tried, Dead>
     requires room { 1 ≤ O.room m.old }
-    ensures does { RowLeaves O.Objects.own (primitive_low_space O.names)
-        is_done deed_of_trial m.old r.old result m.new r.new }
+    ensures does { RowTries O.Objects.own (primitive_low_space O.names) m.old r.old result m.new r.new }
     ensures takes { Takes O.Objects.own 1 m.old m.new }
 {
     let receiver = under(m, r, 3)?;

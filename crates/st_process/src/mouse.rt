@@ -2,17 +2,17 @@ ghost use Rattle.std.specs.Prelude.{◌≡◌, ◌<◌, ◌≤◌, ◌+◌, pos}
 ghost use Rattle.st_model.specs.Values.{word};
 ghost use Rattle.st_model.specs.Arithmetic.{new_point};
 ghost use Rattle.st_model.specs.Input.{mouse_point, primitive_mouse_point, place_in, move_mouse, primitive_move_mouse};
-ghost use Rattle.st_model.specs.Deeds.{is_done, deed_of_trial};
 ghost use Rattle.st_process.specs.inside.Timing as meaning;
 ghost use Rattle.st_frames.specs.inside.Answering.{succeed_by};
-ghost use Rattle.st_frames.specs.inside.Rows.{RowReads, RowDoes, RowLeaves, Takes};
+ghost use Rattle.st_frames.specs.inside.Rows.{RowReads, RowDoes, RowTries, Takes};
 
 use crate::shapes::Place;
 use st_frames::{
-    Answer, Registers, page, positive_small, small, succeed_leaving, succeed_with, top, under,
+    Answer, Registers, Tried, page, positive_small, small, succeed_leaving, succeed_with, top,
+    under,
 };
 use st_memory::Objects;
-use st_model::{Dead, Deed, PageObject, Tried, Word};
+use st_model::{Dead, Deed, PageObject, Word};
 
 /// A new Point of two numbers below 16384.
 #[tactic(auto, using(st_frames::proofs::Doing::rows, st_frames::proofs::Doing::pages), unfolding(st_model::specs::Arithmetic::new_point))]
@@ -45,8 +45,7 @@ fn mouse_point<O: Objects>(m: &mut O, r: &Registers) -> Result<Word, Dead>
 #[tactic(auto, using(st_frames::proofs::Doing::rows, crate::proofs::Changing::points))]
 pub fn primitive_mouse_point<O: Objects>(m: &mut O, r: &mut Registers) -> Result<Tried, Dead>
     requires room { 4 ≤ O.room m.old }
-    ensures does { RowLeaves O.Objects.own (primitive_mouse_point O.names)
-        is_done deed_of_trial m.old r.old result m.new r.new }
+    ensures does { RowTries O.Objects.own (primitive_mouse_point O.names) m.old r.old result m.new r.new }
     ensures takes { Takes O.Objects.own 4 m.old m.new }
 {
     let point = mouse_point(m, r)?;
@@ -77,9 +76,9 @@ fn answer_move<O: Objects>(
     place: Place,
 ) -> Result<Tried, Dead>
     requires room { 1 ≤ O.room m.old }
-    ensures does { RowLeaves O.Objects.own
+    ensures does { RowTries O.Objects.own
         (succeed_by O.names 1 (move_mouse O.names (word receiver) (meaning.place_in place)))
-        is_done deed_of_trial m.old r.old result m.new r.new }
+        m.old r.old result m.new r.new }
     ensures takes { Takes O.Objects.own 1 m.old m.new }
 {
     let deed = Deed::MoveMouse {
@@ -94,8 +93,7 @@ fn answer_move<O: Objects>(
 #[tactic(auto, using(st_frames::proofs::Tries::effects), unfolding(st_model::specs::Input::primitive_move_mouse))]
 pub fn primitive_move_mouse<O: Objects>(m: &mut O, r: &mut Registers) -> Result<Tried, Dead>
     requires room { 1 ≤ O.room m.old }
-    ensures does { RowLeaves O.Objects.own (primitive_move_mouse O.names)
-        is_done deed_of_trial m.old r.old result m.new r.new }
+    ensures does { RowTries O.Objects.own (primitive_move_mouse O.names) m.old r.old result m.new r.new }
     ensures takes { Takes O.Objects.own 1 m.old m.new }
 {
     let receiver = under(m, r, 1)?;

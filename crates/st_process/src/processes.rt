@@ -2,16 +2,15 @@ ghost use Rattle.std.specs.Prelude.{◌≡◌, ◌≤◌, ◌+◌, ◌≤ℤ◌,
 ghost use Rattle.st_model.specs.Values.{word};
 ghost use Rattle.st_model.specs.Processes.{check_fields, signal_and_answer, primitive_signal, excess_of, wait_and_answer, primitive_wait, resume_and_answer, primitive_resume, check_active, suspend_and_answer, primitive_suspend};
 ghost use Rattle.st_model.specs.inside.Calls.{itself};
-ghost use Rattle.st_model.specs.Deeds.{is_done, deed_of_trial};
 ghost use Rattle.st_frames.specs.inside.Answering.{succeed_by};
-ghost use Rattle.st_frames.specs.inside.Rows.{RowReads, RowLeaves, Takes, tried_changes, process_changes};
+ghost use Rattle.st_frames.specs.inside.Rows.{RowReads, RowTries, Takes, tried_changes, process_changes, is_done};
 
 use crate::ready::{resume, suspend};
 use crate::scheduler::active_process;
 use crate::signals::{signal, take_excess};
-use st_frames::{Answer, Registers, fetch_integer, page, succeed_leaving, top};
+use st_frames::{Answer, Registers, Tried, fetch_integer, page, succeed_leaving, top};
 use st_memory::Objects;
-use st_model::{Dead, PageObject, Tried, Word};
+use st_model::{Dead, PageObject, Word};
 
 /// An object of kind Pointers with n fields or more.
 #[tactic(auto, using(st_frames::proofs::Doing::checks), unfolding(st_model::specs::Processes::check_fields))]
@@ -29,9 +28,8 @@ pub fn check_fields<O: Objects>(m: &O, r: &Registers, v: Word, n: u32) -> Result
 #[tactic(auto, using(st_frames::proofs::Doing::rows), unfolding(st_frames::specs::inside::Answering::succeed_by, st_model::specs::Processes::signal_and_answer))]
 fn answer_signal<O: Objects>(m: &mut O, r: &mut Registers, semaphore: Word) -> Result<Tried, Dead>
     requires room { 7 ≤ O.room m.old }
-    ensures does { RowLeaves O.Objects.own
-        (succeed_by O.names 0 (signal_and_answer O.names (word semaphore)))
-        is_done deed_of_trial m.old r.old result m.new r.new }
+    ensures does { RowTries O.Objects.own
+        (succeed_by O.names 0 (signal_and_answer O.names (word semaphore))) m.old r.old result m.new r.new }
     ensures done { IfOk result (λ t. is_done t ≡ true) }
     ensures takes { Takes O.Objects.own 7 m.old m.new }
 {
@@ -44,8 +42,7 @@ fn answer_signal<O: Objects>(m: &mut O, r: &mut Registers, semaphore: Word) -> R
 #[tactic(auto, using(st_frames::proofs::Tries::effects), unfolding(st_model::specs::Processes::primitive_signal))]
 pub fn primitive_signal<O: Objects>(m: &mut O, r: &mut Registers) -> Result<Tried, Dead>
     requires room { process_changes ≤ O.room m.old }
-    ensures does { RowLeaves O.Objects.own (primitive_signal O.names)
-        is_done deed_of_trial m.old r.old result m.new r.new }
+    ensures does { RowTries O.Objects.own (primitive_signal O.names) m.old r.old result m.new r.new }
     ensures takes { Takes O.Objects.own (tried_changes process_changes result) m.old m.new }
     ensures still { IfOk result (λ t. is_done t ≡ false → m.new ≡ m.old) }
 {
@@ -77,9 +74,9 @@ fn answer_wait<O: Objects>(
 ) -> Result<Tried, Dead>
     requires high { excess ≤ℤ pos 16383 }
     requires room { 7 ≤ O.room m.old }
-    ensures does { RowLeaves O.Objects.own
+    ensures does { RowTries O.Objects.own
         (succeed_by O.names 0 (wait_and_answer O.names (word semaphore) excess))
-        is_done deed_of_trial m.old r.old result m.new r.new }
+        m.old r.old result m.new r.new }
     ensures done { IfOk result (λ t. is_done t ≡ true) }
     ensures takes { Takes O.Objects.own 7 m.old m.new }
 {
@@ -92,8 +89,7 @@ fn answer_wait<O: Objects>(
 #[tactic(auto, using(st_frames::proofs::Tries::effects), unfolding(st_model::specs::Processes::primitive_wait))]
 pub fn primitive_wait<O: Objects>(m: &mut O, r: &mut Registers) -> Result<Tried, Dead>
     requires room { process_changes ≤ O.room m.old }
-    ensures does { RowLeaves O.Objects.own (primitive_wait O.names)
-        is_done deed_of_trial m.old r.old result m.new r.new }
+    ensures does { RowTries O.Objects.own (primitive_wait O.names) m.old r.old result m.new r.new }
     ensures takes { Takes O.Objects.own (tried_changes process_changes result) m.old m.new }
     ensures still { IfOk result (λ t. is_done t ≡ false → m.new ≡ m.old) }
 {
@@ -108,9 +104,8 @@ pub fn primitive_wait<O: Objects>(m: &mut O, r: &mut Registers) -> Result<Tried,
 #[tactic(auto, using(st_frames::proofs::Doing::rows), unfolding(st_frames::specs::inside::Answering::succeed_by, st_model::specs::Processes::resume_and_answer))]
 fn answer_resume<O: Objects>(m: &mut O, r: &mut Registers, process: Word) -> Result<Tried, Dead>
     requires room { 4 ≤ O.room m.old }
-    ensures does { RowLeaves O.Objects.own
-        (succeed_by O.names 0 (resume_and_answer O.names (word process)))
-        is_done deed_of_trial m.old r.old result m.new r.new }
+    ensures does { RowTries O.Objects.own
+        (succeed_by O.names 0 (resume_and_answer O.names (word process))) m.old r.old result m.new r.new }
     ensures done { IfOk result (λ t. is_done t ≡ true) }
     ensures takes { Takes O.Objects.own 4 m.old m.new }
 {
@@ -123,8 +118,7 @@ fn answer_resume<O: Objects>(m: &mut O, r: &mut Registers, process: Word) -> Res
 #[tactic(auto, using(st_frames::proofs::Tries::effects), unfolding(st_model::specs::Processes::primitive_resume))]
 pub fn primitive_resume<O: Objects>(m: &mut O, r: &mut Registers) -> Result<Tried, Dead>
     requires room { process_changes ≤ O.room m.old }
-    ensures does { RowLeaves O.Objects.own (primitive_resume O.names)
-        is_done deed_of_trial m.old r.old result m.new r.new }
+    ensures does { RowTries O.Objects.own (primitive_resume O.names) m.old r.old result m.new r.new }
     ensures takes { Takes O.Objects.own (tried_changes process_changes result) m.old m.new }
     ensures still { IfOk result (λ t. is_done t ≡ false → m.new ≡ m.old) }
 {
@@ -152,8 +146,8 @@ fn check_active<O: Objects>(m: &O, r: &Registers, v: Word) -> Result<(), Dead>
 #[tactic(auto, using(st_frames::proofs::Doing::rows, st_frames::proofs::Doing::pages), unfolding(st_frames::specs::inside::Answering::succeed_by, st_model::specs::Processes::suspend_and_answer))]
 fn answer_suspend<O: Objects>(m: &mut O, r: &mut Registers) -> Result<Tried, Dead>
     requires room { 4 ≤ O.room m.old }
-    ensures does { RowLeaves O.Objects.own (succeed_by O.names 0 (suspend_and_answer O.names))
-        is_done deed_of_trial m.old r.old result m.new r.new }
+    ensures does { RowTries O.Objects.own (succeed_by O.names 0 (suspend_and_answer O.names))
+        m.old r.old result m.new r.new }
     ensures done { IfOk result (λ t. is_done t ≡ true) }
     ensures takes { Takes O.Objects.own 4 m.old m.new }
 {
@@ -166,8 +160,7 @@ fn answer_suspend<O: Objects>(m: &mut O, r: &mut Registers) -> Result<Tried, Dea
 #[tactic(auto, using(st_frames::proofs::Tries::effects), unfolding(st_model::specs::Processes::primitive_suspend))]
 pub fn primitive_suspend<O: Objects>(m: &mut O, r: &mut Registers) -> Result<Tried, Dead>
     requires room { process_changes ≤ O.room m.old }
-    ensures does { RowLeaves O.Objects.own (primitive_suspend O.names)
-        is_done deed_of_trial m.old r.old result m.new r.new }
+    ensures does { RowTries O.Objects.own (primitive_suspend O.names) m.old r.old result m.new r.new }
     ensures takes { Takes O.Objects.own (tried_changes process_changes result) m.old m.new }
     ensures still { IfOk result (λ t. is_done t ≡ false → m.new ≡ m.old) }
 {

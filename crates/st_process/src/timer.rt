@@ -3,17 +3,17 @@ ghost use Rattle.st_model.specs.Values.{word};
 ghost use Rattle.st_model.specs.Input.{can_be_signalled, ring_or_wait, timing, signal_once, set_timer, primitive_timer};
 ghost use Rattle.st_model.specs.declared.device.Device.TheVariants.{Timer};
 ghost use Rattle.st_model.specs.inside.Calls.{Reads, itself};
-ghost use Rattle.st_model.specs.Deeds.{is_done, deed_of_trial, copies_pixels};
+ghost use Rattle.st_model.specs.Deeds.{copies_pixels};
 ghost use Rattle.st_process.specs.inside.Timing.{timing_in, timing_by, wait_for, HasRoom};
 ghost use Rattle.st_frames.specs.inside.Answering.{no_word};
-ghost use Rattle.st_frames.specs.inside.Rows.{RowReads, RowLeaves, Takes};
+ghost use Rattle.st_frames.specs.inside.Rows.{RowReads, RowLeaves, RowTries, Takes};
 
 use crate::clocks::check_four_bytes;
 use crate::holding::hold;
 use crate::shapes::{Alarm, Timing};
-use st_frames::{Answer, Registers, number_read, page, succeed_leaving, top, under};
+use st_frames::{Answer, Registers, Tried, number_read, page, succeed_leaving, top, under};
 use st_memory::Objects;
-use st_model::{Dead, Deed, Device, PageObject, Tried, Word};
+use st_model::{Dead, Deed, Device, PageObject, Word};
 
 /// Whether it is an object of kind Pointers with three fields or more, as a semaphore is.
 #[tactic(auto, using(crate::proofs::Semaphores::semaphores))]
@@ -125,8 +125,7 @@ fn set_timer<O: Objects>(
 #[tactic(auto, using(st_frames::proofs::Tries::effects), unfolding(st_model::specs::Input::primitive_timer))]
 pub fn primitive_timer<O: Objects>(m: &mut O, r: &mut Registers) -> Result<Tried, Dead>
     requires room { 1 ≤ O.room m.old }
-    ensures does { RowLeaves O.Objects.own (primitive_timer O.names)
-        is_done deed_of_trial m.old r.old result m.new r.new }
+    ensures does { RowTries O.Objects.own (primitive_timer O.names) m.old r.old result m.new r.new }
     ensures takes { Takes O.Objects.own 1 m.old m.new }
 {
     let receiver = under(m, r, 2)?;

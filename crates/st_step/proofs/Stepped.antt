@@ -5,7 +5,8 @@ use Rattle.st_model.specs.declared.dead.Dead.{Dead}
 use Rattle.st_model.specs.declared.demand.Demand.{Demand}
 use Rattle.st_model.specs.declared.deed.Deed.{Deed}
 use Rattle.st_model.specs.declared.outcome.StepEnd.{StepEnd}
-use Rattle.st_model.specs.declared.outcome.StepEnd.TheVariants as ends
+use Rattle.st_frames.specs.declared.ending.RowEnd.{RowEnd}
+use Rattle.st_frames.specs.declared.ending.RowEnd.TheVariants as ends
 use Rattle.st_model.specs.declared.word.Word.{Word}
 use Rattle.st_model.specs.Values.{word, IsLive}
 use Rattle.st_model.specs.Objects.{one, words_of}
@@ -28,7 +29,7 @@ use Rattle.st_simulation.proofs.Deeds.{deed_uses, deed_leaves_there}
 use Rattle.st_frames.specs.declared.frame.Frame.{Frame}
 use Rattle.st_frames.specs.declared.registers.Registers.{Registers as Words}
 use Rattle.st_frames.specs.inside.Narrow.{IsNarrow}
-use Rattle.st_frames.specs.inside.Rows.{row_state, registers_in, with_left}
+use Rattle.st_frames.specs.inside.Rows.{row_state, registers_in, with_left, outcome_in, deed_in}
 use Rattle.st_frames.specs.inside.Shown.{shown, registers_of, IsReady}
 use Rattle.st_frames.proofs.Closed.{is_closed}
 use Rattle.st_frames.proofs.Stored.{loaded}
@@ -47,16 +48,17 @@ pub loaded_as : (v : View) (f : Frame) (w : World) (t : Table) (a : Head) (r : W
 unfolding row_state
 loaded_as v f w t a r x y e q = λ i. record { memory = x i; registers = e i; world = q i; head = y i }
 
-module _ (before : Demand) (c s : State Table) (t : Table) (a : Head) (r : Words) (x : Result StepEnd Dead) (same : s ≡ c)
-    (does : (step apart).run s ≡ transition_of end_of x (with_left deed_of_end x (row_state t a r))) where
-  planned : (y : Result StepEnd Dead) → x ≡ y → (step apart).run c ≡ transition_of end_of y (with_left deed_of_end y (row_state t a r))
-  planned y e = ap (λ z. (step apart).run z) (sym same) ∙ (does ∙ ap (λ z. transition_of end_of z (with_left deed_of_end z (row_state t a r))) e)
+module _ (before : Demand) (c s : State Table) (t : Table) (a : Head) (r : Words) (x : Result RowEnd Dead) (same : s ≡ c)
+    (does : (step apart).run s ≡ transition_of (outcome_in r) x (with_left (deed_in r) x (row_state t a r))) where
+  planned : (y : Result RowEnd Dead) → x ≡ y → (step apart).run c ≡ transition_of (outcome_in r) y (with_left (deed_in r) y (row_state t a r))
+  planned y e = ap (λ z. (step apart).run z) (sym same) ∙ (does ∙ ap (λ z. transition_of (outcome_in r) z (with_left (deed_in r) z (row_state t a r))) e)
 
   -- a step that goes on uses what the row made
-  pub plan_done : (end : StepEnd) (n : Demand) → x ≡ Ok end → used apart t ≡ plus before n → Plans before ((step apart).run c) (Ok n)
+  pub plan_done : (end : RowEnd) (n : Demand) → x ≡ Ok end → used apart t ≡ plus before n → Plans before ((step apart).run c) (Ok n)
   unfolding row_state
-  plan_done (ends.Went d) n e u = subst (λ y. Plans before y (Ok n)) (sym (planned (Ok (ends.Went d)) e)) (deed_uses d t ∙ u)
-  plan_done (ends.Says w) n e u = subst (λ y. Plans before y (Ok n)) (sym (planned (Ok (ends.Says w)) e)) u
+  plan_done ends.Went n e u = subst (λ y. Plans before y (Ok n)) (sym (planned (Ok ends.Went) e)) u
+  plan_done ends.Leaves n e u = subst (λ y. Plans before y (Ok n)) (sym (planned (Ok ends.Leaves) e)) (deed_uses r.left t ∙ u)
+  plan_done ends.Says n e u = subst (λ y. Plans before y (Ok n)) (sym (planned (Ok ends.Says) e)) u
   plan_done ends.Snapshot n e u = subst (λ y. Plans before y (Ok n)) (sym (planned (Ok ends.Snapshot) e)) u
   plan_done ends.Quit n e u = subst (λ y. Plans before y (Ok n)) (sym (planned (Ok ends.Quit) e)) u
   plan_done ends.Debugger n e u = subst (λ y. Plans before y (Ok n)) (sym (planned (Ok ends.Debugger) e)) u

@@ -1,22 +1,21 @@
 ghost use Rattle.std.specs.Prelude.{◌≤◌};
-ghost use Rattle.st_model.specs.{Outcomes.end_of, Deeds.deed_of_end, Sends.{call_of, call_if_any}};
+ghost use Rattle.st_model.specs.{Sends.{call_of, call_if_any}};
 ghost use Rattle.st_model.specs.Executing.{execute, execute_if_any};
-ghost use Rattle.st_frames.specs.inside.Rows.{RowLeaves, Takes, execution_changes};
+ghost use Rattle.st_frames.specs.inside.Rows.{RowEnds, Takes, execution_changes};
 
 use crate::flags::{activated, by_flag};
 use crate::numbers::by_number;
 use st_control::{Called, method_primitive};
-use st_frames::Registers;
+use st_frames::{Registers, RowEnd};
 use st_memory::Objects;
 use st_method::Header;
-use st_model::{Call, Dead, Deed, StepEnd};
+use st_model::{Call, Dead};
 
 /// Executes the method that was called.
 #[tactic(auto, using(crate::proofs::Executes::responses), unfolding(st_model::specs::Executing::execute, st_model::specs::Executing::execute_by, st_model::specs::Executing::respond_by_extension, crate::specs::inside::Responding::by_flag, crate::specs::inside::Trying::or_activated))]
-pub fn execute<O: Objects>(m: &mut O, r: &mut Registers, call: Call) -> Result<StepEnd, Dead>
+pub fn execute<O: Objects>(m: &mut O, r: &mut Registers, call: Call) -> Result<RowEnd, Dead>
     requires room { execution_changes ≤ O.room m.old }
-    ensures does { RowLeaves O.Objects.own (execute O.names (call_of call))
-        end_of deed_of_end m.old r.old result m.new r.new }
+    ensures does { RowEnds O.Objects.own (execute O.names (call_of call)) m.old r.old result m.new r.new }
     ensures takes { Takes O.Objects.own execution_changes m.old m.new }
 {
     let header = Header(m.method_header(call.method)?);
@@ -37,14 +36,14 @@ pub fn execute_if_any<O: Objects>(
     m: &mut O,
     r: &mut Registers,
     call: Option<Call>,
-) -> Result<StepEnd, Dead>
+) -> Result<RowEnd, Dead>
     requires room { execution_changes ≤ O.room m.old }
-    ensures does { RowLeaves O.Objects.own (execute_if_any O.names (call_if_any call))
-        end_of deed_of_end m.old r.old result m.new r.new }
+    ensures does { RowEnds O.Objects.own (execute_if_any O.names (call_if_any call))
+        m.old r.old result m.new r.new }
     ensures takes { Takes O.Objects.own execution_changes m.old m.new }
 {
     match call {
         Some(call) => execute(m, r, call),
-        None => Ok(StepEnd::Went(Deed::Nothing)),
+        None => Ok(RowEnd::Went),
     }
 }

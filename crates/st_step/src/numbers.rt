@@ -1,18 +1,20 @@
 ghost use Rattle.std.specs.Prelude.{◌≡◌, ◌<◌, ◌≤◌, ◌==◌, ◌&&◌};
-ghost use Rattle.st_model.specs.{declared.deed.Deed.TheVariants.Nothing, Outcomes.end_of, Deeds.deed_of_end};
+ghost use Rattle.st_model.specs.{declared.deed.Deed.TheVariants.Nothing};
 ghost use Rattle.st_model.specs.{Arithmetic.arithmetic, Executing.{asks, is_from}, Storage.is_storage};
 ghost use Rattle.st_model.specs.{Blocks.is_block, Processes.is_process, Input.is_input};
-ghost use Rattle.st_step.specs.inside.Trying.{if_done, succeeds, says, last_number, number_on_objects, number_behind, number_that_responds, by_number, tried_number, end_of_trial, end_if_any, deed_if_any, number_changes};
-ghost use Rattle.st_frames.specs.inside.Rows.{RowLeaves, Takes, response_changes, execution_changes};
+ghost use Rattle.st_step.specs.inside.Trying.{if_done, succeeds, says, last_number, number_on_objects, number_behind, number_that_responds, by_number, tried_number, end_of_trial, ended_in, end_if_any, deed_if_any, RowResponds, number_changes};
+ghost use Rattle.st_frames.specs.declared.registers.Registers.{Registers as Words};
+ghost use Rattle.st_frames.specs.inside.Rows.{RowLeaves, Takes, response_changes, execution_changes, deed_in, outcome_in};
 
 use crate::perform::{performs_selector, performs_with};
+use crate::stepping::end_in;
 use st_control::{
     answer_integers, equivalence, flush_cache, integer_answer, large_arithmetic, receiver_class,
     shift_large, try_blocks,
 };
-use st_frames::{Registers, answer_with, look_at_words, top};
+use st_frames::{Registers, RowEnd, Tried, answer_with, look_at_words, top};
 use st_memory::Objects;
-use st_model::{Dead, Deed, StepEnd, Tried};
+use st_model::{Dead, StepEnd};
 use st_process::{try_input, try_process};
 use st_storage::{primitive_say, try_storage};
 
@@ -66,11 +68,12 @@ fn is_with(primitive: u32, number: u32, arguments: u32, count: u32) -> bool
 }
 
 /// The end of a primitive that its family tried; none where it failed.
-fn end_of_trial(tried: Tried) -> Option<StepEnd>
+fn end_of_trial(tried: Tried) -> Option<RowEnd>
     ensures { result ≡ end_of_trial tried }
 {
     match tried {
-        Tried::Done(deed) => Some(StepEnd::Went(deed)),
+        Tried::Done => Some(RowEnd::Went),
+        Tried::Leaves => Some(RowEnd::Leaves),
         Tried::Failed => None,
     }
 }
@@ -81,18 +84,18 @@ fn try_arithmetic<O: Objects>(
     m: &mut O,
     r: &mut Registers,
     primitive: u32,
-) -> Result<Option<StepEnd>, Dead>
+) -> Result<Option<RowEnd>, Dead>
     requires first { 1 ≤ primitive }
     requires last { primitive ≤ 18 }
     requires room { response_changes ≤ O.room m.old }
-    ensures does { RowLeaves O.Objects.own (if_done (arithmetic O.names primitive))
-        end_if_any deed_if_any m.old r.old result m.new r.new }
+    ensures does { RowResponds O.Objects.own (if_done (arithmetic O.names primitive))
+        m.old r.old result m.new r.new }
     ensures takes { Takes O.Objects.own (number_changes response_changes result) m.old m.new }
 {
     match integer_answer(m, r, primitive) {
         Ok(answer) => {
             answer_integers(m, r, answer)?;
-            Ok(Some(StepEnd::Went(Deed::Nothing)))
+            Ok(Some(RowEnd::Went))
         }
         Err(_) => Ok(None),
     }
@@ -100,15 +103,15 @@ fn try_arithmetic<O: Objects>(
 
 /// Says the receiver's bytes (primitive 128), or fails.
 #[tactic(auto, using(st_frames::proofs::Doing::rows), unfolding(crate::specs::inside::Trying::says))]
-fn says<O: Objects>(m: &mut O, r: &mut Registers) -> Result<Option<StepEnd>, Dead>
+fn says<O: Objects>(m: &mut O, r: &mut Registers) -> Result<Option<RowEnd>, Dead>
     requires room { response_changes ≤ O.room m.old }
-    ensures does { RowLeaves O.Objects.own (says O.names)
-        end_if_any deed_if_any m.old r.old result m.new r.new }
+    ensures does { RowResponds O.Objects.own (says O.names) m.old r.old result m.new r.new }
     ensures takes { Takes O.Objects.own (number_changes response_changes result) m.old m.new }
 {
     let receiver = top(m, r)?;
     if primitive_say(m, r, receiver)? {
-        Ok(Some(StepEnd::Says(receiver)))
+        r.said = receiver;
+        Ok(Some(RowEnd::Says))
     } else {
         Ok(None)
     }
@@ -116,11 +119,11 @@ fn says<O: Objects>(m: &mut O, r: &mut Registers) -> Result<Option<StepEnd>, Dea
 
 /// Something is asked for (primitives 97, 113 and 114), and the receiver stays as the answer.
 #[tactic(auto, using(st_frames::proofs::Doing::rows), unfolding(crate::specs::inside::Trying::succeeds, st_model::specs::Executing::asks))]
-fn asks<O: Objects>(m: &mut O, r: &mut Registers, end: StepEnd) -> Result<Option<StepEnd>, Dead>
-    requires asked { deed_of_end end ≡ Nothing }
+fn asks<O: Objects>(m: &mut O, r: &mut Registers, end: RowEnd) -> Result<Option<RowEnd>, Dead>
+    requires asked { (q : Words) → deed_in q end ≡ Nothing }
     requires room { response_changes ≤ O.room m.old }
-    ensures does { RowLeaves O.Objects.own (succeeds (asks O.names (end_of end)))
-        end_if_any deed_if_any m.old r.old result m.new r.new }
+    ensures does { RowResponds O.Objects.own (succeeds (asks O.names (outcome_in r.new end)))
+        m.old r.old result m.new r.new }
     ensures takes { Takes O.Objects.own (number_changes response_changes result) m.old m.new }
 {
     let receiver = top(m, r)?;
@@ -135,23 +138,23 @@ fn last_number<O: Objects>(
     r: &mut Registers,
     primitive: u32,
     arguments: u32,
-) -> Result<Option<StepEnd>, Dead>
+) -> Result<Option<RowEnd>, Dead>
     requires room { response_changes ≤ O.room m.old }
-    ensures does { RowLeaves O.Objects.own (last_number O.names primitive arguments)
-        end_if_any deed_if_any m.old r.old result m.new r.new }
+    ensures does { RowResponds O.Objects.own (last_number O.names primitive arguments)
+        m.old r.old result m.new r.new }
     ensures takes { Takes O.Objects.own (number_changes response_changes result) m.old m.new }
 {
     if is_with(primitive, 128, arguments, 0) {
         return says(m, r);
     }
     if is_with(primitive, 97, arguments, 0) {
-        return asks(m, r, StepEnd::Snapshot);
+        return asks(m, r, RowEnd::Snapshot);
     }
     if is_with(primitive, 113, arguments, 0) {
-        return asks(m, r, StepEnd::Quit);
+        return asks(m, r, RowEnd::Quit);
     }
     if is_with(primitive, 114, arguments, 0) {
-        return asks(m, r, StepEnd::Debugger);
+        return asks(m, r, RowEnd::Debugger);
     }
     Ok(None)
 }
@@ -164,11 +167,11 @@ fn number_on_objects<O: Objects>(
     r: &mut Registers,
     primitive: u32,
     arguments: u32,
-) -> Result<Option<StepEnd>, Dead>
+) -> Result<Option<RowEnd>, Dead>
     requires few { arguments < 16384 }
     requires room { response_changes ≤ O.room m.old }
-    ensures does { RowLeaves O.Objects.own (number_on_objects O.names primitive arguments)
-        end_if_any deed_if_any m.old r.old result m.new r.new }
+    ensures does { RowResponds O.Objects.own (number_on_objects O.names primitive arguments)
+        m.old r.old result m.new r.new }
     ensures takes { Takes O.Objects.own (number_changes response_changes result) m.old m.new }
 {
     if is_storage(primitive) {
@@ -194,24 +197,24 @@ fn number_behind<O: Objects>(
     r: &mut Registers,
     primitive: u32,
     arguments: u32,
-) -> Result<Option<StepEnd>, Dead>
+) -> Result<Option<RowEnd>, Dead>
     requires few { arguments < 16384 }
     requires room { response_changes ≤ O.room m.old }
-    ensures does { RowLeaves O.Objects.own (number_behind O.names primitive arguments)
-        end_if_any deed_if_any m.old r.old result m.new r.new }
+    ensures does { RowResponds O.Objects.own (number_behind O.names primitive arguments)
+        m.old r.old result m.new r.new }
     ensures takes { Takes O.Objects.own (number_changes response_changes result) m.old m.new }
 {
     if primitive == 89 {
         flush_cache(m, r, arguments)?;
-        return Ok(Some(StepEnd::Went(Deed::Nothing)));
+        return Ok(Some(RowEnd::Went));
     }
     if is_with(primitive, 110, arguments, 1) {
         equivalence(m, r)?;
-        return Ok(Some(StepEnd::Went(Deed::Nothing)));
+        return Ok(Some(RowEnd::Went));
     }
     if is_with(primitive, 111, arguments, 0) {
         receiver_class(m, r)?;
-        return Ok(Some(StepEnd::Went(Deed::Nothing)));
+        return Ok(Some(RowEnd::Went));
     }
     number_on_objects(m, r, primitive, arguments)
 }
@@ -224,11 +227,11 @@ pub fn number_that_responds<O: Objects>(
     r: &mut Registers,
     primitive: u32,
     arguments: u32,
-) -> Result<Option<StepEnd>, Dead>
+) -> Result<Option<RowEnd>, Dead>
     requires few { arguments < 16384 }
     requires room { response_changes ≤ O.room m.old }
-    ensures does { RowLeaves O.Objects.own (number_that_responds O.names primitive arguments)
-        end_if_any deed_if_any m.old r.old result m.new r.new }
+    ensures does { RowResponds O.Objects.own (number_that_responds O.names primitive arguments)
+        m.old r.old result m.new r.new }
     ensures takes { Takes O.Objects.own (number_changes response_changes result) m.old m.new }
 {
     if is_arithmetic(primitive, arguments) {
@@ -251,11 +254,11 @@ pub fn by_number<O: Objects>(
     r: &mut Registers,
     primitive: u32,
     arguments: u32,
-) -> Result<Option<StepEnd>, Dead>
+) -> Result<Option<RowEnd>, Dead>
     requires few { arguments < 16384 }
     requires room { execution_changes ≤ O.room m.old }
-    ensures does { RowLeaves O.Objects.own (by_number O.names primitive arguments)
-        end_if_any deed_if_any m.old r.old result m.new r.new }
+    ensures does { RowResponds O.Objects.own (by_number O.names primitive arguments)
+        m.old r.old result m.new r.new }
     ensures takes { Takes O.Objects.own (number_changes execution_changes result) m.old m.new }
 {
     if primitive == 83 {
@@ -265,6 +268,16 @@ pub fn by_number<O: Objects>(
         return performs_with(m, r);
     }
     number_that_responds(m, r, primitive, arguments)
+}
+
+/// How a primitive ended, if it didn't fail, whose row left these registers.
+fn ended_in(r: &Registers, row: Option<RowEnd>) -> Option<StepEnd>
+    ensures { result ≡ ended_in r.now row }
+{
+    match row {
+        Some(end) => Some(end_in(r, end)),
+        None => None,
+    }
 }
 
 /// Looks at receiver and arguments, and tries the primitive of this number. None says that it failed.
@@ -279,8 +292,9 @@ pub fn tried_number<O: Objects>(
     requires room { execution_changes ≤ O.room m.old }
     ensures does { RowLeaves O.Objects.own (tried_number O.names primitive arguments)
         end_if_any deed_if_any m.old r.old result m.new r.new }
-    ensures takes { Takes O.Objects.own (number_changes execution_changes result) m.old m.new }
+    ensures fixed { O.fixed m.new ≡ O.fixed m.old }
 {
     look_at_words(m, r, arguments)?;
-    by_number(m, r, primitive, arguments)
+    let row = by_number(m, r, primitive, arguments)?;
+    Ok(ended_in(r, row))
 }

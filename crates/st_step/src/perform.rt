@@ -1,19 +1,19 @@
 ghost use Rattle.std.specs.Prelude.{◌<◌, ◌≤◌, ◌+◌, IfOk};
-ghost use Rattle.st_model.specs.{Values.word, Outcomes.end_of, Deeds.deed_of_end, Sends.call_of};
+ghost use Rattle.st_model.specs.{Values.word, Sends.call_of};
 ghost use Rattle.st_model.specs.Executing.{takes, execute_performed, drop_selector, spread_array, spreading};
 ghost use Rattle.st_model.specs.inside.Calls.{itself};
 ghost use Rattle.st_step.specs.inside.Responding.{execute_sent};
-ghost use Rattle.st_step.specs.inside.Trying.{performs_above, performs_selector, performs_fields, performs_with, end_if_any, deed_if_any, number_changes};
+ghost use Rattle.st_step.specs.inside.Trying.{performs_above, performs_selector, performs_fields, performs_with, RowResponds, number_changes};
 ghost use Rattle.st_lookup.specs.inside.Places.{found_word};
-ghost use Rattle.st_frames.specs.inside.Rows.{RowReads, RowDoes, RowLeaves, Takes, send_changes, response_changes, execution_changes};
+ghost use Rattle.st_frames.specs.inside.Rows.{RowReads, RowDoes, RowEnds, Takes, send_changes, response_changes, execution_changes};
 
 use crate::flags::{activated, by_flag};
 use crate::numbers::number_that_responds;
 use st_control::{Called, Sent, find_method, method_primitive, not_understood};
-use st_frames::{Registers, check_class, drop_words, set_stack_pointer, top, under};
+use st_frames::{Registers, RowEnd, check_class, drop_words, set_stack_pointer, top, under};
 use st_memory::Objects;
 use st_method::{Header, method_arguments};
-use st_model::{Call, Dead, PageObject, StepEnd, Word};
+use st_model::{Call, Dead, PageObject, Word};
 
 /// Whether the method takes n arguments, where one was found; where none was, whatever is given is taken.
 #[tactic(auto, using(st_frames::proofs::Doing::rows), unfolding(st_model::specs::Executing::takes))]
@@ -31,10 +31,10 @@ fn takes<O: Objects>(m: &O, r: &Registers, n: u32, found: Option<Word>) -> Resul
 
 /// Executes the method that primitive 83 or 84 performs: of its primitives these two fail.
 #[tactic(auto, using(crate::proofs::Executes::responses), unfolding(st_model::specs::Executing::execute_performed, st_model::specs::Executing::execute_by, st_model::specs::Executing::respond_by_extension, crate::specs::inside::Responding::by_flag, crate::specs::inside::Trying::or_activated))]
-fn execute_performed<O: Objects>(m: &mut O, r: &mut Registers, call: Call) -> Result<StepEnd, Dead>
+fn execute_performed<O: Objects>(m: &mut O, r: &mut Registers, call: Call) -> Result<RowEnd, Dead>
     requires room { response_changes ≤ O.room m.old }
-    ensures does { RowLeaves O.Objects.own (execute_performed O.names (call_of call))
-        end_of deed_of_end m.old r.old result m.new r.new }
+    ensures does { RowEnds O.Objects.own (execute_performed O.names (call_of call))
+        m.old r.old result m.new r.new }
     ensures takes { Takes O.Objects.own response_changes m.old m.new }
 {
     let header = Header(m.method_header(call.method)?);
@@ -56,10 +56,9 @@ fn execute_found<O: Objects>(
     r: &mut Registers,
     sent: Sent,
     found: Option<Word>,
-) -> Result<StepEnd, Dead>
+) -> Result<RowEnd, Dead>
     requires room { send_changes + response_changes ≤ O.room m.old }
-    ensures does { RowLeaves O.Objects.own (execute_sent O.names sent found)
-        end_of deed_of_end m.old r.old result m.new r.new }
+    ensures does { RowEnds O.Objects.own (execute_sent O.names sent found) m.old r.old result m.new r.new }
     ensures takes { Takes O.Objects.own (send_changes + response_changes) m.old m.new }
 {
     match found {
@@ -135,11 +134,11 @@ fn performs_above<O: Objects>(
     receiver: Word,
     selector: Word,
     n: u32,
-) -> Result<Option<StepEnd>, Dead>
+) -> Result<Option<RowEnd>, Dead>
     requires few { n < 16384 }
     requires room { execution_changes ≤ O.room m.old }
-    ensures does { RowLeaves O.Objects.own (performs_above O.names (word receiver) (word selector) n)
-        end_if_any deed_if_any m.old r.old result m.new r.new }
+    ensures does { RowResponds O.Objects.own (performs_above O.names (word receiver) (word selector) n)
+        m.old r.old result m.new r.new }
     ensures takes { Takes O.Objects.own (number_changes execution_changes result) m.old m.new }
 {
     let class = m.fetch_class(receiver)?;
@@ -163,11 +162,11 @@ pub fn performs_selector<O: Objects>(
     m: &mut O,
     r: &mut Registers,
     arguments: u32,
-) -> Result<Option<StepEnd>, Dead>
+) -> Result<Option<RowEnd>, Dead>
     requires few { arguments < 16384 }
     requires room { execution_changes ≤ O.room m.old }
-    ensures does { RowLeaves O.Objects.own (performs_selector O.names arguments)
-        end_if_any deed_if_any m.old r.old result m.new r.new }
+    ensures does { RowResponds O.Objects.own (performs_selector O.names arguments)
+        m.old r.old result m.new r.new }
     ensures takes { Takes O.Objects.own (number_changes execution_changes result) m.old m.new }
 {
     if arguments == 0 {
@@ -189,13 +188,13 @@ fn performs_fields<O: Objects>(
     selector: Word,
     array: Word,
     n: u32,
-) -> Result<Option<StepEnd>, Dead>
+) -> Result<Option<RowEnd>, Dead>
     requires size { n ≤ 65533 }
     requires above { 7 ≤ r.old.sp }
     requires room { execution_changes ≤ O.room m.old }
-    ensures does { RowLeaves O.Objects.own
+    ensures does { RowResponds O.Objects.own
         (performs_fields O.names (word receiver) (word selector) (word array) n)
-        end_if_any deed_if_any m.old r.old result m.new r.new }
+        m.old r.old result m.new r.new }
     ensures takes { Takes O.Objects.own (number_changes execution_changes result) m.old m.new }
 {
     let class = m.fetch_class(receiver)?;
@@ -215,10 +214,9 @@ fn performs_fields<O: Objects>(
 
 /// Tries primitive 84, as the first of 83 and 84 in its bytecode.
 #[tactic(auto, using(st_frames::proofs::Doing::rows), unfolding(crate::specs::inside::Trying::performs_with))]
-pub fn performs_with<O: Objects>(m: &mut O, r: &mut Registers) -> Result<Option<StepEnd>, Dead>
+pub fn performs_with<O: Objects>(m: &mut O, r: &mut Registers) -> Result<Option<RowEnd>, Dead>
     requires room { execution_changes ≤ O.room m.old }
-    ensures does { RowLeaves O.Objects.own (performs_with O.names)
-        end_if_any deed_if_any m.old r.old result m.new r.new }
+    ensures does { RowResponds O.Objects.own (performs_with O.names) m.old r.old result m.new r.new }
     ensures takes { Takes O.Objects.own (number_changes execution_changes result) m.old m.new }
 {
     let receiver = under(m, r, 2)?;

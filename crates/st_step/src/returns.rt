@@ -1,20 +1,20 @@
 ghost use Rattle.std.specs.Prelude.{◌≤◌};
-ghost use Rattle.st_model.specs.{Values.word, Outcomes.end_of, Deeds.deed_of_end, Executing.executed_if_any};
+ghost use Rattle.st_model.specs.{Values.word, Executing.executed_if_any};
 ghost use Rattle.st_model.specs.{Bytecodes.{return_top_to_sender, return_top_to_caller}, Returns.return_to_sender};
-ghost use Rattle.st_frames.specs.inside.Rows.{RowLeaves, Takes, executed_return_changes};
+ghost use Rattle.st_frames.specs.inside.Rows.{RowEnds, Takes, executed_return_changes};
 
 use crate::execute::execute_if_any;
 use st_control::return_past;
-use st_frames::{Registers, pop};
+use st_frames::{Registers, RowEnd, pop};
 use st_memory::Objects;
-use st_model::{Dead, StepEnd, Word};
+use st_model::{Dead, Word};
 
 /// Returns a word to the sender, and executes what is called.
 #[tactic(auto, using(st_control::proofs::Returning::returning), unfolding(st_model::specs::Executing::executed_if_any))]
-pub fn return_word<O: Objects>(m: &mut O, r: &mut Registers, x: Word) -> Result<StepEnd, Dead>
+pub fn return_word<O: Objects>(m: &mut O, r: &mut Registers, x: Word) -> Result<RowEnd, Dead>
     requires room { executed_return_changes ≤ O.room m.old }
-    ensures does { RowLeaves O.Objects.own (executed_if_any O.names (return_to_sender O.names (word x)))
-        end_of deed_of_end m.old r.old result m.new r.new }
+    ensures does { RowEnds O.Objects.own (executed_if_any O.names (return_to_sender O.names (word x)))
+        m.old r.old result m.new r.new }
     ensures takes { Takes O.Objects.own executed_return_changes m.old m.new }
 {
     let call = return_past(m, r, r.home, x)?;
@@ -23,10 +23,10 @@ pub fn return_word<O: Objects>(m: &mut O, r: &mut Registers, x: Word) -> Result<
 
 /// Pops, and returns the word to the sender.
 #[tactic(auto, using(st_frames::proofs::Doing::rows), unfolding(st_model::specs::Bytecodes::return_top_to_sender, st_model::specs::Executing::executed_if_any))]
-pub fn return_top_to_sender<O: Objects>(m: &mut O, r: &mut Registers) -> Result<StepEnd, Dead>
+pub fn return_top_to_sender<O: Objects>(m: &mut O, r: &mut Registers) -> Result<RowEnd, Dead>
     requires room { executed_return_changes ≤ O.room m.old }
-    ensures does { RowLeaves O.Objects.own (executed_if_any O.names (return_top_to_sender O.names))
-        end_of deed_of_end m.old r.old result m.new r.new }
+    ensures does { RowEnds O.Objects.own (executed_if_any O.names (return_top_to_sender O.names))
+        m.old r.old result m.new r.new }
     ensures takes { Takes O.Objects.own executed_return_changes m.old m.new }
 {
     let x = pop(m, r)?;
@@ -35,10 +35,10 @@ pub fn return_top_to_sender<O: Objects>(m: &mut O, r: &mut Registers) -> Result<
 
 /// Pops, and returns the word to the caller.
 #[tactic(auto, using(st_control::proofs::Returning::returning), unfolding(st_model::specs::Bytecodes::return_top_to_caller, st_model::specs::Executing::executed_if_any))]
-pub fn return_top_to_caller<O: Objects>(m: &mut O, r: &mut Registers) -> Result<StepEnd, Dead>
+pub fn return_top_to_caller<O: Objects>(m: &mut O, r: &mut Registers) -> Result<RowEnd, Dead>
     requires room { executed_return_changes ≤ O.room m.old }
-    ensures does { RowLeaves O.Objects.own (executed_if_any O.names (return_top_to_caller O.names))
-        end_of deed_of_end m.old r.old result m.new r.new }
+    ensures does { RowEnds O.Objects.own (executed_if_any O.names (return_top_to_caller O.names))
+        m.old r.old result m.new r.new }
     ensures takes { Takes O.Objects.own executed_return_changes m.old m.new }
 {
     let x = pop(m, r)?;

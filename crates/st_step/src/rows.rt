@@ -1,7 +1,7 @@
 ghost use Rattle.std.specs.Prelude.{◌≤◌};
-ghost use Rattle.st_model.specs.{Outcomes.end_of, Deeds.deed_of_end, Decoded.IsNumbered};
+ghost use Rattle.st_model.specs.{Decoded.IsNumbered};
 ghost use Rattle.st_model.specs.{Executing.executed_if_any, Bytecodes.{return_constant, bytecode, step}};
-ghost use Rattle.st_frames.specs.inside.Rows.{RowLeaves, Takes, executed_return_changes, bytecode_changes};
+ghost use Rattle.st_frames.specs.inside.Rows.{RowEnds, Takes, executed_return_changes, bytecode_changes};
 
 use crate::jump::{long_conditional_jump, short_jump_on_false};
 use crate::returns::{return_top_to_caller, return_top_to_sender, return_word};
@@ -14,16 +14,16 @@ use st_control::{
     long_unconditional_jump, pop_stack, push_active_context, push_constant, push_operand,
     push_receiver, short_unconditional_jump, store_and_pop,
 };
-use st_frames::{Registers, next_byte};
+use st_frames::{Registers, RowEnd, next_byte};
 use st_memory::Objects;
-use st_model::{Bytecode, Constant, Dead, Deed, PageObject, StepEnd, decode};
+use st_model::{Bytecode, Constant, Dead, PageObject, decode};
 
 /// Returns a constant to the sender.
 #[tactic(auto, using(st_frames::proofs::Doing::rows), unfolding(st_model::specs::Bytecodes::return_constant, st_model::specs::Executing::executed_if_any))]
-fn return_constant<O: Objects>(m: &mut O, r: &mut Registers, c: Constant) -> Result<StepEnd, Dead>
+fn return_constant<O: Objects>(m: &mut O, r: &mut Registers, c: Constant) -> Result<RowEnd, Dead>
     requires room { executed_return_changes ≤ O.room m.old }
-    ensures does { RowLeaves O.Objects.own (executed_if_any O.names (return_constant O.names c))
-        end_of deed_of_end m.old r.old result m.new r.new }
+    ensures does { RowEnds O.Objects.own (executed_if_any O.names (return_constant O.names c))
+        m.old r.old result m.new r.new }
     ensures takes { Takes O.Objects.own executed_return_changes m.old m.new }
 {
     let x = constant_value(m, r, c);
@@ -32,11 +32,10 @@ fn return_constant<O: Objects>(m: &mut O, r: &mut Registers, c: Constant) -> Res
 
 /// Does the row of a bytecode.
 #[tactic(auto, using(st_frames::proofs::Doing::rows), unfolding(st_model::specs::Bytecodes::bytecode, st_model::specs::Bytecodes::long_jump_on_true, st_model::specs::Bytecodes::long_jump_on_false, crate::specs::inside::Jumping::long_conditional_jump, st_model::specs::Executing::goes_on, st_model::specs::Bytecodes::return_receiver, st_model::specs::Executing::executed_if_any))]
-fn bytecode<O: Objects>(m: &mut O, r: &mut Registers, code: Bytecode) -> Result<StepEnd, Dead>
+fn bytecode<O: Objects>(m: &mut O, r: &mut Registers, code: Bytecode) -> Result<RowEnd, Dead>
     requires numbered { IsNumbered code }
     requires room { bytecode_changes ≤ O.room m.old }
-    ensures does { RowLeaves O.Objects.own (bytecode O.names code)
-        end_of deed_of_end m.old r.old result m.new r.new }
+    ensures does { RowEnds O.Objects.own (bytecode O.names code) m.old r.old result m.new r.new }
     ensures takes { Takes O.Objects.own bytecode_changes m.old m.new }
 {
     match code {
@@ -75,14 +74,14 @@ fn bytecode<O: Objects>(m: &mut O, r: &mut Registers, code: Bytecode) -> Result<
             return send_literal_selector(m, r, u32::from(literal), u32::from(arguments));
         }
     }
-    Ok(StepEnd::Went(Deed::Nothing))
+    Ok(RowEnd::Went)
 }
 
 /// Does the next bytecode.
 #[tactic(auto, using(st_frames::proofs::Doing::rows), unfolding(st_model::specs::Bytecodes::step))]
-pub fn step_row<O: Objects>(m: &mut O, r: &mut Registers) -> Result<StepEnd, Dead>
+pub fn step_row<O: Objects>(m: &mut O, r: &mut Registers) -> Result<RowEnd, Dead>
     requires room { bytecode_changes ≤ O.room m.old }
-    ensures does { RowLeaves O.Objects.own (step O.names) end_of deed_of_end m.old r.old result m.new r.new }
+    ensures does { RowEnds O.Objects.own (step O.names) m.old r.old result m.new r.new }
     ensures takes { Takes O.Objects.own bytecode_changes m.old m.new }
 {
     let byte = next_byte(m, r)?;

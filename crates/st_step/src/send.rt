@@ -1,18 +1,18 @@
 ghost use Rattle.std.specs.Prelude.{◌<◌, ◌≤◌};
-ghost use Rattle.st_model.specs.{Values.word, Outcomes.end_of, Deeds.deed_of_end};
+ghost use Rattle.st_model.specs.{Values.word};
 ghost use Rattle.st_model.specs.{Sends.{call_of, special_send}, Executing.executed};
 ghost use Rattle.st_model.specs.Bytecodes.{send_literal, extended_send, double_extended_send, extended_super_send, double_extended_super_send, or_send, arithmetic_by, arithmetic_send, primitive_send};
 ghost use Rattle.st_model.specs.{Arithmetic.arithmetic, Blocks.{primitive_block_copy, primitive_value}};
-ghost use Rattle.st_frames.specs.inside.Rows.{RowDoes, RowLeaves, Takes, send_changes, executed_send_changes};
+ghost use Rattle.st_frames.specs.inside.Rows.{RowDoes, RowEnds, Takes, send_changes, executed_send_changes};
 
 use crate::execute::execute;
 use st_control::{
     answer_integers, arithmetic_number, equivalence, fetch_literal_constant, integer_answer,
     primitive_block_copy, primitive_value, receiver_class, send, send_to_super, special_send,
 };
-use st_frames::{Registers, next_byte, under};
+use st_frames::{Registers, RowEnd, Tried, next_byte, under};
 use st_memory::Objects;
-use st_model::{Call, Dead, Deed, StepEnd, Tried, Word};
+use st_model::{Call, Dead, Word};
 
 /// Sends literal i with n arguments.
 #[tactic(auto, using(st_frames::proofs::Doing::rows), unfolding(st_model::specs::Bytecodes::send_literal))]
@@ -28,10 +28,10 @@ fn send_literal<O: Objects>(m: &mut O, r: &mut Registers, i: u32, n: u32) -> Res
 
 /// Sends the literal that the next byte names, with as many arguments as it says.
 #[tactic(auto, using(st_frames::proofs::Doing::rows), unfolding(st_model::specs::Bytecodes::extended_send, st_model::specs::Executing::executed))]
-pub fn extended_send<O: Objects>(m: &mut O, r: &mut Registers) -> Result<StepEnd, Dead>
+pub fn extended_send<O: Objects>(m: &mut O, r: &mut Registers) -> Result<RowEnd, Dead>
     requires room { executed_send_changes ≤ O.room m.old }
-    ensures does { RowLeaves O.Objects.own (executed O.names (extended_send O.names))
-        end_of deed_of_end m.old r.old result m.new r.new }
+    ensures does { RowEnds O.Objects.own (executed O.names (extended_send O.names))
+        m.old r.old result m.new r.new }
     ensures takes { Takes O.Objects.own executed_send_changes m.old m.new }
 {
     let byte = next_byte(m, r)?;
@@ -41,10 +41,10 @@ pub fn extended_send<O: Objects>(m: &mut O, r: &mut Registers) -> Result<StepEnd
 
 /// Sends the literal of the second byte with as many arguments as the first says.
 #[tactic(auto, using(st_frames::proofs::Doing::rows), unfolding(st_model::specs::Bytecodes::double_extended_send, st_model::specs::Executing::executed))]
-pub fn double_extended_send<O: Objects>(m: &mut O, r: &mut Registers) -> Result<StepEnd, Dead>
+pub fn double_extended_send<O: Objects>(m: &mut O, r: &mut Registers) -> Result<RowEnd, Dead>
     requires room { executed_send_changes ≤ O.room m.old }
-    ensures does { RowLeaves O.Objects.own (executed O.names (double_extended_send O.names))
-        end_of deed_of_end m.old r.old result m.new r.new }
+    ensures does { RowEnds O.Objects.own (executed O.names (double_extended_send O.names))
+        m.old r.old result m.new r.new }
     ensures takes { Takes O.Objects.own executed_send_changes m.old m.new }
 {
     let arguments = next_byte(m, r)?;
@@ -55,10 +55,10 @@ pub fn double_extended_send<O: Objects>(m: &mut O, r: &mut Registers) -> Result<
 
 /// Sends the literal that the next byte names to super, with as many arguments as it says.
 #[tactic(auto, using(st_frames::proofs::Doing::rows), unfolding(st_model::specs::Bytecodes::extended_super_send, st_model::specs::Bytecodes::send_literal_to_super, st_model::specs::Executing::executed))]
-pub fn extended_super_send<O: Objects>(m: &mut O, r: &mut Registers) -> Result<StepEnd, Dead>
+pub fn extended_super_send<O: Objects>(m: &mut O, r: &mut Registers) -> Result<RowEnd, Dead>
     requires room { executed_send_changes ≤ O.room m.old }
-    ensures does { RowLeaves O.Objects.own (executed O.names (extended_super_send O.names))
-        end_of deed_of_end m.old r.old result m.new r.new }
+    ensures does { RowEnds O.Objects.own (executed O.names (extended_super_send O.names))
+        m.old r.old result m.new r.new }
     ensures takes { Takes O.Objects.own executed_send_changes m.old m.new }
 {
     let byte = next_byte(m, r)?;
@@ -69,10 +69,10 @@ pub fn extended_super_send<O: Objects>(m: &mut O, r: &mut Registers) -> Result<S
 
 /// Sends the literal of the second byte to super, with as many arguments as the first says.
 #[tactic(auto, using(st_frames::proofs::Doing::rows), unfolding(st_model::specs::Bytecodes::double_extended_super_send, st_model::specs::Bytecodes::send_literal_to_super, st_model::specs::Executing::executed))]
-pub fn double_extended_super_send<O: Objects>(m: &mut O, r: &mut Registers) -> Result<StepEnd, Dead>
+pub fn double_extended_super_send<O: Objects>(m: &mut O, r: &mut Registers) -> Result<RowEnd, Dead>
     requires room { executed_send_changes ≤ O.room m.old }
-    ensures does { RowLeaves O.Objects.own (executed O.names (double_extended_super_send O.names))
-        end_of deed_of_end m.old r.old result m.new r.new }
+    ensures does { RowEnds O.Objects.own (executed O.names (double_extended_super_send O.names))
+        m.old r.old result m.new r.new }
     ensures takes { Takes O.Objects.own executed_send_changes m.old m.new }
 {
     let arguments = next_byte(m, r)?;
@@ -89,11 +89,11 @@ pub fn send_literal_selector<O: Objects>(
     r: &mut Registers,
     i: u32,
     n: u32,
-) -> Result<StepEnd, Dead>
+) -> Result<RowEnd, Dead>
     requires few { n < 256 }
     requires room { executed_send_changes ≤ O.room m.old }
-    ensures does { RowLeaves O.Objects.own (executed O.names (send_literal O.names i n))
-        end_of deed_of_end m.old r.old result m.new r.new }
+    ensures does { RowEnds O.Objects.own (executed O.names (send_literal O.names i n))
+        m.old r.old result m.new r.new }
     ensures takes { Takes O.Objects.own executed_send_changes m.old m.new }
 {
     let call = send_literal(m, r, i, n)?;
@@ -106,11 +106,11 @@ pub fn send_special_selector<O: Objects>(
     m: &mut O,
     r: &mut Registers,
     k: u32,
-) -> Result<StepEnd, Dead>
+) -> Result<RowEnd, Dead>
     requires number { k < 32 }
     requires room { executed_send_changes ≤ O.room m.old }
-    ensures does { RowLeaves O.Objects.own (executed O.names (special_send O.names k))
-        end_of deed_of_end m.old r.old result m.new r.new }
+    ensures does { RowEnds O.Objects.own (executed O.names (special_send O.names k))
+        m.old r.old result m.new r.new }
     ensures takes { Takes O.Objects.own executed_send_changes m.old m.new }
 {
     let call = special_send(m, r, k)?;
@@ -124,19 +124,19 @@ fn arithmetic_or_send<O: Objects>(
     r: &mut Registers,
     k: u32,
     primitive: u32,
-) -> Result<StepEnd, Dead>
+) -> Result<RowEnd, Dead>
     requires number { k < 16 }
     requires first { 1 ≤ primitive }
     requires last { primitive ≤ 18 }
     requires room { executed_send_changes ≤ O.room m.old }
-    ensures does { RowLeaves O.Objects.own (or_send O.names k (arithmetic O.names primitive))
-        end_of deed_of_end m.old r.old result m.new r.new }
+    ensures does { RowEnds O.Objects.own (or_send O.names k (arithmetic O.names primitive))
+        m.old r.old result m.new r.new }
     ensures takes { Takes O.Objects.own executed_send_changes m.old m.new }
 {
     match integer_answer(m, r, primitive) {
         Ok(answer) => {
             answer_integers(m, r, answer)?;
-            Ok(StepEnd::Went(Deed::Nothing))
+            Ok(RowEnd::Went)
         }
         Err(_) => send_special_selector(m, r, k),
     }
@@ -149,11 +149,11 @@ fn arithmetic_by<O: Objects>(
     r: &mut Registers,
     k: u32,
     receiver: Word,
-) -> Result<StepEnd, Dead>
+) -> Result<RowEnd, Dead>
     requires number { k < 16 }
     requires room { executed_send_changes ≤ O.room m.old }
-    ensures does { RowLeaves O.Objects.own (arithmetic_by O.names k (word receiver))
-        end_of deed_of_end m.old r.old result m.new r.new }
+    ensures does { RowEnds O.Objects.own (arithmetic_by O.names k (word receiver))
+        m.old r.old result m.new r.new }
     ensures takes { Takes O.Objects.own executed_send_changes m.old m.new }
 {
     if receiver.is_small() {
@@ -165,11 +165,10 @@ fn arithmetic_by<O: Objects>(
 
 /// Sends the special selector of this number, for which arithmetic is tried first.
 #[tactic(auto, using(st_frames::proofs::Doing::rows), unfolding(st_model::specs::Bytecodes::arithmetic_send))]
-pub fn arithmetic_send<O: Objects>(m: &mut O, r: &mut Registers, k: u32) -> Result<StepEnd, Dead>
+pub fn arithmetic_send<O: Objects>(m: &mut O, r: &mut Registers, k: u32) -> Result<RowEnd, Dead>
     requires number { k < 16 }
     requires room { executed_send_changes ≤ O.room m.old }
-    ensures does { RowLeaves O.Objects.own (arithmetic_send O.names k)
-        end_of deed_of_end m.old r.old result m.new r.new }
+    ensures does { RowEnds O.Objects.own (arithmetic_send O.names k) m.old r.old result m.new r.new }
     ensures takes { Takes O.Objects.own executed_send_changes m.old m.new }
 {
     let receiver = under(m, r, 1)?;
@@ -178,42 +177,43 @@ pub fn arithmetic_send<O: Objects>(m: &mut O, r: &mut Registers, k: u32) -> Resu
 
 /// Makes a block (primitive 80), or sends the special selector of this number where it fails.
 #[tactic(auto, using(st_frames::proofs::Doing::rows), unfolding(st_model::specs::Bytecodes::or_send))]
-fn block_copy_or_send<O: Objects>(m: &mut O, r: &mut Registers, k: u32) -> Result<StepEnd, Dead>
+fn block_copy_or_send<O: Objects>(m: &mut O, r: &mut Registers, k: u32) -> Result<RowEnd, Dead>
     requires number { k < 32 }
     requires room { executed_send_changes ≤ O.room m.old }
-    ensures does { RowLeaves O.Objects.own (or_send O.names k (primitive_block_copy O.names))
-        end_of deed_of_end m.old r.old result m.new r.new }
+    ensures does { RowEnds O.Objects.own (or_send O.names k (primitive_block_copy O.names))
+        m.old r.old result m.new r.new }
     ensures takes { Takes O.Objects.own executed_send_changes m.old m.new }
 {
     match primitive_block_copy(m, r)? {
-        Tried::Done(deed) => Ok(StepEnd::Went(deed)),
+        Tried::Done => Ok(RowEnd::Went),
+        Tried::Leaves => Ok(RowEnd::Leaves),
         Tried::Failed => send_special_selector(m, r, k),
     }
 }
 
 /// Computes a block's value with n arguments (primitive 81), or sends the special selector of this number where it fails.
 #[tactic(auto, using(st_frames::proofs::Doing::rows), unfolding(st_model::specs::Bytecodes::or_send))]
-fn value_or_send<O: Objects>(m: &mut O, r: &mut Registers, k: u32, n: u32) -> Result<StepEnd, Dead>
+fn value_or_send<O: Objects>(m: &mut O, r: &mut Registers, k: u32, n: u32) -> Result<RowEnd, Dead>
     requires number { k < 32 }
     requires few { n < 16384 }
     requires room { executed_send_changes ≤ O.room m.old }
-    ensures does { RowLeaves O.Objects.own (or_send O.names k (primitive_value O.names n))
-        end_of deed_of_end m.old r.old result m.new r.new }
+    ensures does { RowEnds O.Objects.own (or_send O.names k (primitive_value O.names n))
+        m.old r.old result m.new r.new }
     ensures takes { Takes O.Objects.own executed_send_changes m.old m.new }
 {
     match primitive_value(m, r, n)? {
-        Tried::Done(deed) => Ok(StepEnd::Went(deed)),
+        Tried::Done => Ok(RowEnd::Went),
+        Tried::Leaves => Ok(RowEnd::Leaves),
         Tried::Failed => send_special_selector(m, r, k),
     }
 }
 
 /// Does the code 176 + k: primitives 110 and 111 for 198 and 199. 200 tries primitive 80, and 201 and 202 try 81.
 #[tactic(auto, using(st_frames::proofs::Doing::rows), unfolding(st_model::specs::Bytecodes::primitive_send, st_model::specs::Executing::goes_on))]
-pub fn primitive_send<O: Objects>(m: &mut O, r: &mut Registers, k: u32) -> Result<StepEnd, Dead>
+pub fn primitive_send<O: Objects>(m: &mut O, r: &mut Registers, k: u32) -> Result<RowEnd, Dead>
     requires number { k < 32 }
     requires room { executed_send_changes ≤ O.room m.old }
-    ensures does { RowLeaves O.Objects.own (primitive_send O.names k)
-        end_of deed_of_end m.old r.old result m.new r.new }
+    ensures does { RowEnds O.Objects.own (primitive_send O.names k) m.old r.old result m.new r.new }
     ensures takes { Takes O.Objects.own executed_send_changes m.old m.new }
 {
     match k {
@@ -222,5 +222,5 @@ pub fn primitive_send<O: Objects>(m: &mut O, r: &mut Registers, k: u32) -> Resul
         24 => return block_copy_or_send(m, r, k),
         _ => return value_or_send(m, r, k, k.saturating_sub(25)),
     }
-    Ok(StepEnd::Went(Deed::Nothing))
+    Ok(RowEnd::Went)
 }

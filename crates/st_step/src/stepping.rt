@@ -2,12 +2,13 @@ ghost use Rattle.std.specs.Prelude.{◌≡◌, IfOk};
 ghost use Rattle.st_model.specs.{Outcomes.{end_of, outcome_of}, Deeds.deed_of_end, Machine.{used, Went}};
 ghost use Rattle.st_model.specs.{Table.{table, apart, bounded_table}, Bytecodes.step, inside.Calls.Does};
 ghost use Rattle.st_frames.specs.inside.Shown.{IsFrame, IsReady, shown};
+ghost use Rattle.st_frames.specs.inside.Rows.{end_in};
 ghost use Rattle.st_control.specs.inside.Foreseen.{IsForeseen};
 ghost use Rattle.st_step.specs.inside.Planned.{HasEnded, HasTop, Plans, PlansBirths, TopSaid};
 
 use crate::rows::step_row;
 use st_draft::Draft;
-use st_frames::{Frame, World, hold, load};
+use st_frames::{Frame, Registers, RowEnd, World, hold, load};
 use st_input::carry_out;
 use st_memory::Memory;
 use st_model::{Dead, Deed, Demand, Outcome, StepEnd};
@@ -24,6 +25,20 @@ pub fn plan<M: Memory>(m: &M, f: &Frame, w: &World) -> Result<Demand, Dead>
     let mut r = load(m, f, w);
     step_row(&mut draft, &mut r)?;
     Ok(draft.demand())
+}
+
+/// How a step ended whose row left these registers.
+pub fn end_in(r: &Registers, end: RowEnd) -> StepEnd
+    ensures { result ≡ end_in r.now end }
+{
+    match end {
+        RowEnd::Went => StepEnd::Went(Deed::Nothing),
+        RowEnd::Leaves => StepEnd::Went(r.left),
+        RowEnd::Says => StepEnd::Says(r.said),
+        RowEnd::Snapshot => StepEnd::Snapshot,
+        RowEnd::Quit => StepEnd::Quit,
+        RowEnd::Debugger => StepEnd::Debugger,
+    }
 }
 
 /// What the end of a step leaves to be done.
@@ -44,7 +59,8 @@ fn try_step<M: Memory>(m: &mut M, f: &mut Frame, w: &mut World) -> Result<StepEn
     ensures ready { IfOk result (λ o. IsReady (M.view m.new) f.new w.new) }
 {
     let mut r = load(m, f, w);
-    let end = step_row(m, &mut r)?;
+    let row = step_row(m, &mut r)?;
+    let end = end_in(&r, row);
     *f = hold(m, &r);
     carry_out(m, w, deed_of(end));
     Ok(end)

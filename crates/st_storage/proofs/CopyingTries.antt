@@ -3,7 +3,6 @@ use Rattle.std.proofs.Common.{◌≡◌, true, refl, Ok, Err}
 use Rattle.std.specs.Prelude.{nat_le}
 use Rattle.st_model.specs.declared.dead.Dead.{Dead}
 use Rattle.st_model.specs.declared.deed.Deed.TheVariants.{CopyBits}
-use Rattle.st_model.specs.declared.tried.Tried.TheVariants.{Done, Failed}
 use Rattle.st_model.specs.declared.word.Word.{Word}
 use Rattle.st_model.specs.Values.{word}
 use Rattle.st_model.specs.Machine.{ObjectMemory, State, Died, Went, after, ◌>>=◌}
@@ -11,11 +10,11 @@ use Rattle.st_model.specs.Table.{Table, IsTabular}
 use Rattle.st_model.specs.inside.Calls.{Reads}
 use Rattle.st_model.specs.Steps.{top}
 use Rattle.st_model.specs.BitBlt.{Copy, read_copy, primitive_copy_bits}
-use Rattle.st_model.specs.Deeds.{is_done, deed_of_trial}
 use Rattle.st_simulation.proofs.BitBltLeft.{bits-copied, bits-failed}
 use Rattle.st_memory.specs.declared.objects.Objects.{Ghosts}
+use Rattle.st_frames.specs.declared.tried.Tried.TheVariants.{Failed, Leaves}
 use Rattle.st_frames.specs.declared.registers.Registers.{Registers as Words}
-use Rattle.st_frames.specs.inside.Rows.{row_state, state_of, RowLeaves}
+use Rattle.st_frames.specs.inside.Rows.{row_state, state_of, RowTries}
 
 pub bits-unseen : (m : ObjectMemory Table) (cause : Dead) (s : State Table) → (top m).run s ≡ Died cause → (primitive_copy_bits m).run s ≡ Died cause
 unfolding primitive_copy_bits ◌>>=◌ after
@@ -23,10 +22,10 @@ bits-unseen m cause s e = rw e refl
 
 module _ {M B : Type 0} (o : Ghosts M) (m : M) (r : Words) (v : Word) (on : (top o.names).run (state_of o m r) ≡ Went (word v) (state_of o m r)) (f : B → Copy) where
   pub copy-left : IsTabular o.names → (b : B) → Reads (read_copy o.names (word v)) f (o.table m) (Ok b) → nat_le r.sp 16388 ≡ true
-      → RowLeaves o (primitive_copy_bits o.names) is_done deed_of_trial m r (Ok (Done (CopyBits v))) m r
+      → RowTries o (primitive_copy_bits o.names) m r (Ok Leaves) m (record r { left = CopyBits v })
   unfolding row_state
   copy-left tabular b reads low = record { does = bits-copied o.names tabular v (f b) (state_of o m r) on (reads (state_of o m r) refl) low; world = refl }
 
-  pub copy-refused : (cause : Dead) → Reads (read_copy o.names (word v)) f (o.table m) (Err cause) → RowLeaves o (primitive_copy_bits o.names) is_done deed_of_trial m r (Ok Failed) m r
+  pub copy-refused : (cause : Dead) → Reads (read_copy o.names (word v)) f (o.table m) (Err cause) → RowTries o (primitive_copy_bits o.names) m r (Ok Failed) m r
   unfolding row_state
   copy-refused cause reads = record { does = bits-failed o.names (word v) cause (state_of o m r) on (reads (state_of o m r) refl); world = refl }

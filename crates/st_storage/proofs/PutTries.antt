@@ -6,11 +6,10 @@ use Rattle.st_model.specs.Values.{Value}
 use Rattle.st_model.specs.Machine.{ObjectMemory, State, Transition, Died, Went, Step, answer, after, ◌>>=◌}
 use Rattle.st_model.specs.Table.{Table}
 use Rattle.st_model.specs.Steps.{top, under}
-use Rattle.st_model.specs.declared.tried.Tried.{Tried}
-use Rattle.st_model.specs.Deeds.{is_done, deed_of_trial}
 use Rattle.st_memory.specs.declared.objects.Objects.{Ghosts}
 use Rattle.st_frames.specs.declared.registers.Registers.{Registers as Words}
-use Rattle.st_frames.specs.inside.Rows.{state_of, RowLeaves}
+use Rattle.st_frames.specs.declared.tried.Tried.{Tried}
+use Rattle.st_frames.specs.inside.Rows.{state_of, RowTries}
 use Rattle.st_storage.specs.inside.Storing.{Operands, put_operands}
 
 died : {A B : Type 0} (a k : Dead) → (let x : Transition (State Table) A = Died a in x ≡ Died k) → (let x : Transition (State Table) B = Died a in x ≡ Died k)
@@ -44,5 +43,5 @@ module _ (m : ObjectMemory Table) (f : Value → Value → Value → Step Table 
 -- where it is there, the primitive is what its answer is by
 pub put-by : {M : Type 0} (o : Ghosts M) (p e : Step Table Bool) (m n : M) (r q : Words) (result : Result Tried Dead)
     → ((y : Transition (State Table) Bool) → e.run (state_of o m r) ≡ y → p.run (state_of o m r) ≡ y)
-    → RowLeaves o e is_done deed_of_trial m r result n q → RowLeaves o p is_done deed_of_trial m r result n q
+    → RowTries o e m r result n q → RowTries o p m r result n q
 put-by o p e m n r q result f h = record { does = f _ h.does; world = h.world }

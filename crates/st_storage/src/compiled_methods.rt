@@ -7,18 +7,19 @@ ghost use Rattle.st_model.specs.Storage.{place_in_method, header_or_literal, pri
 ghost use Rattle.st_model.specs.Steps.{store_method_field};
 ghost use Rattle.st_frames.specs.inside.Answering.{succeed_by, answer_word, answer_deed, no_word};
 ghost use Rattle.st_storage.specs.inside.Storing.{method_shape_in};
-ghost use Rattle.st_model.specs.Deeds.{is_done, deed_of_trial, copies_pixels};
-ghost use Rattle.st_frames.specs.inside.Rows.{RowReads, RowLeaves, Takes};
+ghost use Rattle.st_model.specs.Deeds.{copies_pixels};
+ghost use Rattle.st_frames.specs.inside.Rows.{RowReads, RowLeaves, RowTries, Takes};
 
 use crate::elements::count_literals;
 use crate::numbers::small_word;
 use crate::shapes::{Indexed, MethodShape, Put};
 use crate::storing::put_operands;
 use st_frames::{
-    Answer, Registers, bits_or_die, page, positive_small, succeed_leaving, succeed_with, top, under,
+    Answer, Registers, Tried, bits_or_die, page, positive_small, succeed_leaving, succeed_with,
+    top, under,
 };
 use st_memory::Objects;
-use st_model::{Dead, Deed, Kind, PageObject, Tried, Word};
+use st_model::{Dead, Deed, Kind, PageObject, Word};
 
 /// The field that a word names in a Method.
 #[tactic(auto, using(st_frames::proofs::Doing::checks), unfolding(st_model::specs::Storage::place_in_method, st_model::specs::Storage::method_place))]
@@ -51,8 +52,7 @@ fn header_or_literal<O: Objects>(m: &O, r: &Registers, x: Indexed) -> Result<Wor
 #[tactic(auto, using(st_frames::proofs::Tries::tries), unfolding(st_model::specs::Storage::primitive_object_at))]
 pub fn primitive_object_at<O: Objects>(m: &mut O, r: &mut Registers) -> Result<Tried, Dead>
     requires room { 1 ≤ O.room m.old }
-    ensures does { RowLeaves O.Objects.own (primitive_object_at O.names)
-        is_done deed_of_trial m.old r.old result m.new r.new }
+    ensures does { RowTries O.Objects.own (primitive_object_at O.names) m.old r.old result m.new r.new }
     ensures takes { Takes O.Objects.own 1 m.old m.new }
 {
     let object = under(m, r, 1)?;
@@ -161,9 +161,9 @@ fn answer_in_method<O: Objects>(
     requires header { i ≡ 0 → RowReads O.Objects.own
         (check_header O.names (word put.indexed.object) (word put.value)) itself m.old r.old (Ok tt) }
     requires room { 1 ≤ O.room m.old }
-    ensures does { RowLeaves O.Objects.own
+    ensures does { RowTries O.Objects.own
         (succeed_by O.names 2 (store_in_method O.names (word put.indexed.object) (word put.value) i))
-        is_done deed_of_trial m.old r.old result m.new r.new }
+        m.old r.old result m.new r.new }
     ensures takes { Takes O.Objects.own 1 m.old m.new }
 {
     let answer = store_in_method(m, r, put, i)?;
@@ -174,8 +174,7 @@ fn answer_in_method<O: Objects>(
 #[tactic(auto, using(st_frames::proofs::Tries::effects), unfolding(st_model::specs::Storage::primitive_object_at_put))]
 pub fn primitive_object_at_put<O: Objects>(m: &mut O, r: &mut Registers) -> Result<Tried, Dead>
     requires room { 1 ≤ O.room m.old }
-    ensures does { RowLeaves O.Objects.own (primitive_object_at_put O.names)
-        is_done deed_of_trial m.old r.old result m.new r.new }
+    ensures does { RowTries O.Objects.own (primitive_object_at_put O.names) m.old r.old result m.new r.new }
     ensures takes { Takes O.Objects.own 1 m.old m.new }
 {
     let put = put_operands(m, r)?;
@@ -251,8 +250,7 @@ fn new_method<O: Objects>(m: &mut O, r: &Registers, shape: MethodShape) -> Resul
 #[tactic(auto, using(st_frames::proofs::Tries::effects), unfolding(st_model::specs::Storage::primitive_new_method))]
 pub fn primitive_new_method<O: Objects>(m: &mut O, r: &mut Registers) -> Result<Tried, Dead>
     requires room { 6 ≤ O.room m.old }
-    ensures does { RowLeaves O.Objects.own (primitive_new_method O.names)
-        is_done deed_of_trial m.old r.old result m.new r.new }
+    ensures does { RowTries O.Objects.own (primitive_new_method O.names) m.old r.old result m.new r.new }
     ensures takes { Takes O.Objects.own 6 m.old m.new }
 {
     let receiver = under(m, r, 2)?;

@@ -1,8 +1,7 @@
 ghost use Rattle.std.specs.Prelude.{◌≡◌, ◌≤◌, ◌+◌};
 ghost use Rattle.st_model.specs.Storage.{storage};
-ghost use Rattle.st_model.specs.Deeds.{is_done, deed_of_trial};
 ghost use Rattle.st_storage.specs.inside.Numbers.{takes_arguments};
-ghost use Rattle.st_frames.specs.inside.Rows.{RowLeaves, Takes, storage_changes};
+ghost use Rattle.st_frames.specs.inside.Rows.{RowTries, Takes, storage_changes};
 
 use crate::compiled_methods::{primitive_new_method, primitive_object_at, primitive_object_at_put};
 use crate::copying::primitive_copy_bits;
@@ -19,9 +18,9 @@ use crate::replacing::primitive_replace;
 use crate::space::{primitive_core_left, primitive_oops_left};
 use crate::streams::{primitive_at_end, primitive_next, primitive_next_put};
 use crate::strings::primitive_string_at;
-use st_frames::Registers;
+use st_frames::{Registers, Tried};
 use st_memory::Objects;
-use st_model::{Dead, Tried};
+use st_model::Dead;
 
 /// Whether a primitive on objects of this number takes so many arguments.
 fn takes_arguments(primitive: u32, arguments: u32) -> bool
@@ -65,8 +64,8 @@ pub fn try_storage<O: Objects>(
     arguments: u32,
 ) -> Result<Tried, Dead>
     requires room { storage_changes ≤ O.room m.old }
-    ensures does { RowLeaves O.Objects.own (storage O.names primitive arguments)
-        is_done deed_of_trial m.old r.old result m.new r.new }
+    ensures does { RowTries O.Objects.own (storage O.names primitive arguments)
+        m.old r.old result m.new r.new }
     ensures takes { Takes O.Objects.own storage_changes m.old m.new }
 {
     if !takes_arguments(primitive, arguments) {

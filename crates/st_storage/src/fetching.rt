@@ -1,16 +1,16 @@
 ghost use Rattle.std.specs.Prelude.{◌≡◌, ◌<◌, ◌≤◌, ◌+◌, true, false, IfOk};
 ghost use Rattle.st_model.specs.Values.{word};
 ghost use Rattle.st_model.specs.Storage.{fetch_element, primitive_at, primitive_size, primitive_instance_variable_at};
-ghost use Rattle.st_model.specs.Deeds.{is_done, deed_of_trial, copies_pixels};
+ghost use Rattle.st_model.specs.Deeds.{copies_pixels};
 ghost use Rattle.st_frames.specs.inside.Answering.{succeed_by, answer_word, answer_deed};
-ghost use Rattle.st_frames.specs.inside.Rows.{RowLeaves, Takes};
+ghost use Rattle.st_frames.specs.inside.Rows.{RowLeaves, RowTries, Takes, is_done};
 
 use crate::elements::{count_elements, place_at, place_behind_fixed};
 use crate::large::answer_integer;
 use crate::shapes::Indexed;
-use st_frames::{Answer, Registers, number, small, succeed_leaving, top, under};
+use st_frames::{Answer, Registers, Tried, number, small, succeed_leaving, top, under};
 use st_memory::Objects;
-use st_model::{Dead, Deed, Kind, Tried, Word};
+use st_model::{Dead, Deed, Kind, Word};
 
 /// The element at a place: a field, or the number of a word or byte.
 #[tactic(auto, using(st_frames::proofs::Doing::rows), unfolding(st_model::specs::Storage::fetch_element, st_model::specs::Storage::element_by, st_model::specs::Storage::word_number, st_model::specs::Storage::byte_number))]
@@ -53,9 +53,8 @@ fn answer_element<O: Objects>(
     place: u32,
 ) -> Result<Tried, Dead>
     requires room { 2 ≤ O.room m.old }
-    ensures does { RowLeaves O.Objects.own
-        (succeed_by O.names 1 (fetch_element O.names (word object) place))
-        is_done deed_of_trial m.old r.old result m.new r.new }
+    ensures does { RowTries O.Objects.own
+        (succeed_by O.names 1 (fetch_element O.names (word object) place)) m.old r.old result m.new r.new }
     ensures done { IfOk result (λ t. is_done t ≡ true) }
     ensures takes { Takes O.Objects.own 2 m.old m.new }
 {
@@ -67,8 +66,7 @@ fn answer_element<O: Objects>(
 #[tactic(auto, using(st_frames::proofs::Tries::effects), unfolding(st_model::specs::Storage::primitive_at))]
 pub fn primitive_at<O: Objects>(m: &mut O, r: &mut Registers) -> Result<Tried, Dead>
     requires room { 2 ≤ O.room m.old }
-    ensures does { RowLeaves O.Objects.own (primitive_at O.names)
-        is_done deed_of_trial m.old r.old result m.new r.new }
+    ensures does { RowTries O.Objects.own (primitive_at O.names) m.old r.old result m.new r.new }
     ensures takes { Takes O.Objects.own 2 m.old m.new }
     ensures still { IfOk result (λ t. is_done t ≡ false → m.new ≡ m.old) }
 {
@@ -87,8 +85,8 @@ pub fn primitive_instance_variable_at<O: Objects>(
     r: &mut Registers,
 ) -> Result<Tried, Dead>
     requires room { 2 ≤ O.room m.old }
-    ensures does { RowLeaves O.Objects.own (primitive_instance_variable_at O.names)
-        is_done deed_of_trial m.old r.old result m.new r.new }
+    ensures does { RowTries O.Objects.own (primitive_instance_variable_at O.names)
+        m.old r.old result m.new r.new }
     ensures takes { Takes O.Objects.own 2 m.old m.new }
 {
     let object = under(m, r, 1)?;
@@ -103,8 +101,7 @@ pub fn primitive_instance_variable_at<O: Objects>(
 #[tactic(auto, using(st_frames::proofs::Tries::effects), unfolding(st_model::specs::Storage::primitive_size))]
 pub fn primitive_size<O: Objects>(m: &mut O, r: &mut Registers) -> Result<Tried, Dead>
     requires room { 2 ≤ O.room m.old }
-    ensures does { RowLeaves O.Objects.own (primitive_size O.names)
-        is_done deed_of_trial m.old r.old result m.new r.new }
+    ensures does { RowTries O.Objects.own (primitive_size O.names) m.old r.old result m.new r.new }
     ensures takes { Takes O.Objects.own 2 m.old m.new }
 {
     let receiver = top(m, r)?;

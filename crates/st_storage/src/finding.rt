@@ -3,13 +3,12 @@ ghost use Rattle.st_model.specs.Values.{word};
 ghost use Rattle.st_model.specs.inside.Calls.{itself};
 ghost use Rattle.st_model.specs.Storage.{check_objects, exchange_and_answer, primitive_become, half_pointer, primitive_as_oop, kept_object_at, primitive_as_object, first_kept_instance, primitive_some_instance, instance_after, primitive_next_instance};
 ghost use Rattle.st_frames.specs.inside.Answering.{succeed_by};
-ghost use Rattle.st_model.specs.Deeds.{is_done, deed_of_trial};
-ghost use Rattle.st_frames.specs.inside.Rows.{RowReads, RowLeaves, Takes};
+ghost use Rattle.st_frames.specs.inside.Rows.{RowReads, RowTries, Takes};
 
 use crate::numbers::small_word;
-use st_frames::{Registers, bits_or_die, succeed_with, top, under};
+use st_frames::{Registers, Tried, bits_or_die, succeed_with, top, under};
 use st_memory::Objects;
-use st_model::{Dead, Tried, Word};
+use st_model::{Dead, Word};
 
 /// Two objects, of which none is a SmallInteger.
 #[tactic(auto, using(st_frames::proofs::Doing::rows), unfolding(st_model::specs::Storage::check_objects, st_model::specs::Storage::check_object))]
@@ -31,9 +30,9 @@ fn exchange_and_answer<O: Objects>(
     w: Word,
 ) -> Result<Tried, Dead>
     requires room { 2 ≤ O.room m.old }
-    ensures does { RowLeaves O.Objects.own
+    ensures does { RowTries O.Objects.own
         (succeed_by O.names 1 (exchange_and_answer O.names (word v) (word w)))
-        is_done deed_of_trial m.old r.old result m.new r.new }
+        m.old r.old result m.new r.new }
     ensures takes { Takes O.Objects.own 2 m.old m.new }
 {
     m.exchange(v, w)?;
@@ -44,8 +43,7 @@ fn exchange_and_answer<O: Objects>(
 #[tactic(auto, using(st_frames::proofs::Tries::effects), unfolding(st_model::specs::Storage::primitive_become))]
 pub fn primitive_become<O: Objects>(m: &mut O, r: &mut Registers) -> Result<Tried, Dead>
     requires room { 2 ≤ O.room m.old }
-    ensures does { RowLeaves O.Objects.own (primitive_become O.names)
-        is_done deed_of_trial m.old r.old result m.new r.new }
+    ensures does { RowTries O.Objects.own (primitive_become O.names) m.old r.old result m.new r.new }
     ensures takes { Takes O.Objects.own 2 m.old m.new }
 {
     let receiver = under(m, r, 1)?;
@@ -70,8 +68,7 @@ fn half_pointer<O: Objects>(m: &O, r: &Registers, v: Word) -> Result<u32, Dead>
 #[tactic(auto, using(st_frames::proofs::Tries::tries), unfolding(st_model::specs::Storage::primitive_as_oop))]
 pub fn primitive_as_oop<O: Objects>(m: &mut O, r: &mut Registers) -> Result<Tried, Dead>
     requires room { 1 ≤ O.room m.old }
-    ensures does { RowLeaves O.Objects.own (primitive_as_oop O.names)
-        is_done deed_of_trial m.old r.old result m.new r.new }
+    ensures does { RowTries O.Objects.own (primitive_as_oop O.names) m.old r.old result m.new r.new }
     ensures takes { Takes O.Objects.own 1 m.old m.new }
 {
     let receiver = top(m, r)?;
@@ -97,8 +94,7 @@ fn kept_object_at<O: Objects>(m: &O, r: &Registers, v: Word) -> Result<Word, Dea
 #[tactic(auto, using(st_frames::proofs::Tries::tries), unfolding(st_model::specs::Storage::primitive_as_object))]
 pub fn primitive_as_object<O: Objects>(m: &mut O, r: &mut Registers) -> Result<Tried, Dead>
     requires room { 1 ≤ O.room m.old }
-    ensures does { RowLeaves O.Objects.own (primitive_as_object O.names)
-        is_done deed_of_trial m.old r.old result m.new r.new }
+    ensures does { RowTries O.Objects.own (primitive_as_object O.names) m.old r.old result m.new r.new }
     ensures takes { Takes O.Objects.own 1 m.old m.new }
 {
     let receiver = top(m, r)?;
@@ -124,8 +120,7 @@ fn first_kept_instance<O: Objects>(m: &O, r: &Registers, class: Word) -> Result<
 #[tactic(auto, using(st_frames::proofs::Tries::tries), unfolding(st_model::specs::Storage::primitive_some_instance))]
 pub fn primitive_some_instance<O: Objects>(m: &mut O, r: &mut Registers) -> Result<Tried, Dead>
     requires room { 1 ≤ O.room m.old }
-    ensures does { RowLeaves O.Objects.own (primitive_some_instance O.names)
-        is_done deed_of_trial m.old r.old result m.new r.new }
+    ensures does { RowTries O.Objects.own (primitive_some_instance O.names) m.old r.old result m.new r.new }
     ensures takes { Takes O.Objects.own 1 m.old m.new }
 {
     let receiver = top(m, r)?;
@@ -152,8 +147,7 @@ fn instance_after<O: Objects>(m: &O, r: &Registers, v: Word) -> Result<Word, Dea
 #[tactic(auto, using(st_frames::proofs::Tries::tries), unfolding(st_model::specs::Storage::primitive_next_instance))]
 pub fn primitive_next_instance<O: Objects>(m: &mut O, r: &mut Registers) -> Result<Tried, Dead>
     requires room { 1 ≤ O.room m.old }
-    ensures does { RowLeaves O.Objects.own (primitive_next_instance O.names)
-        is_done deed_of_trial m.old r.old result m.new r.new }
+    ensures does { RowTries O.Objects.own (primitive_next_instance O.names) m.old r.old result m.new r.new }
     ensures takes { Takes O.Objects.own 1 m.old m.new }
 {
     let receiver = top(m, r)?;

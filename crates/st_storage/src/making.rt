@@ -8,14 +8,13 @@ ghost use Rattle.st_model.specs.Steps.{make};
 ghost use Rattle.st_model.specs.Primitives.{fixed_count};
 ghost use Rattle.st_frames.specs.inside.Answering.{succeed_by};
 ghost use Rattle.st_storage.specs.inside.Storing.{shape_in};
-ghost use Rattle.st_model.specs.Deeds.{is_done, deed_of_trial};
-ghost use Rattle.st_frames.specs.inside.Rows.{RowReads, RowLeaves, Takes};
+ghost use Rattle.st_frames.specs.inside.Rows.{RowReads, RowTries, Takes, is_done};
 
 use crate::numbers::{fixed_count, has_pointers, has_words, is_indexable, specification};
 use crate::shapes::Shape;
-use st_frames::{Registers, page, positive_value, succeed_with, top, under};
+use st_frames::{Registers, Tried, page, positive_value, succeed_with, top, under};
 use st_memory::Objects;
-use st_model::{Dead, Kind, PageObject, Tried, Word};
+use st_model::{Dead, Kind, PageObject, Word};
 
 /// Any class but CompiledMethod.
 #[tactic(auto, using(st_frames::proofs::Doing::rows, st_frames::proofs::Tries::tests, crate::proofs::Makeable::classes), unfolding(st_model::specs::Storage::check_not_method_class))]
@@ -70,9 +69,9 @@ fn answer_fixed<O: Objects>(
 ) -> Result<Tried, Dead>
     requires room { 2 ≤ O.room m.old }
     requires other { word class ≢ Ref (place_of MethodClass) }
-    ensures does { RowLeaves O.Objects.own
+    ensures does { RowTries O.Objects.own
         (succeed_by O.names 0 (make O.names (word class) (kind_of_fixed s) (fixed_count s) 0))
-        is_done deed_of_trial m.old r.old result m.new r.new }
+        m.old r.old result m.new r.new }
     ensures done { IfOk result (λ t. is_done t ≡ true) }
     ensures takes { Takes O.Objects.own 2 m.old m.new }
 {
@@ -84,8 +83,7 @@ fn answer_fixed<O: Objects>(
 #[tactic(auto, using(st_frames::proofs::Tries::effects), unfolding(st_model::specs::Storage::primitive_new))]
 pub fn primitive_new<O: Objects>(m: &mut O, r: &mut Registers) -> Result<Tried, Dead>
     requires room { 2 ≤ O.room m.old }
-    ensures does { RowLeaves O.Objects.own (primitive_new O.names)
-        is_done deed_of_trial m.old r.old result m.new r.new }
+    ensures does { RowTries O.Objects.own (primitive_new O.names) m.old r.old result m.new r.new }
     ensures takes { Takes O.Objects.own 2 m.old m.new }
     ensures still { IfOk result (λ t. is_done t ≡ false → m.new ≡ m.old) }
 {
@@ -161,9 +159,9 @@ fn answer_shaped<O: Objects>(
 ) -> Result<Tried, Dead>
     requires room { 33 ≤ O.room m.old }
     requires other { word class ≢ Ref (place_of MethodClass) }
-    ensures does { RowLeaves O.Objects.own
+    ensures does { RowTries O.Objects.own
         (succeed_by O.names 1 (make O.names (word class) shape.kind shape.size 0))
-        is_done deed_of_trial m.old r.old result m.new r.new }
+        m.old r.old result m.new r.new }
     ensures done { IfOk result (λ t. is_done t ≡ true) }
     ensures takes { Takes O.Objects.own 33 m.old m.new }
 {
@@ -175,8 +173,7 @@ fn answer_shaped<O: Objects>(
 #[tactic(auto, using(st_frames::proofs::Tries::effects), unfolding(st_model::specs::Storage::primitive_new_with))]
 pub fn primitive_new_with<O: Objects>(m: &mut O, r: &mut Registers) -> Result<Tried, Dead>
     requires room { 33 ≤ O.room m.old }
-    ensures does { RowLeaves O.Objects.own (primitive_new_with O.names)
-        is_done deed_of_trial m.old r.old result m.new r.new }
+    ensures does { RowTries O.Objects.own (primitive_new_with O.names) m.old r.old result m.new r.new }
     ensures takes { Takes O.Objects.own 33 m.old m.new }
     ensures still { IfOk result (λ t. is_done t ≡ false → m.new ≡ m.old) }
 {

@@ -3,17 +3,17 @@ ghost use Rattle.st_model.specs.Values.{word};
 ghost use Rattle.st_model.specs.Storage.{store_element, store_and_answer, primitive_at_put, primitive_string_at_put, primitive_instance_variable_at_put};
 ghost use Rattle.st_model.specs.Steps.{store_word, store_byte};
 ghost use Rattle.st_model.specs.inside.Calls.{itself};
-ghost use Rattle.st_model.specs.Deeds.{is_done, deed_of_trial, copies_pixels};
+ghost use Rattle.st_model.specs.Deeds.{copies_pixels};
 ghost use Rattle.st_frames.specs.inside.Answering.{IsOfKind, succeed_by, answer_word, answer_deed, no_word};
 ghost use Rattle.st_storage.specs.inside.Storing.{storing_in};
-ghost use Rattle.st_frames.specs.inside.Rows.{RowLeaves, Takes};
+ghost use Rattle.st_frames.specs.inside.Rows.{RowLeaves, RowTries, Takes, is_done};
 
 use crate::shapes::Storing;
 use crate::storing::{put_operands, storing_behind_fixed, storing_by_index};
 use crate::strings::storing_character;
-use st_frames::{Answer, Registers, succeed_leaving};
+use st_frames::{Answer, Registers, Tried, succeed_leaving};
 use st_memory::Objects;
-use st_model::{Dead, Deed, Kind, Tried, Word};
+use st_model::{Dead, Deed, Kind, Word};
 
 /// A word of an object is left to be stored.
 fn store_word<O: Objects>(
@@ -91,9 +91,9 @@ fn store_and_answer<O: Objects>(m: &mut O, r: &Registers, s: Storing) -> Result<
 fn answer_stored<O: Objects>(m: &mut O, r: &mut Registers, s: Storing) -> Result<Tried, Dead>
     requires kind { IsOfKind O.Objects.own m.old s.object s.kind }
     requires room { 2 ≤ O.room m.old }
-    ensures does { RowLeaves O.Objects.own
+    ensures does { RowTries O.Objects.own
         (succeed_by O.names 2 (store_and_answer O.names (word s.object) (word s.value) (storing_in s)))
-        is_done deed_of_trial m.old r.old result m.new r.new }
+        m.old r.old result m.new r.new }
     ensures done { IfOk result (λ t. is_done t ≡ true) }
     ensures takes { Takes O.Objects.own 2 m.old m.new }
 {
@@ -106,8 +106,7 @@ fn answer_stored<O: Objects>(m: &mut O, r: &mut Registers, s: Storing) -> Result
 #[tactic(auto, using(st_frames::proofs::Tries::effects), unfolding(st_model::specs::Storage::primitive_at_put))]
 pub fn primitive_at_put<O: Objects>(m: &mut O, r: &mut Registers) -> Result<Tried, Dead>
     requires room { 2 ≤ O.room m.old }
-    ensures does { RowLeaves O.Objects.own (primitive_at_put O.names)
-        is_done deed_of_trial m.old r.old result m.new r.new }
+    ensures does { RowTries O.Objects.own (primitive_at_put O.names) m.old r.old result m.new r.new }
     ensures takes { Takes O.Objects.own 2 m.old m.new }
     ensures still { IfOk result (λ t. is_done t ≡ false → m.new ≡ m.old) }
 {
@@ -125,8 +124,8 @@ pub fn primitive_instance_variable_at_put<O: Objects>(
     r: &mut Registers,
 ) -> Result<Tried, Dead>
     requires room { 2 ≤ O.room m.old }
-    ensures does { RowLeaves O.Objects.own (primitive_instance_variable_at_put O.names)
-        is_done deed_of_trial m.old r.old result m.new r.new }
+    ensures does { RowTries O.Objects.own (primitive_instance_variable_at_put O.names)
+        m.old r.old result m.new r.new }
     ensures takes { Takes O.Objects.own 2 m.old m.new }
 {
     let put = put_operands(m, r)?;
@@ -140,8 +139,7 @@ pub fn primitive_instance_variable_at_put<O: Objects>(
 #[tactic(auto, using(st_frames::proofs::Tries::effects), unfolding(st_model::specs::Storage::primitive_string_at_put))]
 pub fn primitive_string_at_put<O: Objects>(m: &mut O, r: &mut Registers) -> Result<Tried, Dead>
     requires room { 2 ≤ O.room m.old }
-    ensures does { RowLeaves O.Objects.own (primitive_string_at_put O.names)
-        is_done deed_of_trial m.old r.old result m.new r.new }
+    ensures does { RowTries O.Objects.own (primitive_string_at_put O.names) m.old r.old result m.new r.new }
     ensures takes { Takes O.Objects.own 2 m.old m.new }
 {
     let put = put_operands(m, r)?;

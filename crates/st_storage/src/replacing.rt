@@ -3,17 +3,17 @@ ghost use Rattle.st_model.specs.declared.kind.Kind.TheVariants.{Bytes};
 ghost use Rattle.st_model.specs.Values.{word};
 ghost use Rattle.st_model.specs.Storage.{checked_replacing, replacing, replace_and_answer, primitive_replace};
 ghost use Rattle.st_model.specs.Steps.{fetch_bytes};
-ghost use Rattle.st_model.specs.Deeds.{bytes_from, is_done, deed_of_trial, copies_pixels};
+ghost use Rattle.st_model.specs.Deeds.{bytes_from, copies_pixels};
 ghost use Rattle.st_frames.specs.inside.Answering.{IsOfKind, answer_word, answer_deed};
 ghost use Rattle.st_storage.specs.inside.Storing.{replacing_in, IsFewBytes};
-ghost use Rattle.st_frames.specs.inside.Rows.{RowReads, RowLeaves, Takes};
+ghost use Rattle.st_frames.specs.inside.Rows.{RowReads, RowLeaves, RowTries, Takes};
 
 use crate::shapes::Replacing;
 use st_frames::{
-    Answer, Registers, check_bytes, find_bytes, positive_small, succeed_leaving, top, under,
+    Answer, Registers, Tried, check_bytes, find_bytes, positive_small, succeed_leaving, top, under,
 };
 use st_memory::Objects;
-use st_model::{Dead, Deed, Tried, Word};
+use st_model::{Dead, Deed, Word};
 
 /// Bytes that are in both objects.
 #[tactic(auto, using(st_frames::proofs::Doing::checks), unfolding(st_model::specs::Storage::checked_replacing))]
@@ -136,8 +136,7 @@ fn replace_and_answer<O: Objects>(
 #[tactic(auto, using(st_frames::proofs::Tries::effects), unfolding(st_model::specs::Storage::primitive_replace))]
 pub fn primitive_replace<O: Objects>(m: &mut O, r: &mut Registers) -> Result<Tried, Dead>
     requires room { 1 ≤ O.room m.old }
-    ensures does { RowLeaves O.Objects.own (primitive_replace O.names)
-        is_done deed_of_trial m.old r.old result m.new r.new }
+    ensures does { RowTries O.Objects.own (primitive_replace O.names) m.old r.old result m.new r.new }
     ensures takes { Takes O.Objects.own 1 m.old m.new }
 {
     let receiver = under(m, r, 4)?;

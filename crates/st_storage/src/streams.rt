@@ -5,10 +5,10 @@ ghost use Rattle.st_model.specs.inside.Calls.{itself};
 ghost use Rattle.st_model.specs.Primitives.{truth};
 ghost use Rattle.st_model.specs.Storage.{has_characters, is_at_end, primitive_at_end, stream_place, position_below, stream_standing, stream_element, take_next, primitive_next, stream_unit, stream_putting, put_next, primitive_next_put};
 ghost use Rattle.st_model.specs.Steps.{store_field};
-ghost use Rattle.st_model.specs.Deeds.{is_done, deed_of_trial, copies_pixels};
+ghost use Rattle.st_model.specs.Deeds.{copies_pixels};
 ghost use Rattle.st_frames.specs.inside.Answering.{IsOfKind, succeed_by, answer_word, answer_deed};
 ghost use Rattle.st_storage.specs.inside.Storing.{element_unit, are_characters, standing_in, StandsIn, putting_in};
-ghost use Rattle.st_frames.specs.inside.Rows.{RowReads, RowDoes, RowLeaves, Takes};
+ghost use Rattle.st_frames.specs.inside.Rows.{RowReads, RowDoes, RowLeaves, RowTries, Takes};
 
 use crate::elements::place_of_element;
 use crate::fetching::fetch_element;
@@ -18,11 +18,11 @@ use crate::shapes::{Element, Elements, Putting, Standing, Storing};
 use crate::storing::unit_of_element;
 use crate::strings::{character_byte, fetch_character};
 use st_frames::{
-    Answer, Registers, check_bytes, fetch_integer, page, small, succeed_leaving, succeed_with, top,
-    under,
+    Answer, Registers, Tried, check_bytes, fetch_integer, page, small, succeed_leaving,
+    succeed_with, top, under,
 };
 use st_memory::Objects;
-use st_model::{Dead, Deed, Kind, PageObject, Tried, Word};
+use st_model::{Dead, Deed, Kind, PageObject, Word};
 
 /// What the elements of a collection are.
 #[tactic(auto, using(st_frames::proofs::Doing::rows), unfolding(st_model::specs::Storage::has_characters, st_model::specs::Storage::characters_or_not))]
@@ -71,8 +71,7 @@ fn truth<O: Objects>(m: &O, r: &Registers, holds: bool) -> Word
 #[tactic(auto, using(st_frames::proofs::Tries::tries), unfolding(st_model::specs::Storage::primitive_at_end))]
 pub fn primitive_at_end<O: Objects>(m: &mut O, r: &mut Registers) -> Result<Tried, Dead>
     requires room { 1 ≤ O.room m.old }
-    ensures does { RowLeaves O.Objects.own (primitive_at_end O.names)
-        is_done deed_of_trial m.old r.old result m.new r.new }
+    ensures does { RowTries O.Objects.own (primitive_at_end O.names) m.old r.old result m.new r.new }
     ensures takes { Takes O.Objects.own 1 m.old m.new }
 {
     let receiver = top(m, r)?;
@@ -207,8 +206,7 @@ fn take_next<O: Objects>(m: &mut O, r: &Registers, s: Standing) -> Result<Answer
 #[tactic(auto, using(st_frames::proofs::Tries::effects), unfolding(st_model::specs::Storage::primitive_next))]
 pub fn primitive_next<O: Objects>(m: &mut O, r: &mut Registers) -> Result<Tried, Dead>
     requires room { 3 ≤ O.room m.old }
-    ensures does { RowLeaves O.Objects.own (primitive_next O.names)
-        is_done deed_of_trial m.old r.old result m.new r.new }
+    ensures does { RowTries O.Objects.own (primitive_next O.names) m.old r.old result m.new r.new }
     ensures takes { Takes O.Objects.own 3 m.old m.new }
 {
     let receiver = top(m, r)?;
@@ -302,9 +300,9 @@ fn answer_put<O: Objects>(m: &mut O, r: &mut Registers, p: Putting) -> Result<Tr
     requires stands { StandsIn O.Objects.own m.old p.standing }
     requires kind { IsOfKind O.Objects.own m.old p.standing.collection p.kind }
     requires room { 3 ≤ O.room m.old }
-    ensures does { RowLeaves O.Objects.own
+    ensures does { RowTries O.Objects.own
         (succeed_by O.names 1 (put_next O.names (word p.standing.stream) (word p.value) (putting_in p)))
-        is_done deed_of_trial m.old r.old result m.new r.new }
+        m.old r.old result m.new r.new }
     ensures takes { Takes O.Objects.own 3 m.old m.new }
 {
     let answer = put_next(m, r, p)?;
@@ -315,8 +313,7 @@ fn answer_put<O: Objects>(m: &mut O, r: &mut Registers, p: Putting) -> Result<Tr
 #[tactic(auto, using(st_frames::proofs::Tries::effects), unfolding(st_model::specs::Storage::primitive_next_put))]
 pub fn primitive_next_put<O: Objects>(m: &mut O, r: &mut Registers) -> Result<Tried, Dead>
     requires room { 3 ≤ O.room m.old }
-    ensures does { RowLeaves O.Objects.own (primitive_next_put O.names)
-        is_done deed_of_trial m.old r.old result m.new r.new }
+    ensures does { RowTries O.Objects.own (primitive_next_put O.names) m.old r.old result m.new r.new }
     ensures takes { Takes O.Objects.own 3 m.old m.new }
 {
     let receiver = under(m, r, 1)?;

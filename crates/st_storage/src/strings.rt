@@ -5,15 +5,14 @@ ghost use Rattle.st_model.specs.inside.Calls.{itself};
 ghost use Rattle.st_model.specs.Storage.{fetch_character, place_in_bytes, character_at, primitive_string_at, character_byte, storing_character};
 ghost use Rattle.st_frames.specs.inside.Answering.{IsOfKind};
 ghost use Rattle.st_storage.specs.inside.Storing.{storing_in, IsStoringOf};
-ghost use Rattle.st_model.specs.Deeds.{is_done, deed_of_trial};
-ghost use Rattle.st_frames.specs.inside.Rows.{RowReads, RowLeaves, Takes};
+ghost use Rattle.st_frames.specs.inside.Rows.{RowReads, RowTries, Takes};
 
 use crate::elements::place_at;
 use crate::numbers::byte_or_die;
 use crate::shapes::{Indexed, Put, Storing};
-use st_frames::{Registers, check_bytes, check_class, page, succeed_with, top, under};
+use st_frames::{Registers, Tried, check_bytes, check_class, page, succeed_with, top, under};
 use st_memory::Objects;
-use st_model::{Dead, Kind, PageObject, Tried, Word};
+use st_model::{Dead, Kind, PageObject, Word};
 
 /// The Character of a byte.
 #[tactic(auto, using(st_frames::proofs::Doing::rows), unfolding(st_model::specs::Storage::fetch_character))]
@@ -50,8 +49,7 @@ fn character_at<O: Objects>(m: &O, r: &Registers, x: Indexed) -> Result<Word, De
 #[tactic(auto, using(st_frames::proofs::Tries::tries), unfolding(st_model::specs::Storage::primitive_string_at))]
 pub fn primitive_string_at<O: Objects>(m: &mut O, r: &mut Registers) -> Result<Tried, Dead>
     requires room { 1 ≤ O.room m.old }
-    ensures does { RowLeaves O.Objects.own (primitive_string_at O.names)
-        is_done deed_of_trial m.old r.old result m.new r.new }
+    ensures does { RowTries O.Objects.own (primitive_string_at O.names) m.old r.old result m.new r.new }
     ensures takes { Takes O.Objects.own 1 m.old m.new }
 {
     let object = under(m, r, 1)?;

@@ -1,17 +1,23 @@
 -- The state over the table that the objects and the registers of a row make, and what a call of a row does to it.
-use Rattle.std.specs.Prelude.{◌≡◌, ℕ, ◌+◌, ◌≤◌, Result, Ok, Err}
+use Rattle.std.specs.Prelude.{◌≡◌, ℕ, ◌+◌, ◌≤◌, Bool, true, false, Result, Ok, Err}
 use Rattle.st_model.specs.declared.dead.Dead.{Dead}
 use Rattle.st_model.specs.declared.deed.Deed.{Deed}
-use Rattle.st_model.specs.declared.tried.Tried.{Tried}
-use Rattle.st_model.specs.declared.tried.Tried.TheVariants.{Done, Failed}
+use Rattle.st_model.specs.declared.deed.Deed.TheVariants.{Nothing}
+use Rattle.st_model.specs.declared.outcome.StepEnd.{StepEnd}
+use Rattle.st_model.specs.declared.outcome.StepEnd.TheVariants as ends
+use Rattle.st_model.specs.Outcomes.{Outcome, end_of}
 use Rattle.st_model.specs.Values.{word}
 use Rattle.st_model.specs.Machine.{Registers, Head, State, Step}
 use Rattle.st_model.specs.Table.{Table}
 use Rattle.st_model.specs.inside.Calls.{Does}
-use Rattle.st_model.specs.Deeds.{with_deed}
+use Rattle.st_model.specs.Deeds.{with_deed, deed_of_end}
 use Rattle.st_memory.specs.declared.objects.Objects.{Ghosts}
 use Rattle.st_frames.specs.declared.registers.Registers.{Registers as Words}
 use Rattle.st_frames.specs.declared.fetched.Fetched.{Fetched}
+use Rattle.st_frames.specs.declared.tried.Tried.{Tried}
+use Rattle.st_frames.specs.declared.tried.Tried.TheVariants.{Failed, Done, Leaves}
+use Rattle.st_frames.specs.declared.ending.RowEnd.{RowEnd}
+use Rattle.st_frames.specs.declared.ending.RowEnd.TheVariants as rows
 
 abbrev pub registers_in : Words → Registers
 registers_in r = record { active = word r.active; home = word r.home; method = word r.method; receiver = word r.receiver; ip = r.ip; sp = r.sp }
@@ -51,6 +57,41 @@ pub record RowLeaves {M A B : Type 0} (o : Ghosts M) (step : Step Table A) (f : 
   pub does : Does step f (state_of o m r) result (with_left g result (state_of o n q))
   pub world : q.world.now ≡ r.world.now
 
+-- whether a primitive succeeded that was tried
+abbrev pub is_done : Tried → Bool
+is_done Failed = false
+is_done Done = true
+is_done Leaves = true
+
+-- and which deed it leaves to be done, if this is the one in the registers
+abbrev pub deed_of_trial : Deed → Tried → Deed
+deed_of_trial left Failed = Nothing
+deed_of_trial left Done = Nothing
+deed_of_trial left Leaves = left
+
+-- the call tries a primitive, which is this step but for the deed that it leaves in the registers
+abbrev pub RowTries : {M : Type 0} → Ghosts M → Step Table Bool → M → Words → Result Tried Dead → M → Words → Type 0
+RowTries o step m r result n q = RowLeaves o step is_done (deed_of_trial q.left) m r result n q
+
+-- how a step ended whose row left these registers
+abbrev pub end_in : Words → RowEnd → StepEnd
+end_in q rows.Went = ends.Went Nothing
+end_in q rows.Leaves = ends.Went q.left
+end_in q rows.Says = ends.Says q.said
+end_in q rows.Snapshot = ends.Snapshot
+end_in q rows.Quit = ends.Quit
+end_in q rows.Debugger = ends.Debugger
+
+abbrev pub outcome_in : Words → RowEnd → Outcome
+outcome_in q end = end_of (end_in q end)
+
+abbrev pub deed_in : Words → RowEnd → Deed
+deed_in q end = deed_of_end (end_in q end)
+
+-- the call is this step but for the deed that it leaves in the registers
+abbrev pub RowEnds : {M : Type 0} → Ghosts M → Step Table Outcome → M → Words → Result RowEnd Dead → M → Words → Type 0
+RowEnds o step m r result n q = RowLeaves o step (outcome_in q) (deed_in q) m r result n q
+
 -- the call takes at most so many changes, and leaves what is fixed
 pub record Takes {M : Type 0} (o : Ghosts M) (most : ℕ) (old new : M) : Type 0 where
   pub room : o.room old ≤ o.room new + most
@@ -59,7 +100,8 @@ pub record Takes {M : Type 0} (o : Ghosts M) (most : ℕ) (old new : M) : Type 0
 -- of a primitive that was tried: none where it failed
 abbrev pub tried_changes : ℕ → Result Tried Dead → ℕ
 tried_changes most (Ok Failed) = 0
-tried_changes most (Ok (Done deed)) = most
+tried_changes most (Ok Done) = most
+tried_changes most (Ok Leaves) = most
 tried_changes most (Err cause) = most
 
 -- Bounds of how many changes are made. An object that is made counts as one, and as one more for each 2,048 words of its body.

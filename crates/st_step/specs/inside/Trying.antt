@@ -7,9 +7,6 @@ use Rattle.st_model.specs.declared.deed.Deed.TheVariants.{Nothing}
 use Rattle.st_model.specs.declared.dead.Dead.{Dead}
 use Rattle.st_model.specs.declared.dead.Dead.TheVariants as dead
 use Rattle.st_model.specs.declared.outcome.StepEnd.{StepEnd}
-use Rattle.st_model.specs.declared.outcome.StepEnd.TheVariants as ends
-use Rattle.st_model.specs.declared.tried.Tried.{Tried as FamilyTried}
-use Rattle.st_model.specs.declared.tried.Tried.TheVariants as family
 use Rattle.st_model.specs.Values.{Value}
 use Rattle.st_model.specs.Outcomes.{Outcome, outcome_of, end_of}
 use Rattle.st_model.specs.Outcomes as outcome
@@ -28,7 +25,13 @@ use Rattle.st_model.specs.Executing.{goes_on, asks, is_from, takes, execute_foun
 use Rattle.st_model.specs.Table.{Table}
 use Rattle.st_model.specs.View.{View}
 use Rattle.st_frames.specs.declared.frame.Frame.{Frame}
-use Rattle.st_frames.specs.inside.Rows.{storage_changes}
+use Rattle.st_frames.specs.declared.registers.Registers.{Registers as Words}
+use Rattle.st_frames.specs.declared.ending.RowEnd.{RowEnd}
+use Rattle.st_frames.specs.declared.ending.RowEnd.TheVariants as rows
+use Rattle.st_frames.specs.declared.tried.Tried.{Tried as FamilyTried}
+use Rattle.st_frames.specs.declared.tried.Tried.TheVariants as family
+use Rattle.st_frames.specs.inside.Rows.{RowLeaves, end_in, storage_changes}
+use Rattle.st_memory.specs.declared.objects.Objects.{Ghosts}
 use Rattle.st_input.specs.declared.tried.Tried.{Tried}
 use Rattle.st_input.specs.declared.tried.Tried.TheVariants as trials
 
@@ -60,14 +63,29 @@ abbrev pub deed_if_any : Option StepEnd → Deed
 deed_if_any None = Nothing
 deed_if_any (Some end) = deed_of_end end
 
+-- how a primitive ended, if it didn't fail, whose row left these registers
+abbrev pub ended_in : Words → Option RowEnd → Option StepEnd
+ended_in q x = option_map (end_in q) x
+
+abbrev pub outcome_if_any : Words → Option RowEnd → Option Outcome
+outcome_if_any q x = end_if_any (ended_in q x)
+
+abbrev pub deed_left_if_any : Words → Option RowEnd → Deed
+deed_left_if_any q x = deed_if_any (ended_in q x)
+
+-- the call tries a primitive by its number, which is this step but for the deed that it leaves in the registers
+abbrev pub RowResponds : {M : Type 0} → Ghosts M → Step Table (Option Outcome) → M → Words → Result (Option RowEnd) Dead → M → Words → Type 0
+RowResponds o step m r result n q = RowLeaves o step (outcome_if_any q) (deed_left_if_any q) m r result n q
+
 -- the end of a primitive that its family tried; none where it failed
-abbrev pub end_of_trial : FamilyTried → Option StepEnd
+abbrev pub end_of_trial : FamilyTried → Option RowEnd
 end_of_trial family.Failed = None
-end_of_trial (family.Done deed) = Some (ends.Went deed)
+end_of_trial family.Done = Some rows.Went
+end_of_trial family.Leaves = Some rows.Leaves
 
 -- How many changes a primitive makes that is tried by its number: where it failed, no more than one on objects, so that its
 -- method can be activated.
-abbrev pub number_changes : ℕ → Result (Option StepEnd) Dead → ℕ
+abbrev pub number_changes : ℕ → Result (Option RowEnd) Dead → ℕ
 number_changes most (Ok None) = storage_changes
 number_changes most (Ok (Some end)) = most
 number_changes most (Err cause) = most

@@ -65,4 +65,4 @@ returns-in-None-clause-still g c e =
     let v = g.M.Memory.view c.args.m.now in
     let u = g.M.Memory.view c.tried_number.new.m in
     let row = row_as c.args.n c.from.result c.args.args c.from.ensures v c.args.f.now c.args.w.now c.load-r.result c.load-r.ensures.registers c.load-r.ensures.world _ c.in_ok-ended.ensures.does.does in
-    (view_still c.args.n c.args.args u v c.args.f.now c.args.w.now c.in_ok-ended.ended c.tried_number.new.r c.in-None.is row (ap (λ (x : View). x.held) c.in_ok-ended.ensures.takes.fixed), refl, refl)
+    (view_still c.args.n c.args.args u v c.args.f.now c.args.w.now c.in_ok-ended.ended c.tried_number.new.r c.in-None.is row (ap (λ (x : View). x.held) c.in_ok-ended.ensures.fixed), refl, refl)
