@@ -1,10 +1,9 @@
 -- A primitive that is called by its number, over a memory: what it leaves, and what is there then.
 use Rattle.std.proofs.Common.{◌≡◌, ◌<◌, ◌≤◌, ◌+◌, ℕ, Bool, true, false, Option, Some, None, refl, sym, ap, subst, ◌∙◌, arith}
-use Rattle.std.specs.Prelude.{◌&&◌, Ok}
+use Rattle.std.specs.Prelude.{◌&&◌}
 use Rattle.st_model.specs.declared.dead.Dead.{Dead}
 use Rattle.st_model.specs.declared.dead.Dead.TheVariants as dead
 use Rattle.st_model.specs.declared.deed.Deed.{Deed}
-use Rattle.st_model.specs.declared.outcome.StepEnd.{StepEnd}
 use Rattle.st_model.specs.Values.{Value, Small, Ref}
 use Rattle.st_model.specs.Outcomes.{Outcome}
 use Rattle.st_model.specs.Outcomes as outcome
@@ -16,11 +15,12 @@ use Rattle.st_model.specs.View.{View}
 use Rattle.st_model.proofs.Runs.{check-not_below}
 use Rattle.st_simulation.proofs.Deeds.{deed_leaves_there}
 use Rattle.st_frames.specs.declared.registers.Registers.{Registers as Words}
-use Rattle.st_frames.specs.inside.Rows.{row_state, registers_in, with_left}
+use Rattle.st_frames.specs.declared.ending.RowEnd.{RowEnd}
+use Rattle.st_frames.specs.inside.Rows.{row_state, registers_in}
 use Rattle.st_frames.specs.declared.frame.Frame.{Frame}
 use Rattle.st_frames.specs.inside.Shown.{shown, registers_of}
 use Rattle.st_input.specs.declared.tried.Tried.{Tried}
-use Rattle.st_step.specs.inside.Trying.{tried_number, is_said_there, names_what_is_there, try_primitive, end_if_any, deed_if_any, outcome_of_trial}
+use Rattle.st_step.specs.inside.Trying.{tried_number, is_said_there, names_what_is_there, try_primitive, outcome_if_any, deed_if_any, outcome_of_trial}
 use Rattle.st_step.proofs.Failing.{failed_still}
 use Rattle.st_step.proofs.Stepped.{from_row}
 
@@ -60,11 +60,6 @@ there_with d s o =
     let b : is_said_there bounded_table (deed_done d s.memory) o ≡ is_said_there table s.memory o = said_there (deed_done d s.memory) o ∙ said_after d s.memory o in
     λ i. a i && b i
 
-left_there : (x : Option StepEnd) (s : State Table) (o : Option Outcome)
-    → (are_there bounded_table (with_left deed_if_any (Ok x) s).memory (with_left deed_if_any (Ok x) s).registers && is_said_there bounded_table (with_left deed_if_any (Ok x) s).memory o)
-    ≡ (are_there table s.memory s.registers && is_said_there table s.memory o)
-left_there x s o = there_with (deed_if_any x) s o
-
 -- what a primitive comes to whose row is done, where what is named is there, or isn't
 checked : (k : Dead) (b c : Bool) (o : Option Outcome) (t : State Table) → b ≡ c → c ≡ true → after ((check k b).run t) (λ u v. (answer o).run v) ≡ Went o t
 unfolding check after answer die
@@ -81,25 +76,25 @@ module _ (p n : ℕ) (s : State Table) where
   unfolding try_primitive ◌>>=◌ ◌>>◌ after
   dies k e = rw e refl
 
-  module _ (x : Option StepEnd) (t : Table) (a : Head) (r : Words) (does : (tried_number bounded_table p n).run s ≡ Went (end_if_any x) (with_left deed_if_any (Ok x) (row_state t a r))) where
-    pub ends : are_there table t (registers_in r) ≡ true → is_said_there table t (end_if_any x) ≡ true
-        → (try_primitive bounded_table p n).run s ≡ Went (end_if_any x) (with_left deed_if_any (Ok x) (row_state t a r))
+  module _ (x : Option RowEnd) (t : Table) (a : Head) (r : Words) (does : (tried_number bounded_table p n).run s ≡ Went (outcome_if_any r x) (with_deed (deed_if_any r x) (row_state t a r))) where
+    pub ends : are_there table t (registers_in r) ≡ true → is_said_there table t (outcome_if_any r x) ≡ true
+        → (try_primitive bounded_table p n).run s ≡ Went (outcome_if_any r x) (with_deed (deed_if_any r x) (row_state t a r))
     unfolding try_primitive names_what_is_there ◌>>=◌ ◌>>◌ after row_state
     ends h g =
-        let w : (are_there table t (registers_in r) && is_said_there table t (end_if_any x)) ≡ true = rw (h, g) refl in
-        rw does (checked dead.Kind _ _ (end_if_any x) _ (left_there x (row_state t a r) (end_if_any x)) w)
+        let w : (are_there table t (registers_in r) && is_said_there table t (outcome_if_any r x)) ≡ true = rw (h, g) refl in
+        rw does (checked dead.Kind _ _ (outcome_if_any r x) _ (there_with (deed_if_any r x) (row_state t a r) (outcome_if_any r x)) w)
 
     pub registers_gone : are_there table t (registers_in r) ≡ false → (try_primitive bounded_table p n).run s ≡ Died dead.Kind
     unfolding try_primitive names_what_is_there ◌>>=◌ ◌>>◌ after row_state
     registers_gone h =
-        let w : (are_there table t (registers_in r) && is_said_there table t (end_if_any x)) ≡ false = rw h refl in
-        rw does (unchecked dead.Kind _ _ (end_if_any x) _ (left_there x (row_state t a r) (end_if_any x)) w)
+        let w : (are_there table t (registers_in r) && is_said_there table t (outcome_if_any r x)) ≡ false = rw h refl in
+        rw does (unchecked dead.Kind _ _ (outcome_if_any r x) _ (there_with (deed_if_any r x) (row_state t a r) (outcome_if_any r x)) w)
 
-    pub said_gone : are_there table t (registers_in r) ≡ true → is_said_there table t (end_if_any x) ≡ false → (try_primitive bounded_table p n).run s ≡ Died dead.Kind
+    pub said_gone : are_there table t (registers_in r) ≡ true → is_said_there table t (outcome_if_any r x) ≡ false → (try_primitive bounded_table p n).run s ≡ Died dead.Kind
     unfolding try_primitive names_what_is_there ◌>>=◌ ◌>>◌ after row_state
     said_gone h g =
-        let w : (are_there table t (registers_in r) && is_said_there table t (end_if_any x)) ≡ false = rw (h, g) refl in
-        rw does (unchecked dead.Kind _ _ (end_if_any x) _ (left_there x (row_state t a r) (end_if_any x)) w)
+        let w : (are_there table t (registers_in r) && is_said_there table t (outcome_if_any r x)) ≡ false = rw (h, g) refl in
+        rw does (unchecked dead.Kind _ _ (outcome_if_any r x) _ (there_with (deed_if_any r x) (row_state t a r) (outcome_if_any r x)) w)
 
 -- no stack has so many words
 pub too_many : (p n : ℕ) (s : State Table) → s.registers.sp ≤ 16388 → 16383 < n → (try_primitive bounded_table p n).run s ≡ Died dead.Sp
@@ -112,13 +107,13 @@ pub row_as : (p q n : ℕ) → q ≡ p → (v : View) (f : Frame) (w : World) (r
 row_as p q n e v f w r same world x does = subst (λ k. (tried_number bounded_table k n).run (shown v f w) ≡ x) e (from_row (tried_number bounded_table q n) v f w r x same world does)
 
 -- where it failed, the memory is as it was
-module _ (p n : ℕ) (u v : View) (f : Frame) (w : World) (x : Option StepEnd) (r : Words) (none : x ≡ None)
-    (does : (tried_number bounded_table p n).run (shown v f w) ≡ Went (end_if_any x) (with_left deed_if_any (Ok x) (row_state u.objects u.head r))) where
-  left_still : with_left deed_if_any (Ok x) (row_state u.objects u.head r) ≡ shown v f w
-  left_still = failed_still bounded_table p n (shown v f w) (with_left deed_if_any (Ok x) (row_state u.objects u.head r)) (does ∙ ap (λ y. Went (end_if_any y) (with_left deed_if_any (Ok x) (row_state u.objects u.head r))) none)
+module _ (p n : ℕ) (u v : View) (f : Frame) (w : World) (x : Option RowEnd) (r : Words) (none : x ≡ None)
+    (does : (tried_number bounded_table p n).run (shown v f w) ≡ Went (outcome_if_any r x) (with_deed (deed_if_any r x) (row_state u.objects u.head r))) where
+  left_still : with_deed (deed_if_any r x) (row_state u.objects u.head r) ≡ shown v f w
+  left_still = failed_still bounded_table p n (shown v f w) (with_deed (deed_if_any r x) (row_state u.objects u.head r)) (does ∙ ap (λ y. Went (outcome_if_any r y) (with_deed (deed_if_any r x) (row_state u.objects u.head r))) none)
 
   row_still : row_state u.objects u.head r ≡ shown v f w
-  row_still = sym (ap (λ y. with_left deed_if_any (Ok y) (row_state u.objects u.head r)) none) ∙ left_still
+  row_still = sym (ap (λ y. with_deed (deed_if_any r y) (row_state u.objects u.head r)) none) ∙ left_still
 
   pub objects_still : u.objects ≡ v.objects
   unfolding row_state
@@ -131,7 +126,7 @@ module _ (p n : ℕ) (u v : View) (f : Frame) (w : World) (x : Option StepEnd) (
   pub view_still : u.held ≡ v.held → u ≡ v
   view_still e = let o = objects_still in let h = head_still in λ i. record { objects = o i; held = e i; head = h i }
 
-  pub fails : (t : Tried) → outcome_of_trial t ≡ end_if_any x → are_there table u.objects (registers_in r) ≡ true → is_said_there table u.objects (end_if_any x) ≡ true
+  pub fails : (t : Tried) → outcome_of_trial t ≡ outcome_if_any r x → are_there table u.objects (registers_in r) ≡ true → is_said_there table u.objects (outcome_if_any r x) ≡ true
       → (try_primitive bounded_table p n).run (shown v f w) ≡ Went (outcome_of_trial t) (shown u f w)
   fails t e there said =
       let o = objects_still in

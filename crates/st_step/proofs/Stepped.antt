@@ -4,19 +4,18 @@ use Rattle.std.specs.Prelude.{Result, ◌+◌, length}
 use Rattle.st_model.specs.declared.dead.Dead.{Dead}
 use Rattle.st_model.specs.declared.demand.Demand.{Demand}
 use Rattle.st_model.specs.declared.deed.Deed.{Deed}
-use Rattle.st_model.specs.declared.outcome.StepEnd.{StepEnd}
 use Rattle.st_frames.specs.declared.ending.RowEnd.{RowEnd}
 use Rattle.st_frames.specs.declared.ending.RowEnd.TheVariants as ends
 use Rattle.st_model.specs.declared.word.Word.{Word}
 use Rattle.st_model.specs.Values.{word, IsLive}
 use Rattle.st_model.specs.Objects.{one, words_of}
-use Rattle.st_model.specs.Outcomes.{Outcome, end_of}
+use Rattle.st_model.specs.Outcomes.{Outcome}
 use Rattle.st_model.specs.Machine.{World, Head, State, Step, Transition, Died, Went, is_there, used}
 use Rattle.st_model.specs.Births.{Births, births}
 use Rattle.st_model.specs.Steps.{are_there}
 use Rattle.st_model.specs.Table.{Table, table, apart, bounded_table, total_used}
 use Rattle.st_model.specs.inside.Calls.{transition_of}
-use Rattle.st_model.specs.Deeds.{deed_of_end, deed_done, world_done}
+use Rattle.st_model.specs.Deeds.{deed_done, world_done, with_deed}
 use Rattle.st_model.specs.Bytecodes.{step}
 use Rattle.st_model.specs.Show.{IsUsed}
 use Rattle.st_model.specs.inside.Foreseen.{Foretells}
@@ -98,21 +97,29 @@ unfolding row_state
 held_again v u f w r e q o h = λ i. record { memory = sym o i; registers = sym e i; world = q i; head = sym h i }
 
 -- what was left is done
-pub done_after : (u h z : View) (f : Frame) (w x : World) (r : Words) (end : StepEnd) (d : Deed) → d ≡ deed_of_end end → registers_of f ≡ registers_in r → r.world.now ≡ w → h.objects ≡ u.objects
+pub done_after : (u h z : View) (f : Frame) (w x : World) (r : Words) (d : Deed) → registers_of f ≡ registers_in r → r.world.now ≡ w → h.objects ≡ u.objects
     → h.head ≡ u.head → z.objects ≡ deed_done d h.objects → z.head ≡ h.head → x ≡ world_done d h.objects w
-    → with_left deed_of_end (Ok end) (row_state u.objects u.head r) ≡ shown z f x
+    → with_deed d (row_state u.objects u.head r) ≡ shown z f x
 unfolding row_state
-done_after u h z f w x r end d e same world objects head done head_done changed =
-    let o : z.objects ≡ deed_done (deed_of_end end) u.objects = done ∙ (λ i. deed_done (e i) (objects i)) in
-    let c : x ≡ world_done (deed_of_end end) u.objects r.world.now = changed ∙ (λ i. world_done (e i) (objects i) (sym world i)) in
+done_after u h z f w x r d same world objects head done head_done changed =
+    let o : z.objects ≡ deed_done d u.objects = done ∙ ap (deed_done d) objects in
+    let c : x ≡ world_done d u.objects r.world.now = changed ∙ (λ i. world_done d (objects i) (sym world i)) in
     λ i. record { memory = sym o i; registers = sym same i; world = sym c i; head = sym (head_done ∙ head) i }
 
-pub there_after : (v : View) (f : Frame) (world : World) (t : Table) (a : Head) (r : Words) (end : StepEnd) → IsWhole v → IsReady v f world
-    → (step bounded_table).run (shown v f world) ≡ Went (end_of end) (with_left deed_of_end (Ok end) (row_state t a r)) → are_there table t (registers_in r) ≡ true
+-- a row whose registers are held again, and what it left is done
+pub carried_out : (v u h z : View) (f q : Frame) (w x : World) (start r : Words) (end : RowEnd) (d : Deed) → registers_in start ≡ registers_of f → start.world.now ≡ w
+    → (step bounded_table).run (row_state v.objects v.head start) ≡ Went (outcome_in r end) (with_deed (deed_in r end) (row_state u.objects u.head r)) → d ≡ deed_in r end
+    → registers_of q ≡ registers_in r → r.world.now ≡ start.world.now → h.objects ≡ u.objects → h.head ≡ u.head → z.objects ≡ deed_done d h.objects → z.head ≡ h.head → x ≡ world_done d h.objects w
+    → (step bounded_table).run (shown v f w) ≡ Went (outcome_in r end) (shown z q x)
+carried_out v u h z f q w x start r end d same begun does deed held world objects head done head_done changed =
+    let left = ap (λ e. with_deed e (row_state u.objects u.head r)) (sym deed) ∙ done_after u h z q w x r d held (world ∙ begun) objects head done head_done changed in
+    from_row (step bounded_table) v f w start _ same begun (does ∙ ap (λ s. Went (outcome_in r end) s) left)
+
+pub there_after : (v : View) (f : Frame) (world : World) (t : Table) (a : Head) (r : Words) (o : Outcome) (d : Deed) → IsWhole v → IsReady v f world
+    → (step bounded_table).run (shown v f world) ≡ Went o (with_deed d (row_state t a r)) → are_there table t (registers_in r) ≡ true
 unfolding row_state
-there_after v f world t a r end w ready e =
-    let d = deed_of_end end in
-    let closed = step_closed (shown v f world) (with_left deed_of_end (Ok end) (row_state t a r)) (end_of end) (is_closed v f world w ready) e in
+there_after v f world t a r o d w ready e =
+    let closed = step_closed (shown v f world) (with_deed d (row_state t a r)) o (is_closed v f world w ready) e in
     let before : (x : Word) → IsLive (IsUsed (deed_done d t)) (word x) → IsNarrow x → is_there table t (word x) ≡ true = λ x l n. sym (deed_leaves_there d t (word x)) ∙ word_there (deed_done d t) x l n in
     all_four (is_there table t (word r.active)) (is_there table t (word r.home)) (is_there table t (word r.method)) (is_there table t (word r.receiver))
     (before r.active closed.roots.0 r.active_narrow) (before r.home closed.roots.1.0 r.home_narrow)

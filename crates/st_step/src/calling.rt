@@ -2,14 +2,14 @@ ghost use Rattle.std.specs.Prelude.{◌≡◌, true, false, IfOk, IfErr};
 ghost use Rattle.st_model.specs.{declared.dead.Dead.TheVariants.Kind, Steps.are_there};
 ghost use Rattle.st_model.specs.{Table.{table, bounded_table}, inside.Calls.Does};
 ghost use Rattle.st_frames.specs.{inside.Rows.registers_in, inside.Shown.{IsReady, shown}};
-ghost use Rattle.st_step.specs.inside.Trying.{try_primitive, is_said_there, end_if_any, outcome_of_trial, IsStill};
+ghost use Rattle.st_step.specs.inside.Trying.{try_primitive, is_said_there, outcome_if_any, outcome_of_trial, IsStill};
 
 use crate::numbers::tried_number;
-use crate::stepping::deed_of;
-use st_frames::{Frame, Registers, World, hold, load};
+use crate::stepping::deed_in;
+use st_frames::{Frame, Registers, RowEnd, World, hold, load};
 use st_input::{Tried, carry_out};
 use st_memory::{Memory, live_value};
-use st_model::{Dead, Outcome, StepEnd};
+use st_model::{Dead, Outcome};
 
 /// Whether the registers name what is there.
 fn are_there<M: Memory>(m: &M, r: &Registers) -> bool
@@ -21,21 +21,23 @@ fn are_there<M: Memory>(m: &M, r: &Registers) -> bool
         && live_value(m, r.receiver).is_some()
 }
 
-/// What is to be said of the end of a primitive that was tried. An error where what is to be said isn't there.
-fn trial_of<M: Memory>(m: &M, ended: Option<StepEnd>) -> Result<Tried, Dead>
-    ensures same { IfOk result (λ t. outcome_of_trial t ≡ end_if_any ended) }
-    ensures there { IfOk result (λ t. is_said_there table (M.view m.now).objects (end_if_any ended) ≡ true) }
+/// What is to be said of a primitive that was tried, whose row left these registers. An error where what is to be said isn't
+/// there.
+fn trial_of<M: Memory>(m: &M, r: &Registers, row: Option<RowEnd>) -> Result<Tried, Dead>
+    ensures same { IfOk result (λ t. outcome_of_trial t ≡ outcome_if_any r.now row) }
+    ensures there { IfOk result
+        (λ t. is_said_there table (M.view m.now).objects (outcome_if_any r.now row) ≡ true) }
     ensures gone { IfErr result
-        (λ k. is_said_there table (M.view m.now).objects (end_if_any ended) ≡ false) }
+        (λ k. is_said_there table (M.view m.now).objects (outcome_if_any r.now row) ≡ false) }
     ensures cause { IfErr result (λ k. k ≡ Kind) }
 {
-    match ended {
+    match row {
         None => Ok(Tried::Failed),
-        Some(StepEnd::Went(_)) => Ok(Tried::Done),
-        Some(StepEnd::Snapshot) => Ok(Tried::Outcome(Outcome::Snapshot)),
-        Some(StepEnd::Quit) => Ok(Tried::Outcome(Outcome::Quit)),
-        Some(StepEnd::Debugger) => Ok(Tried::Outcome(Outcome::Debugger)),
-        Some(StepEnd::Says(said)) => match live_value(m, said) {
+        Some(RowEnd::Went) | Some(RowEnd::Leaves) => Ok(Tried::Done),
+        Some(RowEnd::Snapshot) => Ok(Tried::Outcome(Outcome::Snapshot)),
+        Some(RowEnd::Quit) => Ok(Tried::Outcome(Outcome::Quit)),
+        Some(RowEnd::Debugger) => Ok(Tried::Outcome(Outcome::Debugger)),
+        Some(RowEnd::Says) => match live_value(m, r.said) {
             Some(said) => Ok(Tried::Outcome(Outcome::Say(said))),
             None => Err(Dead::Kind),
         },
@@ -63,16 +65,17 @@ pub fn try_primitive<M: Memory>(
         return Err(Dead::Sp);
     }
     let mut r = load(m, f, w);
-    let ended = tried_number(m, &mut r, u32::from(n), args)?;
+    let row = tried_number(m, &mut r, u32::from(n), args)?;
     if !are_there(m, &r) {
         return Err(Dead::Kind);
     }
-    let tried = trial_of(m, ended)?;
-    match ended {
+    let tried = trial_of(m, &r, row)?;
+    match row {
         None => Ok(tried),
         Some(end) => {
             *f = hold(m, &r);
-            carry_out(m, w, deed_of(end));
+            let deed = deed_in(&r, end);
+            carry_out(m, w, deed);
             Ok(tried)
         }
     }

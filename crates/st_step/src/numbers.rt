@@ -2,19 +2,18 @@ ghost use Rattle.std.specs.Prelude.{◌≡◌, ◌<◌, ◌≤◌, ◌==◌, ◌
 ghost use Rattle.st_model.specs.{declared.deed.Deed.TheVariants.Nothing};
 ghost use Rattle.st_model.specs.{Arithmetic.arithmetic, Executing.{asks, is_from}, Storage.is_storage};
 ghost use Rattle.st_model.specs.{Blocks.is_block, Processes.is_process, Input.is_input};
-ghost use Rattle.st_step.specs.inside.Trying.{if_done, succeeds, says, last_number, number_on_objects, number_behind, number_that_responds, by_number, tried_number, end_of_trial, ended_in, end_if_any, deed_if_any, RowResponds, number_changes};
+ghost use Rattle.st_step.specs.inside.Trying.{if_done, succeeds, says, last_number, number_on_objects, number_behind, number_that_responds, by_number, tried_number, end_of_trial, RowResponds, number_changes};
 ghost use Rattle.st_frames.specs.declared.registers.Registers.{Registers as Words};
-ghost use Rattle.st_frames.specs.inside.Rows.{RowLeaves, Takes, response_changes, execution_changes, deed_in, outcome_in};
+ghost use Rattle.st_frames.specs.inside.Rows.{Takes, response_changes, execution_changes, deed_in, outcome_in};
 
 use crate::perform::{performs_selector, performs_with};
-use crate::stepping::end_in;
 use st_control::{
     answer_integers, equivalence, flush_cache, integer_answer, large_arithmetic, receiver_class,
     shift_large, try_blocks,
 };
 use st_frames::{Registers, RowEnd, Tried, answer_with, look_at_words, top};
 use st_memory::Objects;
-use st_model::{Dead, StepEnd};
+use st_model::Dead;
 use st_process::{try_input, try_process};
 use st_storage::{primitive_say, try_storage};
 
@@ -270,16 +269,6 @@ pub fn by_number<O: Objects>(
     number_that_responds(m, r, primitive, arguments)
 }
 
-/// How a primitive ended, if it didn't fail, whose row left these registers.
-fn ended_in(r: &Registers, row: Option<RowEnd>) -> Option<StepEnd>
-    ensures { result ≡ ended_in r.now row }
-{
-    match row {
-        Some(end) => Some(end_in(r, end)),
-        None => None,
-    }
-}
-
 /// Looks at receiver and arguments, and tries the primitive of this number. None says that it failed.
 #[tactic(auto, using(st_frames::proofs::Doing::rows), unfolding(crate::specs::inside::Trying::tried_number))]
 pub fn tried_number<O: Objects>(
@@ -287,14 +276,13 @@ pub fn tried_number<O: Objects>(
     r: &mut Registers,
     primitive: u32,
     arguments: u32,
-) -> Result<Option<StepEnd>, Dead>
+) -> Result<Option<RowEnd>, Dead>
     requires few { arguments < 16384 }
     requires room { execution_changes ≤ O.room m.old }
-    ensures does { RowLeaves O.Objects.own (tried_number O.names primitive arguments)
-        end_if_any deed_if_any m.old r.old result m.new r.new }
-    ensures fixed { O.fixed m.new ≡ O.fixed m.old }
+    ensures does { RowResponds O.Objects.own (tried_number O.names primitive arguments)
+        m.old r.old result m.new r.new }
+    ensures takes { Takes O.Objects.own (number_changes execution_changes result) m.old m.new }
 {
     look_at_words(m, r, arguments)?;
-    let row = by_number(m, r, primitive, arguments)?;
-    Ok(ended_in(r, row))
+    by_number(m, r, primitive, arguments)
 }

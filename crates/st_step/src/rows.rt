@@ -30,9 +30,9 @@ fn return_constant<O: Objects>(m: &mut O, r: &mut Registers, c: Constant) -> Res
     return_word(m, r, x)
 }
 
-/// Does the row of a bytecode.
+/// Does the row of a bytecode that was fetched and decoded.
 #[tactic(auto, using(st_frames::proofs::Doing::rows), unfolding(st_model::specs::Bytecodes::bytecode, st_model::specs::Bytecodes::long_jump_on_true, st_model::specs::Bytecodes::long_jump_on_false, crate::specs::inside::Jumping::long_conditional_jump, st_model::specs::Executing::goes_on, st_model::specs::Bytecodes::return_receiver, st_model::specs::Executing::executed_if_any))]
-fn bytecode<O: Objects>(m: &mut O, r: &mut Registers, code: Bytecode) -> Result<RowEnd, Dead>
+pub fn bytecode<O: Objects>(m: &mut O, r: &mut Registers, code: Bytecode) -> Result<RowEnd, Dead>
     requires numbered { IsNumbered code }
     requires room { bytecode_changes ≤ O.room m.old }
     ensures does { RowEnds O.Objects.own (bytecode O.names code) m.old r.old result m.new r.new }

@@ -3,9 +3,8 @@ use Rattle.std.specs.Prelude.{◌≡◌, ◌+◌, Result, Ok, Err}
 use Rattle.st_model.specs.declared.dead.Dead.{Dead}
 use Rattle.st_model.specs.declared.demand.Demand.{Demand}
 use Rattle.st_model.specs.declared.outcome.Outcome.{Outcome as CodeOutcome}
-use Rattle.st_model.specs.declared.outcome.StepEnd.{StepEnd}
 use Rattle.st_model.specs.Values.{Value}
-use Rattle.st_model.specs.Outcomes.{Outcome, end_of, outcome_of}
+use Rattle.st_model.specs.Outcomes.{Outcome, outcome_of}
 use Rattle.st_model.specs.Outcomes as outcome
 use Rattle.st_model.specs.Machine.{ObjectMemory, World, State, Transition, Died, Went, used}
 use Rattle.st_model.specs.Steps.{top}
@@ -14,6 +13,9 @@ use Rattle.st_model.specs.Table.{Table, apart, bounded_table}
 use Rattle.st_model.specs.Show.{Shows}
 use Rattle.st_model.specs.View.{View}
 use Rattle.st_frames.specs.declared.frame.Frame.{Frame}
+use Rattle.st_frames.specs.declared.registers.Registers.{Registers as Words}
+use Rattle.st_frames.specs.declared.ending.RowEnd.{RowEnd}
+use Rattle.st_frames.specs.inside.Rows.{outcome_in}
 use Rattle.st_frames.specs.inside.Shown.{shown}
 use Rattle.st_model.specs.Bytecodes.{step}
 
@@ -34,9 +36,9 @@ Plans before x result = PlansOver apart before x result
 abbrev pub PlansBirths : State Table → Result Demand Dead → Type 0
 PlansBirths c result = (s : State Births) → Shows c s → PlansOver births (used births s.memory) ((step births).run s) result
 
--- a step of the next bytecode ended so, over this memory and frame
-abbrev pub HasEnded : View → Frame → StepEnd → Type 0
-HasEnded v f end = (w : World) × (s : State Table) × ((step bounded_table).run s ≡ Went (end_of end) (shown v f w))
+-- a step of the next bytecode ended so, over this memory and frame, whose row left these registers
+abbrev pub HasEnded : View → Frame → Words → RowEnd → Type 0
+HasEnded v f q end = (w : World) × (s : State Table) × ((step bounded_table).run s ≡ Went (outcome_in q end) (shown v f w))
 
 -- there is a word at the top of the stack
 abbrev pub HasTop : View → Frame → Type 0

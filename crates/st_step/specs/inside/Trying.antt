@@ -6,11 +6,9 @@ use Rattle.st_model.specs.declared.deed.Deed.{Deed}
 use Rattle.st_model.specs.declared.deed.Deed.TheVariants.{Nothing}
 use Rattle.st_model.specs.declared.dead.Dead.{Dead}
 use Rattle.st_model.specs.declared.dead.Dead.TheVariants as dead
-use Rattle.st_model.specs.declared.outcome.StepEnd.{StepEnd}
 use Rattle.st_model.specs.Values.{Value}
-use Rattle.st_model.specs.Outcomes.{Outcome, outcome_of, end_of}
+use Rattle.st_model.specs.Outcomes.{Outcome, outcome_of}
 use Rattle.st_model.specs.Outcomes as outcome
-use Rattle.st_model.specs.Deeds.{deed_of_end}
 use Rattle.st_model.specs.Machine.{ObjectMemory, World, State, Step, is_there, answer, tried, ◌>>=◌, ◌>>◌}
 use Rattle.st_model.specs.Steps.{class_of, check, top, under, look_at_words, are_there}
 use Rattle.st_model.specs.Lookup.{find}
@@ -30,7 +28,7 @@ use Rattle.st_frames.specs.declared.ending.RowEnd.{RowEnd}
 use Rattle.st_frames.specs.declared.ending.RowEnd.TheVariants as rows
 use Rattle.st_frames.specs.declared.tried.Tried.{Tried as FamilyTried}
 use Rattle.st_frames.specs.declared.tried.Tried.TheVariants as family
-use Rattle.st_frames.specs.inside.Rows.{RowLeaves, end_in, storage_changes}
+use Rattle.st_frames.specs.inside.Rows.{RowLeaves, outcome_in, deed_in, storage_changes}
 use Rattle.st_memory.specs.declared.objects.Objects.{Ghosts}
 use Rattle.st_input.specs.declared.tried.Tried.{Tried}
 use Rattle.st_input.specs.declared.tried.Tried.TheVariants as trials
@@ -55,27 +53,17 @@ abbrev pub said_if : Value → Bool → Option Outcome
 said_if r true = Some (outcome.Say r)
 said_if r false = None
 
--- what the end of a primitive of the code means, and what it leaves to be done
-abbrev pub end_if_any : Option StepEnd → Option Outcome
-end_if_any x = option_map end_of x
-
-abbrev pub deed_if_any : Option StepEnd → Deed
-deed_if_any None = Nothing
-deed_if_any (Some end) = deed_of_end end
-
--- how a primitive ended, if it didn't fail, whose row left these registers
-abbrev pub ended_in : Words → Option RowEnd → Option StepEnd
-ended_in q x = option_map (end_in q) x
-
+-- what a primitive comes to, if it didn't fail, whose row left these registers, and what it leaves to be done
 abbrev pub outcome_if_any : Words → Option RowEnd → Option Outcome
-outcome_if_any q x = end_if_any (ended_in q x)
+outcome_if_any q x = option_map (outcome_in q) x
 
-abbrev pub deed_left_if_any : Words → Option RowEnd → Deed
-deed_left_if_any q x = deed_if_any (ended_in q x)
+abbrev pub deed_if_any : Words → Option RowEnd → Deed
+deed_if_any q None = Nothing
+deed_if_any q (Some end) = deed_in q end
 
 -- the call tries a primitive by its number, which is this step but for the deed that it leaves in the registers
 abbrev pub RowResponds : {M : Type 0} → Ghosts M → Step Table (Option Outcome) → M → Words → Result (Option RowEnd) Dead → M → Words → Type 0
-RowResponds o step m r result n q = RowLeaves o step (outcome_if_any q) (deed_left_if_any q) m r result n q
+RowResponds o step m r result n q = RowLeaves o step (outcome_if_any q) (deed_if_any q) m r result n q
 
 -- the end of a primitive that its family tried; none where it failed
 abbrev pub end_of_trial : FamilyTried → Option RowEnd
