@@ -15,11 +15,12 @@ use Rattle.st_frames.specs.declared.frame.Frame.{Frame}
 use Rattle.st_frames.specs.declared.registers.Registers.{Registers as Words}
 use Rattle.st_frames.specs.declared.ending.RowEnd.{RowEnd}
 use Rattle.st_frames.specs.declared.ending.RowEnd.TheVariants as rows
-use Rattle.st_frames.specs.inside.Rows.{row_state, registers_in, with_left, end_in, outcome_in, deed_in}
+use Rattle.st_frames.specs.inside.Rows.{row_state, registers_in, with_left, outcome_in, deed_in}
 use Rattle.st_frames.specs.inside.Shown.{shown, registers_of, IsReady}
 use Rattle.st_control.specs.inside.Foreseen.{IsForeseen}
 use Rattle.st_control.proofs.Suffices.{dies, foreseen, bounded}
 use Rattle.st_step.proofs.Stepped.{from_row, held_again, there_after}
+use Rattle.st_step.specs.inside.Planned.{HasEnded}
 use Rattle.st_machine.specs.inside.Cycling.{GoesBy, Finishes, foreseen_step}
 use Rattle.st_machine.proofs.Foreseeing.{cycle_done, dies_at_once}
 
@@ -58,7 +59,7 @@ module _ (v : View) (f : Frame) (w : World) (whole : IsWhole v) (ready : IsReady
 
     pub row_there : are_there table u.objects (registers_in r) ≡ true
     unfolding left
-    row_there = there_after v f w u.objects u.head r (end_in r end) whole ready row_bounded
+    row_there = there_after v f w u.objects u.head r (outcome_in r end) (deed_in r end) whole ready row_bounded
 
     -- the registers are held again
     module _ (h : View) (q : Frame) (world : r.world.now ≡ start.world.now) (held : registers_of q ≡ registers_in r) (objects : h.objects ≡ u.objects) (heads : h.head ≡ u.head) where
@@ -76,3 +77,7 @@ module _ (v : View) (f : Frame) (w : World) (whole : IsWhole v) (ready : IsReady
 
         pub row_goes : (o : CodeOutcome) → outcome_of o ≡ outcome_in r end → GoesBy (foreseen_step (shown v f w)) (outcome_of o) (Finishes (shown h q w))
         row_goes o e d l = cycle_done (shown v f w) (outcome_of o) (shown h q w) d row_foreseen (row_ends ∙ ap (λ x. Went x (shown h q w)) (sym e)) l
+
+        -- the outcome is told by how it ended
+        pub row_asks : (o : CodeOutcome) → (HasEnded h q r end → outcome_of o ≡ outcome_in r end) → GoesBy (foreseen_step (shown v f w)) (outcome_of o) (Finishes (shown h q w))
+        row_asks o told = row_goes o (told (w, shown v f w, row_ends))

@@ -1,16 +1,16 @@
 ghost use Rattle.std.specs.Prelude.{◌≡◌, Ok, Some, None, IfOk, if◌then◌else◌};
 ghost use Rattle.st_model.specs.{Table.table, Machine.used, Cycles.{less, capacity_of}, View.SettlesTo};
 ghost use Rattle.st_frames.specs.inside.{Rows.registers_in, Shown.{IsReady, registers_of, shown}};
-ghost use Rattle.st_machine.specs.inside.Cycling.{GoesCalmly, warns};
+ghost use Rattle.st_machine.specs.inside.{Cycling.{GoesCalmly, warns}, Room.is_roomy};
 ghost use Rattle.st_machine.specs.declared.doing.StretchEnd.TheVariants.{Warns};
 
 use crate::roomy::Roomy;
-use crate::space::{has_room, needs_warning};
+use crate::space::needs_warning;
 use st_at_once::Near;
 use st_frames::{Frame, Registers, RowEnd, World};
 use st_memory::Memory;
-use st_model::{Dead, Outcome};
-use st_step::{end_in, outcome, step_row};
+use st_model::{Dead, Demand, Outcome};
+use st_step::{outcome, step_row};
 
 /// What is left of the cycle of a bytecode that wasn't foreseen, if that isn't all done.
 #[derive(Clone, Copy)]
@@ -23,6 +23,16 @@ pub enum StretchEnd {
     Warns,
     /// What comes after the bytecode, which asks for something besides.
     Asks(Outcome),
+}
+
+/// Whether there is room for whatever the next bytecode takes: 70 entries, and 2,050 words for each.
+fn has_room<M: Memory>(near: &Near<M>) -> bool
+    ensures { result ≡ is_roomy (M.view near.now.memory.now) }
+{
+    near.memory.room(Demand {
+        entries: 70,
+        words: 143_500,
+    })
 }
 
 /// What comes after a bytecode: what nothing supports any more is dropped. Answers whether it is to be told that space is low.
@@ -59,18 +69,15 @@ pub fn do_straight<M: Memory>(
     ensures world { r.new.world.now ≡ r.old.world.now }
     ensures same_memory { roomy.new.near.memory.ghost_name ≡ roomy.old.near.memory.ghost_name }
 {
-    if !has_room(roomy.near.memory) {
+    if !has_room(&roomy.near) {
         return Ok(Some(StretchEnd::ToForesee));
     }
     let end = step_row(roomy, r)?;
-    roomy.near.hold_moved(f, r);
+    let near = &mut roomy.near;
+    near.hold_moved(f, r);
     match end {
-        RowEnd::Went => Ok(finish_calmly(&mut roomy.near, r.world)),
+        RowEnd::Went => Ok(finish_calmly(near, r.world)),
         RowEnd::Leaves => Ok(Some(StretchEnd::Leaves)),
-        _ => Ok(Some(StretchEnd::Asks(outcome(
-            roomy.near.memory,
-            f,
-            end_in(r, end),
-        )))),
+        _ => Ok(Some(StretchEnd::Asks(outcome(near.memory, f, end)))),
     }
 }

@@ -2,21 +2,11 @@ ghost use Rattle.std.specs.Prelude.{◌≡◌};
 ghost use Rattle.st_model.specs.{Table.table, Machine.used, Objects.nil};
 ghost use Rattle.st_model.specs.Cycles.{less, capacity_of, is_low, warned_if_low};
 ghost use Rattle.st_frames.specs.Naming.{IsNaming, naming};
-ghost use Rattle.st_machine.specs.inside.{Cycling.warns, Room.is_roomy};
+ghost use Rattle.st_machine.specs.inside.Cycling.{warns};
 
 use st_frames::{World, signal_once};
 use st_memory::Memory;
 use st_model::{Demand, Device};
-
-/// Whether there is room for whatever the next bytecode takes: 70 entries, and 2,050 words for each.
-pub fn has_room<M: Memory>(m: &M) -> bool
-    ensures { result ≡ is_roomy (M.view m.now) }
-{
-    m.room(Demand {
-        entries: 70,
-        words: 143_500,
-    })
-}
 
 /// The entries and words that are free.
 pub fn free_space<M: Memory>(m: &M) -> Demand

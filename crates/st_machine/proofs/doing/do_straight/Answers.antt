@@ -13,7 +13,7 @@ use Rattle.st_at_once.proofs.OverMemory.{quick_ready, still_ready}
 use Rattle.st_machine.specs.declared.doing.StretchEnd.TheVariants.{Warns}
 use Rattle.st_machine.specs.inside.Cycling.{GoesBy, GoesCalmly, Finishes, foreseen_step, warns}
 use Rattle.st_machine.proofs.Calm.{calmly_finished}
-use Rattle.st_machine.proofs.RowDone.{row_dies, row_there, row_leaves, row_ends, row_goes}
+use Rattle.st_machine.proofs.RowDone.{row_dies, row_there, row_leaves, row_ends, row_goes, row_asks}
 use Rattle.st_machine.proofs.doing.do_straight.Goals as goal
 
 pub returns-in_err-end-clause-step : goal.returns-in_err-end-clause-step
@@ -101,6 +101,7 @@ outcome-requires-clause-ended g c =
     let f = c.args.f.now in
     let start = c.args.r.now in
     let w = start.world.now in (
+      c.step_row.new.r,
       w,
       shown v f w,
       row_ends v f w (g.met.M.Memory.whole c.args.roomy.now.near.memory.now) c.requires.ready start c.requires.same refl (g.M.Memory.view c.step_row.new.m.near.memory.now) c.step_row.new.r c.in_ok-end.end
@@ -113,12 +114,7 @@ returns-in_default-clause-step g c =
     let row = c.in_ok-end.ensures in
     let hold = c.hold_moved.ensures in
     let start = c.args.r.now in
-    row_goes (g.M.Memory.view c.args.roomy.now.near.memory.now) c.args.f.now start.world.now (g.met.M.Memory.whole c.args.roomy.now.near.memory.now) c.requires.ready start c.requires.same refl
+    row_asks (g.M.Memory.view c.args.roomy.now.near.memory.now) c.args.f.now start.world.now (g.met.M.Memory.whole c.args.roomy.now.near.memory.now) c.requires.ready start c.requires.same refl
     (g.M.Memory.view c.step_row.new.m.near.memory.now) c.step_row.new.r c.in_ok-end.end (g.met.M.Memory.whole c.step_row.new.m.near.memory.now) (ap (λ (x : View). x.head) row.takes.fixed) row.does.does
-    (g.M.Memory.view c.hold_moved.new.self.memory.now) c.hold_moved.new.f row.does.world hold.same hold.objects hold.head c.in_default.not-Leaves c.outcome.result c.outcome.ensures
+    (g.M.Memory.view c.hold_moved.new.self.memory.now) c.hold_moved.new.f row.does.world hold.same hold.objects hold.head c.in_default.not-Leaves c.outcome.result (c.outcome.ensures c.step_row.new.r)
 
-pub returns-in_default-clause-same_memory : goal.returns-in_default-clause-same_memory
-returns-in_default-clause-same_memory g c =
-    c.hold_moved.ensures.same_memory
-    ∙ same_name (g.M.Memory.view c.args.roomy.now.near.memory.now) (g.M.Memory.view c.step_row.new.m.near.memory.now) c.args.roomy.now.near.memory.ghost_name c.step_row.new.m.near.memory.ghost_name
-    c.in_ok-end.ensures.takes.fixed
