@@ -1,6 +1,10 @@
 ghost use Rattle.std.specs.Prelude.{◌≡◌, Ok, Some, None, IfOk, if◌then◌else◌};
 ghost use Rattle.st_model.specs.{Table.table, Machine.used, Cycles.{less, capacity_of}, View.SettlesTo};
-ghost use Rattle.st_frames.specs.inside.{Rows.registers_in, Shown.{IsReady, registers_of, shown}};
+ghost use Rattle.st_model.specs.Outcomes.{outcome_of};
+ghost use Rattle.st_frames.specs.declared.registers.Registers.{Registers as Words};
+ghost use Rattle.st_frames.specs.inside.Rows.{registers_in, outcome_in};
+ghost use Rattle.st_frames.specs.inside.Shown.{IsFrame, IsReady, registers_of, shown};
+ghost use Rattle.st_step.specs.inside.Planned.{HasEnded};
 ghost use Rattle.st_machine.specs.inside.{Cycling.{GoesCalmly, warns}, Room.is_roomy};
 ghost use Rattle.st_machine.specs.declared.doing.StretchEnd.TheVariants.{Warns};
 
@@ -52,6 +56,16 @@ pub fn finish_calmly<M: Memory>(near: &mut Near<M>, w: &World) -> Option<Stretch
     }
 }
 
+/// The outcome of a step over what is near at hand whose row ended so.
+fn outcome_near<M: Memory>(near: &Near<M>, f: &Frame, end: RowEnd) -> Outcome
+    requires frame { IsFrame (M.view near.now.memory.now) f.now }
+    requires ended { (q : Words) × HasEnded (M.view near.now.memory.now) f.now q end }
+    ensures { (q : Words) → HasEnded (M.view near.now.memory.now) f.now q end
+        → outcome_of result ≡ outcome_in q end }
+{
+    outcome(near.memory, f, end)
+}
+
 /// Does the next bytecode over what is near at hand, if there is room for whatever it takes, and then what comes after it. No plan
 /// is made. While it goes on, the registers are those of the frame.
 #[inline(never)]
@@ -73,11 +87,10 @@ pub fn do_straight<M: Memory>(
         return Ok(Some(StretchEnd::ToForesee));
     }
     let end = step_row(roomy, r)?;
-    let near = &mut roomy.near;
-    near.hold_moved(f, r);
+    roomy.near.hold_moved(f, r);
     match end {
-        RowEnd::Went => Ok(finish_calmly(near, r.world)),
+        RowEnd::Went => Ok(finish_calmly(&mut roomy.near, r.world)),
         RowEnd::Leaves => Ok(Some(StretchEnd::Leaves)),
-        _ => Ok(Some(StretchEnd::Asks(outcome(near.memory, f, end)))),
+        _ => Ok(Some(StretchEnd::Asks(outcome_near(&roomy.near, f, end)))),
     }
 }

@@ -93,8 +93,8 @@ returns-in-Leaves-clause-same_memory g c =
 
 -- where it asks for something besides
 
-pub outcome-requires-clause-ended : goal.outcome-requires-clause-ended
-outcome-requires-clause-ended g c =
+pub outcome_near-requires-clause-ended : goal.outcome_near-requires-clause-ended
+outcome_near-requires-clause-ended g c =
     let row = c.in_ok-end.ensures in
     let hold = c.hold_moved.ensures in
     let v = g.M.Memory.view c.args.roomy.now.near.memory.now in
@@ -116,5 +116,5 @@ returns-in_default-clause-step g c =
     let start = c.args.r.now in
     row_asks (g.M.Memory.view c.args.roomy.now.near.memory.now) c.args.f.now start.world.now (g.met.M.Memory.whole c.args.roomy.now.near.memory.now) c.requires.ready start c.requires.same refl
     (g.M.Memory.view c.step_row.new.m.near.memory.now) c.step_row.new.r c.in_ok-end.end (g.met.M.Memory.whole c.step_row.new.m.near.memory.now) (ap (λ (x : View). x.head) row.takes.fixed) row.does.does
-    (g.M.Memory.view c.hold_moved.new.self.memory.now) c.hold_moved.new.f row.does.world hold.same hold.objects hold.head c.in_default.not-Leaves c.outcome.result (c.outcome.ensures c.step_row.new.r)
+    (g.M.Memory.view c.hold_moved.new.self.memory.now) c.hold_moved.new.f row.does.world hold.same hold.objects hold.head c.in_default.not-Leaves c.outcome_near.result (c.outcome_near.ensures c.step_row.new.r)
 
