@@ -9,7 +9,6 @@ use Rattle.st_frames.specs.declared.registers.Registers.{Registers as Words}
 use Rattle.st_frames.specs.inside.Rows.{row_state}
 use Rattle.st_frames.proofs.Doing.{rows}
 use Rattle.st_control.specs.inside.Returning.{return_past}
-use Rattle.st_control.specs.inside.AtOnce.{return_past_at_once, return_to_sender_at_once, return_to_caller_at_once}
 
 module _ (m : ObjectMemory Table) (t : Table) (a : Head) (r : Words) (v : Value) where
   pub past-home : (return_to_sender m v).run (row_state t a r) ≡ (return_past m (word r.home) v).run (row_state t a r)
@@ -20,13 +19,5 @@ module _ (m : ObjectMemory Table) (t : Table) (a : Head) (r : Words) (v : Value)
   unfolding return_to_caller return_past get_active row_state ◌>>=◌ after
   past-active = refl
 
-  pub past-home-at-once : (return_to_sender_at_once m v).run (row_state t a r) ≡ (return_past_at_once m (word r.home) v).run (row_state t a r)
-  unfolding return_to_sender_at_once get_home row_state ◌>>=◌ after
-  past-home-at-once = refl
-
-  pub past-active-at-once : (return_to_caller_at_once m v).run (row_state t a r) ≡ (return_past_at_once m (word r.active) v).run (row_state t a r)
-  unfolding return_to_caller_at_once get_active row_state ◌>>=◌ after
-  past-active-at-once = refl
-
 -- a row that returns
-pub ruleset returning = (rows, past-home, past-active, past-home-at-once, past-active-at-once)
+pub ruleset returning = (rows, past-home, past-active)

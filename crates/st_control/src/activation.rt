@@ -1,9 +1,8 @@
-ghost use Rattle.std.specs.Prelude.{◌≡◌, ◌<◌, ◌≤◌, ◌+◌, Ok};
+ghost use Rattle.std.specs.Prelude.{◌≡◌, ◌<◌, ◌≤◌, ◌+◌};
 ghost use Rattle.st_model.specs.Values.{word};
 ghost use Rattle.st_model.specs.Contexts.{fill_context, new_context, pass_words, activate};
 ghost use Rattle.st_model.specs.inside.Calls.{itself};
-ghost use Rattle.st_control.specs.inside.AtOnce.{IsStill, enter_context, context_space, activate_at_once};
-ghost use Rattle.st_frames.specs.inside.Rows.{RowReads, RowDoes, Takes, activation_changes};
+ghost use Rattle.st_frames.specs.inside.Rows.{RowDoes, Takes, activation_changes};
 
 use crate::called::Called;
 use st_frames::{Registers, drop_words, look_at_words, page, small, switch};
@@ -59,59 +58,6 @@ fn pass_words<O: Objects>(m: &mut O, r: &mut Registers, context: Word, n: u32) -
 {
     m.transfer(n + 1, r.active, r.sp.saturating_sub(n), context, 5)?;
     drop_words(m, r, n + 1)
-}
-
-/// A new context of the method becomes the active one.
-#[tactic(auto, using(st_frames::proofs::Doing::rows), unfolding(crate::specs::inside::AtOnce::enter_context))]
-fn enter_context<O: Objects>(m: &mut O, r: &mut Registers, called: Called) -> Result<(), Dead>
-    requires room { activation_changes ≤ O.room m.old }
-    ensures does { RowDoes O.Objects.own
-        (enter_context O.names (word called.call.method) (word called.header.0) called.call.arguments)
-        itself m.old r.old result m.new r.new }
-    ensures takes { Takes O.Objects.own activation_changes m.old m.new }
-{
-    let context = new_context(m, r, called)?;
-    pass_words(m, r, context, called.call.arguments)?;
-    switch(m, r, context)
-}
-
-/// Whether there is room for a context.
-#[tactic(auto, using(crate::proofs::Space::spaces), unfolding(crate::specs::inside::AtOnce::context_space))]
-fn has_context_space<O: Objects>(m: &O, r: &Registers) -> bool
-    ensures { RowReads O.Objects.own (context_space O.names) itself m.now r.now (Ok result) }
-{
-    let free = m.free();
-    1 <= free.entries && 40 <= free.words
-}
-
-/// A new context of the method becomes the active one, where there is room for it. Answers whether there is. Dead where it has no
-/// places for the arguments or the temporary variables.
-#[tactic(auto, using(st_frames::proofs::Doing::checks), unfolding(crate::specs::inside::AtOnce::activate_at_once, crate::specs::inside::AtOnce::at_once))]
-pub fn activate_at_once<O: Objects>(
-    m: &mut O,
-    r: &mut Registers,
-    called: Called,
-) -> Result<bool, Dead>
-    requires room { activation_changes ≤ O.room m.old }
-    ensures does { RowDoes O.Objects.own
-        (activate_at_once O.names (word called.call.method) (word called.header.0) called.call.arguments)
-        itself m.old r.old result m.new r.new }
-    ensures takes { Takes O.Objects.own activation_changes m.old m.new }
-    ensures still { IsStill O.Objects.own m.old result m.new }
-{
-    look_at_words(m, r, called.call.arguments)?;
-    let size = called.header.context_size();
-    if size < 6 + called.call.arguments {
-        return Err(Dead::Sp);
-    }
-    if size < 6 + called.header.temporaries() {
-        return Err(Dead::Sp);
-    }
-    if !has_context_space(m, r) {
-        return Ok(false);
-    }
-    enter_context(m, r, called)?;
-    Ok(true)
 }
 
 /// A new context of the method becomes the active one. Dead where it has no places for the arguments or the temporary variables.

@@ -23,9 +23,9 @@ mod stack;
 mod values;
 mod wide;
 
-pub use activation::{activate, activate_at_once};
+pub use activation::activate;
 pub use arithmetic::{answer_integers, arithmetic_number, integer_answer, integer_under, word_of};
-pub use at_once::{jump_at_once, return_past_at_once};
+pub use at_once::jump_at_once;
 pub use blocks::{primitive_block_copy, try_blocks};
 pub use called::Called;
 pub use finding::find_method;
@@ -43,5 +43,5 @@ pub use stack::{
     duplicate_top, extended_push, extended_store, extended_store_and_pop, pop_stack,
     push_active_context, push_constant, push_operand, push_receiver, store_and_pop,
 };
-pub use values::{primitive_value, value_at_once};
+pub use values::primitive_value;
 pub use wide::{large_arithmetic, shift_large};

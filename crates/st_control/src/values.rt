@@ -1,4 +1,4 @@
-ghost use Rattle.std.specs.Prelude.{◌≡◌, ◌<◌, ◌≤◌, ◌+◌, true, false, IfOk};
+ghost use Rattle.std.specs.Prelude.{◌≡◌, ◌<◌, ◌≤◌, ◌+◌, true, IfOk};
 ghost use Rattle.st_model.specs.Values.{word};
 ghost use Rattle.st_model.specs.Blocks.{start_of, enter_block, value_with_words, primitive_value, passing, value_with_fields, primitive_value_with};
 ghost use Rattle.st_model.specs.inside.Calls.{itself};
@@ -69,37 +69,21 @@ fn value_with_words<O: Objects>(m: &mut O, r: &mut Registers, passing: Passing) 
     enter_block(m, r, passing)
 }
 
-/// Primitive 81: the value of the receiver, a block, with n arguments. Answers whether it succeeded; else nothing is changed.
+/// Primitive 81: the value of the receiver, a block, with n arguments.
 #[tactic(auto, using(crate::proofs::Valued::values), unfolding(st_model::specs::Blocks::primitive_value, st_model::specs::Blocks::value_if_any))]
-pub fn value_at_once<O: Objects>(m: &mut O, r: &mut Registers, n: u32) -> Result<bool, Dead>
-    requires few { n < 16384 }
-    requires room { 6 ≤ O.room m.old }
-    ensures does { RowDoes O.Objects.own (primitive_value O.names n) itself m.old r.old result m.new r.new }
-    ensures takes { Takes O.Objects.own 6 m.old m.new }
-    ensures still { IfOk result (λ done. done ≡ false → m.new ≡ m.old) }
-{
-    let block = under(m, r, n)?;
-    match start_of(m, r, block, n) {
-        Ok(passing) => {
-            value_with_words(m, r, passing)?;
-            Ok(true)
-        }
-        Err(_) => Ok(false),
-    }
-}
-
-/// Primitive 81, as one that is tried.
-#[tactic(auto, using(st_frames::proofs::Doing::rows))]
 pub fn primitive_value<O: Objects>(m: &mut O, r: &mut Registers, n: u32) -> Result<Tried, Dead>
     requires few { n < 16384 }
     requires room { block_changes ≤ O.room m.old }
     ensures does { RowTries O.Objects.own (primitive_value O.names n) m.old r.old result m.new r.new }
     ensures takes { Takes O.Objects.own (tried_changes block_changes result) m.old m.new }
 {
-    if value_at_once(m, r, n)? {
-        Ok(Tried::Done)
-    } else {
-        Ok(Tried::Failed)
+    let block = under(m, r, n)?;
+    match start_of(m, r, block, n) {
+        Ok(passing) => {
+            value_with_words(m, r, passing)?;
+            Ok(Tried::Done)
+        }
+        Err(_) => Ok(Tried::Failed),
     }
 }
 

@@ -4,8 +4,6 @@ use Rattle.std.specs.Prelude.{◌-◌, ◌&&◌, slice_get, nat_le, if◌then◌
 use Rattle.std.proofs.lemmas.Bool.Decides.{nat_tests}
 use Rattle.st_model.specs.declared.dead.Dead.{Dead}
 use Rattle.st_model.specs.declared.dead.Dead.TheVariants as dead
-use Rattle.st_model.specs.declared.kind.Kind.{Kind}
-use Rattle.st_model.specs.declared.kind.Kind.TheVariants as kind
 use Rattle.st_model.specs.Values.{Value, Small, Ref}
 use Rattle.st_model.specs.Objects.{Object, has_bytes, first_unit, size_of, object_with_unit}
 use Rattle.st_model.specs.Machine.{ObjectMemory, State, Died, Went, Step, answer, die, after, ◌>>=◌, ◌>>◌}

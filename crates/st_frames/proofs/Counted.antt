@@ -1,8 +1,7 @@
 -- How many bytes a number has, and which number they have.
-use Rattle.std.proofs.Common.{◌≡◌, ℕ, zero, suc, ◌+◌, ◌-◌, ◌*◌, ◌/◌, ◌%◌, ◌^◌, ◌<◌, ◌≤◌, List, [], ◌∷◌, length, take, drop, length-take, length-drop, Bool, true, false, refl, ap, arith, lit<}
-use Rattle.std.specs.Prelude.{nat_lt, slice_index, if◌then◌else◌}
+use Rattle.std.proofs.Common.{◌≡◌, ℕ, zero, suc, ◌+◌, ◌/◌, ◌%◌, ◌<◌, ◌≤◌, [], ◌∷◌, length, Bool, true, false, refl, ap, arith}
+use Rattle.std.specs.Prelude.{nat_lt, if◌then◌else◌}
 use Rattle.std.proofs.lemmas.Bool.Decides.{nat_tests}
-use Rattle.std.proofs.Math.Nat.{pow-le-pow_right}
 use Rattle.st_model.specs.Primitives.{bytes_within}
 
 pub one_byte : (more left : ℕ) (b : Bool) → nat_lt left 256 ≡ b → left < 256 → (if b then left ∷ [] else left % 256 ∷ bytes_within more (left / 256)) ≡ left ∷ []

@@ -5,7 +5,7 @@ use Rattle.st_model.specs.declared.dead.Dead.{Dead}
 use Rattle.st_model.specs.declared.word.Word.{Word}
 use Rattle.st_model.specs.declared.page.PageObject.TheVariants.{SchedulerAssociation}
 use Rattle.st_model.specs.Values.{Value, Small, Ref, word}
-use Rattle.st_model.specs.Machine.{Registers, Went, answer, ◌>>=◌}
+use Rattle.st_model.specs.Machine.{Went, answer, ◌>>=◌}
 use Rattle.st_model.specs.Contexts.{home_by, home_of, stack_place, fetch_stack_pointer, context_registers, fetch_context_registers, scheduled_context, fetch_scheduled_registers}
 use Rattle.st_model.specs.Table.{table, bounded_table}
 use Rattle.st_model.specs.Steps.{are_there, fetch_integer, integer_or_die, set_registers}

@@ -1,13 +1,12 @@
 -- Steps of the numbers that primitives use, by cases.
-use Rattle.std.proofs.Common.{◌≡◌, ◌≢◌, ℕ, zero, suc, Bool, true, false, refl, arith}
-use Rattle.std.specs.Prelude.{◌-◌, ◌/◌, ◌%◌, ◌==◌, if◌then◌else◌}
+use Rattle.std.proofs.Common.{◌≡◌, ◌≢◌, ℕ, zero, suc, Bool, false, refl, arith}
+use Rattle.std.specs.Prelude.{◌-◌, ◌%◌}
 use Rattle.st_model.specs.declared.dead.Dead.{Dead}
-use Rattle.st_model.specs.declared.dead.Dead.TheVariants as dead
-use Rattle.st_model.specs.Values.{Value, Small, Ref, value_of, is_small}
-use Rattle.st_model.specs.Machine.{ObjectMemory, State, Transition, Died, Went, Step, answer, die, after, tried, ◌>>=◌, ◌>>◌}
+use Rattle.st_model.specs.Values.{Value, Small}
+use Rattle.st_model.specs.Machine.{ObjectMemory, State, Transition, Died, Went, Step, answer, after, tried, ◌>>=◌, ◌>>◌}
 use Rattle.st_model.specs.Table.{Table}
 use Rattle.st_model.specs.Steps.{pop}
-use Rattle.st_model.specs.Primitives.{pop_words, succeed, primitive, bits_or_die}
+use Rattle.st_model.specs.Primitives.{pop_words, succeed, primitive}
 use Rattle.st_frames.specs.inside.Answering.{succeed_with, succeed_by}
 use Rattle.st_model.proofs.Runs.{run-passed, run-failed, run-some, run-none}
 use Rattle.st_frames.proofs.Doing.{rows}

@@ -1,12 +1,12 @@
 -- The values of numbers, by their bytes.
-use Rattle.std.proofs.Common.{◌≡◌, ◌≢◌, ℕ, zero, suc, ◌+◌, ◌*◌, ◌^◌, ◌<◌, ◌≤◌, List, [], ◌∷◌, Bool, true, false, refl, sym, arith, lit<}
-use Rattle.std.specs.Prelude.{◌-◌, ◌/◌, ◌%◌, length, if◌then◌else◌, nat_lt}
+use Rattle.std.proofs.Common.{◌≡◌, ◌≢◌, ℕ, zero, suc, ◌+◌, ◌*◌, ◌^◌, ◌<◌, ◌≤◌, List, ◌∷◌, true, false, refl, arith, lit<}
+use Rattle.std.specs.Prelude.{◌-◌}
 use Rattle.std.proofs.Math.Nat.{pow-le-pow_right}
 use Rattle.st_model.specs.Values.{Value, Small, Ref, is_small}
 use Rattle.st_model.specs.Machine.{ObjectMemory, State, Transition, Died, Went, answer, after, ◌>>=◌}
 use Rattle.st_model.specs.Table.{Table}
 use Rattle.st_model.specs.Steps.{fetch_byte, fetch_bytes}
-use Rattle.st_model.specs.Primitives.{positive_small, large_value, positive_value, number_of_bytes, bytes_of_number}
+use Rattle.st_model.specs.Primitives.{positive_small, large_value, positive_value, number_of_bytes}
 use Rattle.st_frames.specs.inside.Answering.{number_read}
 use Rattle.st_frames.proofs.Doing.{rows}
 

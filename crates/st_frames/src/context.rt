@@ -41,17 +41,12 @@ fn set_registers<O: Objects>(_m: &O, r: &mut Registers, new: &Fetched)
     ensures does { RowMoves O.Objects.own (set_registers O.names (fetched_in new.now))
         itself _m.now r.old (Ok result) r.new }
 {
-    *r = Registers {
-        active: new.active,
-        home: new.home,
-        method: new.method,
-        receiver: new.receiver,
-        ip: new.ip,
-        sp: new.sp,
-        world: r.world,
-        left: r.left,
-        said: r.said,
-    };
+    r.active = new.active;
+    r.home = new.home;
+    r.method = new.method;
+    r.receiver = new.receiver;
+    r.ip = new.ip;
+    r.sp = new.sp;
 }
 
 /// Fetches the registers from a context, which becomes the active one.

@@ -1,7 +1,7 @@
 use Rattle.std.proofs.Common.{rules, ◌≡◌, Err, arith}
 use Rattle.st_control.proofs.Valued.{tried-value, values}
 use Rattle.st_model.specs.Blocks.{primitive_value, value_if_any}
-use Rattle.st_control.proofs.values.value_at_once.Goals as goal
+use Rattle.st_control.proofs.values.primitive_value.Goals as goal
 
 pub returns-in_err-value_with_words-in-Ok-clause-does : goal.returns-in_err-value_with_words-in-Ok-clause-does
 returns-in_err-value_with_words-in-Ok-clause-does g c =
