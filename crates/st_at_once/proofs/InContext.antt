@@ -1,6 +1,6 @@
--- What a row that stays in its context does leaves the registers that name objects.
-use Rattle.std.proofs.Common.{◌≡◌, ℕ, zero, suc, Bool, true, false, Option, Some, None, Result, Ok, refl, ◌∙◌, subst}
-use Rattle.std.specs.Prelude.{◌==◌, ℤ, if◌then◌else◌}
+-- What is done at once leaves the registers that name objects.
+use Rattle.std.proofs.Common.{◌≡◌, ℕ, zero, suc, Bool, true, false, Option, Some, None, Result, Ok, Err, refl, ◌∙◌, subst}
+use Rattle.std.specs.Prelude.{◌==◌, ℤ, if◌then◌else◌, IfOk}
 use Rattle.st_model.specs.declared.dead.Dead.{Dead}
 use Rattle.st_model.specs.declared.page.PageObject.{PageObject}
 use Rattle.st_model.specs.declared.bytecode.Operand.{Operand}
@@ -18,14 +18,10 @@ use Rattle.st_model.specs.Steps.{get_active, get_home, get_method, get_receiver,
 use Rattle.st_model.specs.Primitives.{pop_words, answer_with, truth}
 use Rattle.st_model.specs.Arithmetic.{integer_under, equivalence, receiver_class}
 use Rattle.st_model.specs.Bytecodes.{fetch_receiver_variable, fetch_temporary_variable, fetch_literal_constant, fetch_literal_variable, fetch_operand, store_receiver_variable, store_temporary_variable, store_literal_variable, store_operand, push_operand, store_and_pop, push_receiver, constant_value, push_constant, extended_push, extended_store, extended_store_and_pop, pop_stack, duplicate_top, push_active_context, short_unconditional_jump, long_unconditional_jump}
-use Rattle.st_model.specs.declared.deed.Deed.{Deed}
 use Rattle.st_model.specs.Table.{Table}
-use Rattle.st_model.specs.inside.Calls.{Does}
-use Rattle.st_frames.specs.inside.Rows.{with_left}
+use Rattle.st_model.specs.inside.Calls.{Does, itself}
 use Rattle.st_control.specs.inside.AtOnce.{at_once, jump_at_once}
-use Rattle.st_at_once.specs.declared.ending.RowEnd.{RowEnd}
-use Rattle.st_at_once.specs.declared.ending.RowEnd.TheVariants as ends
-use Rattle.st_at_once.specs.inside.AtOnce.{NamesSame, argument_answer, replace_pair, answered_at_once, arithmetic_at_once_by, arithmetic_at_once, primitive_at_once, long_jump_at_once, bytecode_at_once, may_leave, was_done, deed_left}
+use Rattle.st_at_once.specs.inside.AtOnce.{NamesSame, argument_answer, replace_pair, answered_at_once, arithmetic_at_once_by, arithmetic_at_once, primitive_at_once, long_jump_at_once, bytecode_at_once}
 
 abbrev same : (r : Registers) → NamesSame r r
 same r = record { active = refl; home = refl; method = refl; receiver = refl }
@@ -316,43 +312,33 @@ module _ {H : Type 0} (m : ObjectMemory H) where
   unfolding long_jump_at_once
   long_jump_stays wanted other i = then_stays _ _ next_byte_stays (λ b. jump_on_stays wanted other _)
 
-  primitive_stays : (value : Step H Bool) (a b : Bool) → (if a then false else if b then false else true) ≡ false
-      → Stays (if a then at_once (equivalence m) else if b then at_once (receiver_class m) else value)
-  primitive_stays value true b e = at_once_stays _ equivalence_stays
-  primitive_stays value false true e = at_once_stays _ class_answer_stays
-  primitive_stays value false false e = cc
-
-  pub row_stays : (b : Bytecode) → may_leave b ≡ false → Stays (bytecode_at_once m b)
+  pub row_stays : (b : Bytecode) → Stays (bytecode_at_once m b)
   unfolding bytecode_at_once primitive_at_once push_receiver push_constant extended_push extended_store extended_store_and_pop pop_stack duplicate_top push_active_context short_unconditional_jump long_unconditional_jump arithmetic_at_once
-  row_stays (code.Push o) e = at_once_stays _ (push_operand_stays o)
-  row_stays (code.StoreAndPop o) e = at_once_stays _ (store_and_pop_stays o)
-  row_stays code.PushReceiver e = at_once_stays _ (then_stays _ _ receiver_stays push_stays)
-  row_stays (code.PushConstant c) e = at_once_stays _ (then_stays _ _ (constant_value_stays c) push_stays)
-  row_stays code.ReturnReceiver e = cc
-  row_stays (code.ReturnConstant c) e = cc
-  row_stays code.ReturnTopToSender e = cc
-  row_stays code.ReturnTopToCaller e = cc
-  row_stays code.ExtendedPush e = at_once_stays _ (then_stays _ _ next_byte_stays (λ b. push_operand_stays _))
-  row_stays code.ExtendedStore e = at_once_stays _ (then_stays _ _ next_byte_stays (λ b. then_stays _ _ top_stays (store_operand_stays _)))
-  row_stays code.ExtendedStoreAndPop e = at_once_stays _ (then_stays _ _ next_byte_stays (λ b. store_and_pop_stays _))
-  row_stays code.PopStack e = at_once_stays _ (then_stays _ _ pop_stays (λ x. answer_stays tt))
-  row_stays code.DuplicateTop e = at_once_stays _ (then_stays _ _ top_stays push_stays)
-  row_stays code.PushActiveContext e = at_once_stays _ (then_stays _ _ active_stays push_stays)
-  row_stays (code.ShortUnconditionalJump i) e = at_once_stays _ (jump_stays _)
-  row_stays (code.ShortJumpOnFalse i) e = jump_on_stays _ _ _
-  row_stays (code.LongUnconditionalJump i) e = at_once_stays _ (then_stays _ _ next_byte_stays (λ b. jump_stays _))
-  row_stays (code.LongJumpOnTrue i) e = long_jump_stays _ _ i
-  row_stays (code.LongJumpOnFalse i) e = long_jump_stays _ _ i
-  row_stays (code.ArithmeticSend k) e = then_stays _ _ (under_stays 1) (arithmetic_by_stays k)
-  row_stays (code.PrimitiveSend k) e = primitive_stays _ (k == 22) (k == 23) e
-  row_stays (code.LiteralSend i n) e = cc
-  row_stays b e = answer_stays false
+  row_stays (code.Push o) = at_once_stays _ (push_operand_stays o)
+  row_stays (code.StoreAndPop o) = at_once_stays _ (store_and_pop_stays o)
+  row_stays code.PushReceiver = at_once_stays _ (then_stays _ _ receiver_stays push_stays)
+  row_stays (code.PushConstant c) = at_once_stays _ (then_stays _ _ (constant_value_stays c) push_stays)
+  row_stays code.ExtendedPush = at_once_stays _ (then_stays _ _ next_byte_stays (λ b. push_operand_stays _))
+  row_stays code.ExtendedStore = at_once_stays _ (then_stays _ _ next_byte_stays (λ b. then_stays _ _ top_stays (store_operand_stays _)))
+  row_stays code.ExtendedStoreAndPop = at_once_stays _ (then_stays _ _ next_byte_stays (λ b. store_and_pop_stays _))
+  row_stays code.PopStack = at_once_stays _ (then_stays _ _ pop_stays (λ x. answer_stays tt))
+  row_stays code.DuplicateTop = at_once_stays _ (then_stays _ _ top_stays push_stays)
+  row_stays code.PushActiveContext = at_once_stays _ (then_stays _ _ active_stays push_stays)
+  row_stays (code.ShortUnconditionalJump i) = at_once_stays _ (jump_stays _)
+  row_stays (code.ShortJumpOnFalse i) = jump_on_stays _ _ _
+  row_stays (code.LongUnconditionalJump i) = at_once_stays _ (then_stays _ _ next_byte_stays (λ b. jump_stays _))
+  row_stays (code.LongJumpOnTrue i) = long_jump_stays _ _ i
+  row_stays (code.LongJumpOnFalse i) = long_jump_stays _ _ i
+  row_stays (code.ArithmeticSend k) = then_stays _ _ (under_stays 1) (arithmetic_by_stays k)
+  row_stays (code.PrimitiveSend k) = if_stays (k == 22) _ _ (at_once_stays _ equivalence_stays) (if_stays (k == 23) _ _ (at_once_stays _ class_answer_stays) (answer_stays false))
+  row_stays b = answer_stays false
 
 -- what a step that went leaves
 pub names_left : {H A : Type 0} (m : Step H A) (s t : State H) (a : A) → Stays m → m.run s ≡ Went a t → NamesSame s.registers t.registers
 names_left m s t a h e = subst (Left s.registers) e (h.stays s)
 
--- the same of a row whose end says that it stays in its context
-pub names_stay : (m : Step Table Bool) (s t : State Table) (left : Deed) (result : Result RowEnd Dead) → Stays m → result ≡ Ok ends.Stays
-    → Does m was_done s result (with_left (deed_left left) result t) → NamesSame s.registers t.registers
-names_stay m s t left result h e does = names_left m s t true h (subst (λ x. Does m was_done s x (with_left (deed_left left) x t)) e does)
+-- the same of a call that may die, from registers that name what some did
+pub names_after : {A : Type 0} (m : Step Table A) (r : Registers) (s t : State Table) (result : Result A Dead) → Stays m → NamesSame r s.registers → Does m itself s result t
+    → IfOk result (λ a. NamesSame r t.registers)
+names_after m r s t (Ok a) h n does = names_then r s.registers t.registers n (names_left m s t a h does)
+names_after m r s t (Err cause) h n does = tt
