@@ -12,6 +12,7 @@ use st_memory::Objects;
 use st_model::{Call, Dead, PageObject, Word};
 
 /// Sends cannotReturn: to the active context.
+#[inline(never)]
 #[tactic(auto, using(st_frames::proofs::Doing::rows), unfolding(st_model::specs::Returns::cannot_return))]
 fn cannot_return<O: Objects>(m: &mut O, r: &mut Registers, answer: Word) -> Result<Call, Dead>
     requires room { return_changes ≤ O.room m.old }
@@ -46,6 +47,7 @@ fn return_into<O: Objects>(
 }
 
 /// Returns the answer past a context, to its sender or caller, unless that is nil or was left for good.
+#[inline(always)]
 #[tactic(auto, using(st_frames::proofs::Doing::rows), unfolding(crate::specs::inside::Returning::return_past, st_model::specs::Returns::return_to, st_model::specs::Returns::return_to_context, st_model::specs::Returns::calls, st_model::specs::Returns::calls_nothing))]
 pub fn return_past<O: Objects>(
     m: &mut O,

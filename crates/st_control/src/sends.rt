@@ -33,6 +33,7 @@ pub fn not_understood<O: Objects>(m: &mut O, r: &mut Registers, sent: Sent) -> R
 }
 
 /// Sends a message: the method is called, if there is one.
+#[inline(always)]
 #[tactic(auto, using(st_frames::proofs::Doing::rows), unfolding(st_model::specs::Sends::send_from, st_model::specs::Sends::call_found))]
 fn send_from<O: Objects>(m: &mut O, r: &mut Registers, sent: Sent) -> Result<Call, Dead>
     requires room { send_changes ≤ O.room m.old }
@@ -51,6 +52,7 @@ fn send_from<O: Objects>(m: &mut O, r: &mut Registers, sent: Sent) -> Result<Cal
 }
 
 /// Sends the selector with n arguments to the word n words below the top.
+#[inline(always)]
 #[tactic(auto, using(st_frames::proofs::Doing::rows), unfolding(st_model::specs::Sends::send))]
 pub fn send<O: Objects>(m: &mut O, r: &mut Registers, selector: Word, n: u32) -> Result<Call, Dead>
     requires few { n < 16384 }
