@@ -1,6 +1,6 @@
 -- A primitive on processes, or on devices or clocks, is found by its number, and fails where it takes another number of arguments.
 use Rattle.std.proofs.Common.{◌≡◌, ℕ, true, false, refl, ◌∙◌}
-use Rattle.std.specs.Prelude.{◌==◌, if◌then◌else◌}
+use Rattle.std.specs.Prelude.{◌==◌}
 use Rattle.st_model.specs.Machine.{ObjectMemory, State, Went, answer}
 use Rattle.st_model.specs.Primitives.{taking}
 use Rattle.st_model.specs.Processes.{processes}

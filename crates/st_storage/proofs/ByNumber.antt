@@ -1,6 +1,6 @@
 -- A primitive on objects is found by its number, and fails where it takes another number of arguments.
 use Rattle.std.proofs.Common.{◌≡◌, ℕ, true, false, refl}
-use Rattle.std.specs.Prelude.{◌==◌, if◌then◌else◌}
+use Rattle.std.specs.Prelude.{◌==◌}
 use Rattle.st_model.specs.declared.dead.Dead.{Dead}
 use Rattle.st_model.specs.Values.{Value}
 use Rattle.st_model.specs.Machine.{ObjectMemory, State, Died, Went, answer, after, tried, ◌>>=◌, ◌>>◌}
