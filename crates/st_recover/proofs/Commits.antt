@@ -73,7 +73,7 @@ module _ (name : List ℕ) where
 pub broken_commit : {D : Type 0} (host : Ghosts D) (name n : List ℕ) (slot : ℕ) (c : Commit) (h : D) → IsOpenable c → n ≡ name → RestsUnlessGate host (Opens n) n (stored_of slot c) h → RestsUnlessGate host (OpensAs name) name c h
 broken_commit {D = D} host name n slot c h openable named broken = ⊎_elim
     (λ rest. inl (as_rest h rest))
-    (λ gate. inr (record { before = gate.before; rest = as_rest gate.before gate.rest; writes = gate.writes; fault = gate.fault }))
+    (λ gate. let fails = gate.fails in inr (record { fails = record { before = fails.before; rest = as_rest fails.before fails.rest; writes = fails.writes; fault = fails.fault }; ready = gate.ready }))
     (subst (λ (x : List ℕ). RestsUnlessGate host (Opens x) x (stored_of slot c) h) named broken)
   where
     as_rest : (x : D) → IsAtRest host (Opens name) (stored_of slot c) x → IsAtRest host (OpensAs name) c x

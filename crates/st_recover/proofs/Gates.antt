@@ -55,25 +55,25 @@ module _ {D : Type 0} (host : Ghosts D) (name other : List ℕ) (c : Commit) (ne
       own same = apart (sym (append_cancel_right name other (codes ".roots") same))
 
       mixed : Files → Files
-      mixed f n = ⊎_elim (λ is. host.files gate.before n) (λ differs. f n) (same_or_other n (roots_file other))
+      mixed f n = ⊎_elim (λ is. host.files gate.fails.before n) (λ differs. f n) (same_or_other n (roots_file other))
 
       as_was : (f : Files) (n : List ℕ) → n ≢ roots_file other → mixed f n ≡ f n
       as_was f n differs = over (same_or_other n (roots_file other))
         where
-          over : (x : (n ≡ roots_file other) ⊎ (n ≢ roots_file other)) → ⊎_elim (λ is. host.files gate.before n) (λ differs. f n) x ≡ f n
+          over : (x : (n ≡ roots_file other) ⊎ (n ≢ roots_file other)) → ⊎_elim (λ is. host.files gate.fails.before n) (λ differs. f n) x ≡ f n
           over (inl is) = absurd (differs is)
           over (inr apart) = refl
 
-      could : (f : Files) → ((n : List ℕ) → host.may_leave new n (f n)) → (n : List ℕ) → host.may_leave gate.before n (mixed f n)
+      could : (f : Files) → ((n : List ℕ) → host.may_leave new n (f n)) → (n : List ℕ) → host.may_leave gate.fails.before n (mixed f n)
       could f can n = over (same_or_other n (roots_file other))
         where
-          over : (x : (n ≡ roots_file other) ⊎ (n ≢ roots_file other)) → host.may_leave gate.before n (⊎_elim (λ is. host.files gate.before n) (λ differs. f n) x)
-          over (inl is) = reads gate.before n
-          over (inr differs) = (gate.writes.run.others told).fewer n (f n) differs (can n)
+          over : (x : (n ≡ roots_file other) ⊎ (n ≢ roots_file other)) → host.may_leave gate.fails.before n (⊎_elim (λ is. host.files gate.fails.before n) (λ differs. f n) x)
+          over (inl is) = reads gate.fails.before n
+          over (inr differs) = (gate.fails.writes.run.others told).fewer n (f n) differs (can n)
 
       opens : (f : Files) → ((n : List ℕ) → host.may_leave new n (f n)) → OpensAs name c f
       opens f can =
-          let was = gate.rest.opens_as (mixed f) (could f can) in
+          let was = gate.fails.rest.opens_as (mixed f) (could f can) in
           record {
             slot = was.slot;
             opens = opens_alike name _ (mixed f) f (as_was f (roots_file name) own) (λ slot. as_was f (changes_file name slot) (λ e. roots_changes other name slot (sym e))) (λ slot. as_was f (image_file name slot) (image_roots other name slot)) was.opens;

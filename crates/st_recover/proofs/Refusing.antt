@@ -6,7 +6,7 @@ use Rattle.st_host.specs.Files.{Files, bytes_of}
 use Rattle.st_host.specs.declared.host.Host.{Ghosts}
 use Rattle.st_host.proofs.Rising.{rose_second}
 use Rattle.st_store.specs.Names.{image_file}
-use Rattle.st_store.specs.Refusals.{Refuses, IsOfOpening, FaultHasCause}
+use Rattle.st_store.specs.Refusals.{Refuses, IsOfOpening, FaultHasCause, IsRefusal}
 use Rattle.st_store.specs.Stored.{Stored, StoreState, Opens, stored_in}
 use Rattle.st_store.specs.declared.fault.StoreFault.{StoreFault}
 use Rattle.st_store.specs.declared.fault.StoreFault.TheVariants.{Missing, Exists, NotAStore, Disk, OutOfMemory}
@@ -42,7 +42,15 @@ store_unnamed (NotAStore (Changes at)) is named = is
 store_unnamed Disk is named = named
 store_unnamed OutOfMemory is named = named
 
--- a fault of the roots file is none of the disk
+-- a fault of the roots file is one that it shows
+pub roots_refuse : (e : StoreFault) → IsOfRoots (by_store e) → IsRefusal e
+roots_refuse Missing h = tt
+roots_refuse Exists h = h
+roots_refuse (NotAStore place) h = tt
+roots_refuse Disk h = h
+roots_refuse OutOfMemory h = h
+
+-- and none of the disk
 pub no_disk : (e : StoreFault) → IsOfRoots (by_store e) → e ≡ Disk → ⊥
 no_disk Missing is same = cc
 no_disk Exists is same = absurd is

@@ -2,14 +2,14 @@
 ghost use Rattle.std.specs.Prelude.{◌≡◌, ◌≤◌, ◌<◌, ◌^◌, ℕ, List, length, All, IsTrue, nat_lt, IfOk, IfErr, OnOk};
 ghost use Rattle.st_host.specs.Files.{Files};
 ghost use Rattle.st_host.specs.Runs.{LeavesOnly, ReadsAlike, OnlyReads, Narrows, NarrowsBut, Changes as ChangesFile};
-ghost use Rattle.st_host.specs.Runs.{Spares, IsAtRest};
+ghost use Rattle.st_host.specs.Runs.{Spares, IsAtRest, IsSynced};
 ghost use Rattle.st_model.specs.{Limits.longest_image, Image.image_head, View.no_devices, Machine.World};
 ghost use Rattle.st_frames.specs.{declared.frame.Frame.Frame, inside.Shown.{IsFrame, IsReady}};
 ghost use Rattle.st_image.specs.inside.Reading.{IsStart};
 ghost use Rattle.st_chunk.specs.Definitions.{IsDefinition, entries};
 ghost use Rattle.st_store.specs.Names.{roots_file, image_file, IsNoFileOf};
-ghost use Rattle.st_store.specs.Stored.{Stored, Opens, IsSound, IsOpening, OpensAsOne};
-ghost use Rattle.st_store.specs.{Stored.{IsReady as IsChosenFirmly}, Faults.Settles};
+ghost use Rattle.st_store.specs.Stored.{Stored, Opens, IsSound, IsOpening};
+ghost use Rattle.st_store.specs.{Stored.{IsReady as IsChosenFirmly}, Faults.{OpensAsOne, Settles}};
 ghost use Rattle.st_install.specs.Defining.{installed};
 ghost use Rattle.st_changes.specs.Lists.{StandsAt};
 ghost use Rattle.st_recover.specs.{Commits.Commit, inside.Replayings.ReplaysFrom};
@@ -113,6 +113,8 @@ fn fetch<L: Loader, H: Host>(
         → RefusesOpening name.now (H.files host.old) e) }
     ensures kind { IfErr result IsOfReopening }
     ensures writes_nothing { IfErr result (λ e. IsOfRoots e → Narrows H.Host.own host.old host.new) }
+    ensures synced { IfErr result (λ e. IsOfRoots e
+        → IsSynced H.Host.own (roots_file name.now) host.new) }
     ensures rests { IfErr result (λ e. IsTrue H.is_told → IsOfNamed e → (c : Stored)
         → Opens name.now c (H.files host.old) → IsAtRest H.Host.own (Opens name.now) c host.new) }
     ensures moments { IsTrue H.is_told → LeavesOnly H.Host.own host.old host.new
@@ -181,6 +183,9 @@ pub fn reopen<L: Loader, H: Host>(
         → RefusesOpening name.now (H.files host.old) e) }
     ensures kind { IfErr result IsOfReopening }
     ensures writes_nothing { IfErr result (λ e. IsOfRoots e → Narrows H.Host.own host.old host.new) }
+    // A roots file that is refused, or whose root is, was synced: no stop makes another of it.
+    ensures synced { IfErr result (λ e. IsOfRoots e
+        → IsSynced H.Host.own (roots_file name.now) host.new) }
     // Where the image or the changes are refused, each state that a stop may leave opens as what was read.
     ensures rests { IfErr result (λ e. IsTrue H.is_told → IsOfNamed e → (c : Stored)
         → Opens name.now c (H.files host.old) → IsAtRest H.Host.own (Opens name.now) c host.new) }
@@ -190,11 +195,11 @@ pub fn reopen<L: Loader, H: Host>(
         (λ f s. (s ≡ H.said host.old) × IsOpening H.Host.own host.old name.now f) }
     ensures leaves { IsTrue H.is_told → (f : Files) → ((n : List ℕ) → H.may_leave host.new n (f n))
         → IsOpening H.Host.own host.old name.now f }
-    // Where all that a root names which could be chosen is firm, files that open as some that it could leave before.
+    // If each root that could be chosen names what is firm, files that open as some that could be left before.
     ensures as_before { IsTrue H.is_told → IsChosenFirmly H.Host.own host.old name.now
         → LeavesOnly H.Host.own host.old host.new
         (λ f s. (s ≡ H.said host.old) × OpensAsOne H.Host.own host.old name.now f) }
-    // And once the roots file was synced, files that open as one of these, also behind an error.
+    // And once the roots file was synced, files that open as one of these, also after an error.
     ensures settles { IsTrue H.is_told → IsChosenFirmly H.Host.own host.old name.now
         → Settles H.Host.own name.now host.old host.new }
 

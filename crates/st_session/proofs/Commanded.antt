@@ -1,10 +1,10 @@
 -- A session over a store, from the opening of the store to the last line.
 use Rattle.std.proofs.Common.{◌≡◌, ◌≢◌, ◌⊎◌, inl, inr, ℕ, ◌≤◌, List, [], ◌∷◌, ◌++◌, length, ◌∙◌, IsTrue, refl, sym, ap, subst, arith, append-nil, append_assoc}
-use Rattle.std.specs.Prelude.{Some, ◌+◌, slice_get}
+use Rattle.std.specs.Prelude.{Option, Some, None, ◌+◌, slice_get}
 use Rattle.std.proofs.lemmas.List.{append_cancel_left}
 use Rattle.st_host.specs.Counts.{Rose}
 use Rattle.st_host.specs.Files.{Files}
-use Rattle.st_host.specs.Runs.{LeavesOnly, NarrowsBut, Elsewhere, ReadsAlike, ReadsAndSays, Spares, IsAtRest}
+use Rattle.st_host.specs.Runs.{LeavesOnly, NarrowsBut, Elsewhere, ReadsAlike, ReadsAndSays, Spares, IsSynced, IsAtRest}
 use Rattle.st_host.specs.Stops.{Here, SaidPart, WhileSaying}
 use Rattle.st_host.specs.declared.host.Host.{Ghosts}
 use Rattle.st_host.proofs.Joining.{weaker, moments_join}
@@ -14,7 +14,8 @@ use Rattle.st_model.specs.Births.{Births}
 use Rattle.st_model.specs.View.{View}
 use Rattle.st_chunk.specs.Definitions.{entries}
 use Rattle.st_store.specs.Names.{roots_file, IsNoFileOf}
-use Rattle.st_store.specs.Faults.{Settles}
+use Rattle.st_store.specs.Faults.{OpensSince, Settles}
+use Rattle.st_store.specs.Founding.{OpensMaybe}
 use Rattle.st_store.specs.Stored.{Stored, Opens, IsChosen, IsKept, IsOpening, IsReady}
 use Rattle.st_store.specs.declared.root.Root.{Root}
 use Rattle.st_store.specs.declared.fault.StoreFault.TheVariants as unmade
@@ -35,7 +36,7 @@ use Rattle.st_protocol.proofs.Underways.{nothing_of}
 use Rattle.st_install.specs.Defining.{installed}
 use Rattle.st_protocol.specs.Installing.{Install}
 use Rattle.st_recover.specs.Commits.{Commit, OpensAs, all_of, stored_of}
-use Rattle.st_recover.specs.Openings.{IsFaulty, Reopens, RefusesOpening, IsOfReopening, IsOfNamed, OpeningHasCause}
+use Rattle.st_recover.specs.Openings.{IsFaulty, Reopens, RefusesOpening, IsOfReopening, IsOfRoots, IsOfNamed, OpeningHasCause}
 use Rattle.st_recover.specs.inside.Reopened.{IsReopenedAs}
 use Rattle.st_recover.specs.Replays.{Loss, Replayed, replay}
 use Rattle.st_store.proofs.Determined.{one_stored}
@@ -50,7 +51,9 @@ use Rattle.st_call.specs.inside.Telling.{IsOfServing}
 use Rattle.st_session.specs.Resting.{GateFailed, OpensFrom, RestsBroken, RestsAcknowledged}
 use Rattle.st_session.specs.StoreSessions.{course_over, IsOfSession, IsRefused, KeepsPromise}
 use Rattle.st_session.specs.inside.OpenSessions.{IsOpen}
-use Rattle.st_session.specs.Opening.{session_over, session_so_far_over}
+use Rattle.st_chunk.specs.Scripts.{Asked}
+use Rattle.st_session.specs.Opening.{session_over, session_so_far_over, session_of_over}
+use Rattle.st_session.specs.Sessions.{asked_in}
 use Rattle.st_session.proofs.LastLines.{quiet_line}
 
 -- WHAT FILES OPEN AS
@@ -89,20 +92,23 @@ module _ {D : Type 0} (host : Ghosts D) (name : List ℕ) where
       here : (f : Files) → ((n : List ℕ) → host.may_leave mid n (f n)) → Opens name (stored_of slot c) f
       here f can = rests host name mid k (stored_of slot c) f chosen can
 
+      from : (x : Option Stored) → OpensSince host {C = Option Stored} (OpensMaybe name) name x old mid → OpensFrom host (OpensAs name) name c old mid
+      from None since = absurd (since.rest.opens_as (host.files mid) reads (here (host.files mid) reads).chosen.whole.letters)
+      from (Some x) since =
+          let same : x ≡ stored_of slot c = one_stored name x (stored_of slot c) (host.files mid) (since.rest.opens_as (host.files mid) reads) (here (host.files mid) reads) in
+          record {
+            synced = since.synced;
+            first = since.first;
+            moments = weaker host since.synced mid (λ f s. OpensAs name c f) (λ f s. Opens name x f) since.moments (λ f s opens. as_commit f (subst (λ (y : Stored). Opens name y f) same opens));
+          }
+
       by : Settles host name old mid → OpensFrom host (OpensAs name) name c old mid
       by (inl first) = record {
         synced = mid;
         first = first;
         moments = record { later = omega arith; each = λ f s left. as_commit f (here f (only_now f s left).0); before = λ t f s le left. inl left };
       }
-      by (inr at) =
-          let since = at.1 in
-          let same : at.0 ≡ stored_of slot c = one_stored name at.0 (stored_of slot c) (host.files mid) (since.rest.opens_as (host.files mid) reads) (here (host.files mid) reads) in
-          record {
-            synced = since.synced;
-            first = since.first;
-            moments = weaker host since.synced mid (λ f s. OpensAs name c f) (λ f s. Opens name at.0 f) since.moments (λ f s opens. as_commit f (subst (λ (x : Stored). Opens name x f) same opens));
-          }
+      by (inr at) = from at.0 at.1
 
   -- nothing is acknowledged by a part of a last line
   promised_none : (c : Commit) (cs : List Commit) (e : Status) (said s : List ℕ) (f : Files) → SaidPart said (last_line e) s → OpensAs name c f → Promised (OpensAs name) (c ∷ cs) said f s
@@ -210,10 +216,10 @@ module _ {D : Type 0} (host : Ghosts D) (name : List ℕ) where
       over status.TooLarge lines line = kept status.TooLarge (λ e. cc) lines line
       over status.OutOfMemory lines line = kept status.OutOfMemory (λ e. cc) lines line
 
-  pub followed_promise : {X Y : Type 0} (c : Commit) (course : Course Commit X) (so_far : List ℕ → Course Commit Y) (script left : List ℕ) (e : Status) (old mid closed new : D) → IsAtRest host (OpensAs name) c old → ((n : List ℕ) → host.may_leave old n (host.files old n))
+  pub followed_promise : {X Y Z : Type 0} (c : Commit) (course : Course Commit X) (so_far : List ℕ → Course Commit Y) (answers : List Asked → Course Commit Z) (asked : List Asked) (script left : List ℕ) (e : Status) (old mid closed new : D) → IsAtRest host (OpensAs name) c old → ((n : List ℕ) → host.may_leave old n (host.files old n))
       → CountsNow host closed → LeavesOnly host old mid (λ f s. (s ≡ host.said old) × IsOpening host old name f) → host.said mid ≡ host.said old → IsTrue host.is_told
-      → SessionEnds host (OpensAs name) (IsNoFileOf name) c name course so_far script left mid closed e → ReadsAndSays host (last_line e) closed new → KeepsPromise host name (c ∷ commits_of (deeds_of course)) old new e
-  followed_promise c course so_far script left e old mid closed new rest reads now moments quiet told ends line =
+      → SessionEnds host (OpensAs name) (IsNoFileOf name) c name course so_far answers asked script left mid closed e → ReadsAndSays host (last_line e) closed new → KeepsPromise host name (c ∷ commits_of (deeds_of course)) old new e
+  followed_promise c course so_far answers asked script left e old mid closed new rest reads now moments quiet told ends line =
       let commits = c ∷ commits_of (deeds_of course) in
       let first = weaker host old mid (Promised (OpensAs name) commits (host.said old)) (λ f s. (s ≡ host.said old) × IsOpening host old name f) moments
       (λ f s so. promised_none c (commits_of (deeds_of course)) e (host.said old) s f (nothing_of (host.said old) (last_line e) s so.0) (opens_still old c rest reads f so.1)) in
@@ -273,9 +279,9 @@ module _ {D : Type 0} (host : Ghosts D) (name : List ℕ) where
   -- a store isn't opened, and the last line of its fault is said
   pub refused_so : (fault : OpenFault) (e : Status) (old mid new : D) → e ≡ opening_status fault → RefusesOpening name (host.files old) fault → NarrowsBut host (roots_file name) old mid
       → LeavesOnly host old mid (λ f s. (s ≡ host.said old) × IsOpening host old name f) → ((f : Files) → ((n : List ℕ) → host.may_leave mid n (f n)) → IsOpening host old name f)
-      → (IsOfNamed fault → (c : Stored) → Opens name c (host.files old) → IsAtRest host (Opens name) c mid) → (IsReady host old name → Settles host name old mid) → Spares host (IsNoFileOf name) old mid
+      → (IsOfNamed fault → (c : Stored) → Opens name c (host.files old) → IsAtRest host (Opens name) c mid) → (IsOfRoots fault → IsSynced host (roots_file name) mid) → (IsReady host old name → Settles host name old mid) → Spares host (IsNoFileOf name) old mid
       → IsTrue host.is_told → SaysLastLine host e mid new → ReadsAndSays host (last_line e) mid new → ReadsAlike host mid new → IsRefused host name old new e
-  refused_so fault e old mid new is why only moments leaves rests settles spares told line reads alike = record {
+  refused_so fault e old mid new is why only moments leaves rests synced settles spares told line reads alike = record {
     fault = fault;
     is = is;
     why = why;
@@ -283,6 +289,7 @@ module _ {D : Type 0} (host : Ghosts D) (name : List ℕ) where
     moments = refused_moments e old mid new moments leaves (only.quiet told) told reads;
     elsewhere = refused_elsewhere (last_line e) old mid new only told reads;
     rests = λ named k o. rests_line k (last_line e) mid new told reads (rests named k o);
+    synced = λ roots. let at = synced roots in record { is = λ t c can. at.is t c ((reads.stops told).fewer (roots_file name) c can) ∙ sym (alike.same t (roots_file name)) };
     opened = mid;
     settles = settles;
     behind = reads;
@@ -350,7 +357,7 @@ open_at view host install name old new o c at = record {
 
 module _ {D : Type 0} (host : Ghosts D) (c : Commit) (script left : List ℕ) (mid closed : D) (e : Status) where
   abbrev Ends_at : List ℕ → ℕ → List Loss → State Births → Type 0
-  Ends_at name count lost s = SessionEnds host (OpensAs name) (IsNoFileOf name) c name (session_over count lost s c script) (session_so_far_over count lost s c) script left mid closed e
+  Ends_at name count lost s = SessionEnds host (OpensAs name) (IsNoFileOf name) c name (session_over count lost s c script) (session_so_far_over count lost s c) (session_of_over count lost s c) (asked_in script) script left mid closed e
 
   pub ends_at : (n m : List ℕ) (count : ℕ) (lost : List Loss) (r : Replayed) → n ≡ m → count ≡ r.count → lost ≡ r.lost → Ends_at n count lost r.state → Ends_at m r.count r.lost r.state
   ends_at n m count lost r one two three h = subst (λ (x : List Loss). Ends_at m r.count x r.state) three (subst (λ (x : ℕ). Ends_at m x lost r.state) two (subst (λ (x : List ℕ). Ends_at x count lost r.state) one h))

@@ -16,7 +16,7 @@ use Rattle.st_protocol.proofs.Courses.{deeds_preceded}
 use Rattle.st_protocol.proofs.Joins.{says_did, says_began, did_join, obeys_begun, obeys_says, obeys_spares}
 use Rattle.st_protocol.proofs.Promising.{rests_as_one, rests_last, obeys_promised, obeys_rests, obeys_lines}
 use Rattle.st_chunk.specs.Reading.{Reading, line_from}
-use Rattle.st_chunk.specs.Scripts.{asked_from, told_from}
+use Rattle.st_chunk.specs.Scripts.{Asked, asked_from, told_from}
 use Rattle.st_protocol.specs.Installing.{Install}
 use Rattle.st_recover.specs.Replays.{Loss}
 use Rattle.st_session.specs.Points.{Point}
@@ -24,7 +24,7 @@ use Rattle.st_session.specs.Keeping.{Keeping}
 use Rattle.st_session.specs.FirstLines.{opening_text}
 use Rattle.st_session.specs.Sessions.{follow, follow_rest, follow_script, longest, session}
 use Rattle.st_call.specs.inside.Telling.{Tells}
-use Rattle.st_session.specs.Ends.{status_in, IsCalm, DidTold, SessionEnds}
+use Rattle.st_session.specs.Ends.{status_in, IsCalm, DidTold, DidSome, SessionEnds}
 use Rattle.st_session.specs.Resting.{RestsBroken, RestsAcknowledged}
 
 abbrev pub IsEnded : {C X : Type 0} → Course C X → Type 0
@@ -130,15 +130,18 @@ module _ {D : Type 0} (host : Ghosts D) {C : Type 0} (opens : C → Files → Ty
     is_starved (Ok u) e = cc
     is_starved (Err d) e = ap Err e
 
-    pub ends_of : (name : List ℕ) → OwnGate host opens name → (result : Result Unit Status) (old new : D) → IsEnded course → AcknowledgesEach (deeds_of course) → Obeys host opens spared at commit c course result old new
+    pub ends_of : {Z : Type 0} (answers : List Asked → Course C Z) (asked : List Asked) (name : List ℕ) → OwnGate host opens name → (result : Result Unit Status) (old new : D) → IsEnded course → AcknowledgesEach (deeds_of course) → Obeys host opens spared at commit c course result old new
         → (IsErrOf result status.ReadFault → DidTold host opens spared c so_far script left old new)
-        → (IsErrOf result status.OutOfMemory → IsTrue host.is_told → RestsAcknowledged host opens (c ∷ commits_of (deeds_of course)) (host.said old) new) → SessionEnds host opens spared c name course so_far script left old new (status_in result)
-    ends_of name own result old new ends law h told starved = record {
+        → (IsErrOf result status.OutOfMemory → IsTrue host.is_told → RestsAcknowledged host opens (c ∷ commits_of (deeds_of course)) (host.said old) new)
+        → (IsErrOf result status.OutOfMemory → IsTrue host.is_told → (new ≡ old) ⊎ DidSome host opens spared c answers asked old new)
+        → SessionEnds host opens spared c name course so_far answers asked script left old new (status_in result)
+    ends_of answers asked name own result old new ends law h told starved some = record {
       whole = whole_of result old new ends h;
       part = λ tells. obeys_says host opens spared at commit c course result old new tells h;
       told = λ e. told (is_unread result e);
       lines = λ none tells. obeys_lines host opens spared at commit c course result old new law (λ e. none (ap status_in e)) tells h;
       starved = λ is. starved (is_starved result is);
+      answered = λ is. some (is_starved result is);
       broken = λ is tells. broken_at name own course result old new is tells h;
       rests = λ none tells. obeys_rests host opens spared at commit c course result old new (λ e. none (ap status_in e)) tells h;
       moments = λ tells. obeys_promised host opens spared at commit c course result old new law tells h;
@@ -159,5 +162,5 @@ module _ {D : Type 0} (host : Ghosts D) {C : Type 0} (opens : C → Files → Ty
     complete_at reads status.TooLarge old new ends cause end calm = inl (end_is course status.TooLarge status.Done (ends (λ x. x)) end)
     complete_at reads status.OutOfMemory old new ends cause end calm = inr refl
 
-    pub complete_of : (name : List ℕ) (reads : Type 0) (e : Status) (old new : D) → SessionEnds host opens spared c name course so_far script left old new e → StatusHasCause host reads old new e → IsEnd course status.Done → IsCalm host reads old new → (e ≡ status.Done) ⊎ (e ≡ status.OutOfMemory)
-    complete_of name reads e old new ends cause end calm = complete_at reads e old new (λ f. (ends.whole f).0) cause end calm
+    pub complete_of : {Z : Type 0} (answers : List Asked → Course C Z) (asked : List Asked) (name : List ℕ) (reads : Type 0) (e : Status) (old new : D) → SessionEnds host opens spared c name course so_far answers asked script left old new e → StatusHasCause host reads old new e → IsEnd course status.Done → IsCalm host reads old new → (e ≡ status.Done) ⊎ (e ≡ status.OutOfMemory)
+    complete_of answers asked name reads e old new ends cause end calm = complete_at reads e old new (λ f. (ends.whole f).0) cause end calm

@@ -1,10 +1,12 @@
 -- How one call joins the next.
-use Rattle.std.proofs.Common.{◌≡◌, ◌⊎◌, inl, inr, ⊎_elim, ℕ, List, length, IsTrue, refl, sym, subst}
-use Rattle.st_host.specs.Files.{Files}
+use Rattle.std.proofs.Common.{◌≡◌, ◌⊎◌, ◌≤◌, inl, inr, ⊎_elim, ℕ, List, length, IsTrue, refl, sym, subst}
+use Rattle.st_host.specs.Files.{Files, bytes_of}
 use Rattle.st_host.specs.Runs.{IsAtRest}
+use Rattle.st_host.specs.Stops.{Here}
 use Rattle.st_host.specs.declared.host.Host.{Ghosts}
 use Rattle.st_store.specs.Founding.{IsNoStore}
 use Rattle.st_store.specs.Names.{roots_file}
+use Rattle.st_store.specs.Roots.{HasLetters}
 use Rattle.st_model.specs.Image.{image_head}
 use Rattle.st_image.proofs.Begun.{begun}
 use Rattle.st_install.specs.Defining.{installed}
@@ -15,9 +17,9 @@ use Rattle.st_protocol.specs.declared.status.Status.{Status}
 use Rattle.st_session.specs.declared.making.Origin.{Origin}
 use Rattle.st_session.specs.Condensings.{IsWhole}
 use Rattle.st_session.specs.Makings.{Contents, commit_of, IsBeingMade}
-use Rattle.st_session.specs.inside.Joining.{BeginsWith, MayBegin, RestJoins, ReadyJoins, SessionJoins, FollowedJoins, RefusedJoins, ExportJoins, CondenseJoins, MakingJoins, BegunJoins}
+use Rattle.st_session.specs.inside.Joining.{BeginsWith, MayBegin, RestJoins, ReadyJoins, FailedJoins, MadeJoins, SessionJoins, FollowedJoins, RefusedJoins, ExportJoins, CondenseJoins, MakingJoins, BegunJoins}
 use Rattle.st_session.proofs.Commanded.{opens_still}
-use Rattle.st_session.proofs.Readied.{rest_ready}
+use Rattle.st_session.proofs.Readied.{rest_ready, made_ready}
 
 -- what some files open as can be begun with, where the store rests as it
 rest_begins : {E : Type 0} (after : Ghosts E) (name : List ℕ) (c : Commit) (f : Files) (h : E) → OpensAs name c f → IsAtRest after (OpensAs name) c h → MayBegin after name c h
@@ -40,6 +42,24 @@ rest_joins host reads name c h told rest = rest_begins host name c (host.files h
 
 pub ready_joins : {D : Type 0} (host : Ghosts D) → ((h : D) (n : List ℕ) → IsTrue host.is_told → host.may_leave h n (host.files h n)) → ReadyJoins host
 ready_joins host reads name c h told rest = rest_ready host h name c (λ n. reads h n told) rest
+
+pub failed_joins : {D : Type 0} (host : Ghosts D) → FailedJoins host
+failed_joins host name c h gate x can letters =
+    let fewer = gate.behind.fewer in
+    let at = gate.fails.ready x (fewer (roots_file name) x can) letters in
+    let firm = at.3 in
+    (at.0, at.1, at.2, record { sound = firm.sound; image = λ y may. firm.image y (fewer _ y may); changes = λ y may. firm.changes y (fewer _ y may) })
+
+pub made_joins : {D : Type 0} (host : Ghosts D) → ((h : D) (n : List ℕ) → IsTrue host.is_told → host.may_leave h n (host.files h n))
+    → ((h : D) (t : ℕ) (f : Files) (s : List ℕ) → IsTrue host.is_told → t ≤ host.moment h → Here (host.may_leave h) (host.said h) f s → host.left_since h t f s)
+    → (origin : Origin) (right : Contents → Type 0) (wrong : Status → Type 0) → ((c d : Contents) → right c → right d → c ≡ d) → MadeJoins host origin right wrong
+made_joins host reads counts origin right wrong one name old new told none moments = made_ready host new name commit_of right one (λ n. reads new n told)
+    (λ f can letters. by f letters (moments.each f (host.said new) (counts new (host.moment old) f (host.said new) told moments.later (can, refl))).files)
+  where
+    by : (f : Files) → HasLetters (bytes_of (f (roots_file name))) → ((n : List ℕ) → host.may_leave old n (f n)) ⊎ IsBeingMade host origin right wrong name old f
+        → (c : Contents) × right c × OpensAs name (commit_of c) f
+    by f letters (inl could) = absurd (none (f (roots_file name)) (could (roots_file name)) letters)
+    by f letters (inr made) = (made.0, made.1, ⊎_elim (λ no. absurd (no letters)) (λ opens. opens) made.3)
 
 module _ {D E : Type 0} (host : Ghosts D) (after : Ghosts E) where
   pub session_joins : SessionJoins host after

@@ -1,5 +1,5 @@
 -- How a session ends.
-use Rattle.std.specs.Prelude.{◌≡◌, ℕ, ◌≤◌, List, ◌∷◌, ◌++◌, IsTrue, Result, Ok, Err}
+use Rattle.std.specs.Prelude.{◌≡◌, ◌⊎◌, ℕ, ◌≤◌, List, ◌∷◌, ◌++◌, IsTrue, Result, Ok, Err}
 use Rattle.st_host.specs.Counts.{Rose}
 use Rattle.st_host.specs.Files.{Files}
 use Rattle.st_host.specs.Runs.{LeavesOnly, SaysAll, Spares}
@@ -46,8 +46,9 @@ module _ {D : Type 0} (host : Ghosts D) where
       pub did : Did host opens spared c (deeds_of (course first)) old new
 
     -- A session of this course, over the store of this name, which opens as commit c; `so_far` is its course after the first bytes of
-    -- the script, and `left` are the bytes that the source still has.
-    pub record SessionEnds {X Y : Type 0} (name : List ℕ) (course : Course C X) (so_far : List ℕ → Course C Y) (script left : List ℕ) (old new : D) (status : Status) : Type 0 where
+    -- the script, and `answers` that of some requests, of which the script asks these; `left` are the bytes that the source still has.
+    pub record SessionEnds {X Y Z : Type 0} (name : List ℕ) (course : Course C X) (so_far : List ℕ → Course C Y) (answers : List Asked → Course C Z)
+        (asked : List Asked) (script left : List ℕ) (old new : D) (status : Status) : Type 0 where
       -- where no fault comes, the status is the session's, and all of its replies were said
       pub whole : (IsFault status → ⊥) → IsEnd course status × SaysAll host (said_of (deeds_of course)) old new
       -- whatever the status, no more was said than some first bytes of its replies
@@ -60,6 +61,8 @@ module _ {D : Type 0} (host : Ghosts D) where
       pub rests : (status ≡ DiskFault → ⊥) → IsTrue host.is_told → RestsAsOne host opens (c ∷ commits_of (deeds_of course)) new
       -- where there was no memory, as the one whose number is that of those acknowledged
       pub starved : status ≡ OutOfMemory → IsTrue host.is_told → RestsAcknowledged host opens (c ∷ commits_of (deeds_of course)) (host.said old) new
+      -- and some first requests were answered, whole, and nothing else was done, or nothing at all
+      pub answered : status ≡ OutOfMemory → IsTrue host.is_told → (new ≡ old) ⊎ DidSome answers asked old new
       -- after a fault of the disk as one of them, or, only where the gate failed, as one of two that follow each other
       pub broken : status ≡ DiskFault → IsTrue host.is_told → RestsBroken host opens name (c ∷ commits_of (deeds_of course)) new
       -- at each moment the files open as the commit whose number is that of the commits acknowledged by then, or as the next

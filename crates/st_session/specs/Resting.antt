@@ -4,7 +4,7 @@ use Rattle.st_host.specs.Files.{Files}
 use Rattle.st_host.specs.Runs.{LeavesOnly, Syncs, IsAtRest}
 use Rattle.st_host.specs.Stops.{SameStops}
 use Rattle.st_host.specs.declared.host.Host.{Ghosts}
-use Rattle.st_store.specs.Faults.{FailsAt}
+use Rattle.st_store.specs.Faults.{GateFails, LettersFail}
 use Rattle.st_store.specs.Names.{roots_file}
 use Rattle.st_protocol.specs.Acknowledged.{acknowledged}
 use Rattle.st_protocol.specs.Done.{RestsAsOne}
@@ -16,19 +16,18 @@ module _ {D : Type 0} (host : Ghosts D) {C : Type 0} (opens : C → Files → Ty
     pub first : Syncs host (roots_file name) old synced
     pub moments : LeavesOnly host synced new (λ f s. opens c f)
 
-  -- A write of n bytes at a place of the roots file failed, or its sync, where files opened as this, and behind that no file was
-  -- touched.
-  pub record HasFailed (at n : ℕ) (name : List ℕ) (c : C) (new : D) : Type 0 where
+  -- Something failed where files opened as this, and behind that no file was touched.
+  pub record HasFailed (breaks : List ℕ → C → D → Type 0) (name : List ℕ) (c : C) (new : D) : Type 0 where
     pub failed : D
-    pub fails : FailsAt host at n opens name c failed
+    pub fails : breaks name c failed
     pub behind : SameStops (host.may_leave failed) (host.may_leave new)
 
-  -- that of the gate, or of the eight letters
+  -- the write of the gate or its sync, or those of the eight letters
   abbrev pub GateFailed : List ℕ → C → D → Type 0
-  GateFailed name c new = HasFailed 8 1 name c new
+  GateFailed name c new = HasFailed (GateFails host opens) name c new
 
   abbrev pub LettersFailed : List ℕ → C → D → Type 0
-  LettersFailed name c new = HasFailed 0 8 name c new
+  LettersFailed name c new = HasFailed (LettersFail host opens) name c new
 
   -- Each state that a stop may leave opens as one of two commits, of which the second follows the first: as the second was made the
   -- gate failed.

@@ -1,7 +1,7 @@
 -- How a session over a store ends.
 use Rattle.std.specs.Prelude.{◌≡◌, ◌≢◌, ◌⊎◌, ℕ, List, ◌∷◌, IsTrue, ⊤}
 use Rattle.st_host.specs.Files.{Files}
-use Rattle.st_host.specs.Runs.{LeavesOnly, ReadsAndSays, NarrowsBut, Spares, IsAtRest}
+use Rattle.st_host.specs.Runs.{LeavesOnly, ReadsAndSays, NarrowsBut, Spares, IsSynced, IsAtRest}
 use Rattle.st_host.specs.Stops.{SaidPart}
 use Rattle.st_host.specs.declared.host.Host.{Ghosts}
 use Rattle.st_store.specs.Faults.{Settles}
@@ -15,16 +15,17 @@ use Rattle.st_protocol.specs.Courses.{Course, deeds_of, commits_of, IsEnd}
 use Rattle.st_protocol.specs.Done.{RestsAsOne}
 use Rattle.st_install.specs.Defining.{installed}
 use Rattle.st_recover.specs.Commits.{Commit, OpensAs}
-use Rattle.st_recover.specs.Openings.{Reopens, RefusesOpening, IsOfNamed}
+use Rattle.st_recover.specs.Openings.{Reopens, RefusesOpening, IsOfRoots, IsOfNamed}
 use Rattle.st_recover.specs.Replays.{Replayed}
 use Rattle.st_recover.specs.declared.fault.OpenFault.{OpenFault}
 use Rattle.st_recover.specs.declared.fault.OpenFault.TheVariants as opening
 use Rattle.st_call.specs.LastLines.{last_line, SaysLastLine}
 use Rattle.st_session.specs.Commands.{opening_status}
 use Rattle.st_session.specs.Ends.{IsCalm, NoCountFell, SessionEnds}
-use Rattle.st_session.specs.Opening.{session_over, session_so_far_over}
+use Rattle.st_session.specs.Opening.{session_over, session_so_far_over, session_of_over}
 use Rattle.st_session.specs.Points.{Point}
-use Rattle.st_session.specs.Resting.{RestsBroken, RestsAcknowledged}
+use Rattle.st_session.specs.Resting.{OpensFrom, RestsBroken, RestsAcknowledged}
+use Rattle.st_session.specs.Sessions.{asked_in}
 
 -- the course of a session over what a commit opens as
 abbrev pub course_over : Commit → Replayed → List ℕ → Course Commit (Point Commit)
@@ -65,9 +66,11 @@ module _ {D : Type 0} (host : Ghosts D) (name : List ℕ) where
     pub elsewhere : LeavesOnly host old new (λ f s. (n : List ℕ) → n ≢ roots_file name → host.may_leave old n (f n))
     -- where the image or the changes are refused, each state that a stop may leave behind it opens as what was read
     pub rests : IsOfNamed fault → (c : Stored) → Opens name c (host.files old) → IsAtRest host (Opens name) c new
-    -- Where all that a root names which could be chosen is firm: a stop leaves of the roots file no more than it could leave, and of every
-    -- other file just what it could; or from a sync of the roots file on there is one answer. Behind the opening nothing is done but that
-    -- the last line is said.
+    -- a roots file that is refused, or whose root is, was synced
+    pub synced : IsOfRoots fault → IsSynced host (roots_file name) new
+    -- If each root that could be chosen names what is firm: a stop leaves of the roots file no more than it could leave, and of every other
+    -- file just what it could; or from a sync of the roots file on there is one answer, a commit or no store. After the opening nothing is
+    -- done but that the last line is said.
     pub opened : D
     pub settles : IsReady host old name → Settles host name old opened
     pub behind : ReadsAndSays host (last_line status) opened new
@@ -85,10 +88,13 @@ module _ {D : Type 0} (host : Ghosts D) (name : List ℕ) where
     pub opened : D
     pub opening : NarrowsBut host (roots_file name) old opened
     pub meanwhile : LeavesOnly host old opened (λ f s. (s ≡ host.said old) × IsOpening host old name f)
+    -- If each root that could be chosen names what is firm, the files open as the commit from the first good sync of the roots file on.
+    pub settled : IsReady host old name → OpensFrom host (OpensAs name) name commit old opened
     pub closed : D
     pub counts : NoCountFell host opened closed
     pub ends : SessionEnds host (OpensAs name) (IsNoFileOf name) commit name (course_over commit replayed script)
-        (session_so_far_over replayed.count replayed.lost replayed.state commit) script left opened closed status
+        (session_so_far_over replayed.count replayed.lost replayed.state commit) (session_of_over replayed.count replayed.lost replayed.state commit)
+        (asked_in script) script left opened closed status
     -- behind the session nothing else is done
     pub line : SaysLastLine host status closed new
     pub behind : ReadsAndSays host (last_line status) closed new

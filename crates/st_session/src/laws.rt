@@ -10,8 +10,8 @@ ghost use Rattle.st_recover.specs.{Commits.{Commit, all_of}, Condensed.IsCondens
 ghost use Rattle.st_browse.specs.inside.MadeTexts.{IsShown};
 ghost use Rattle.st_session.specs.declared.making.Origin.TheVariants.{Image as FromImage, Kernel as FromKernel};
 ghost use Rattle.st_session.specs.{Builds.{Builds, IsWrongKernel}, Imports.{ReadsAs, IsWrongImage}};
-ghost use Rattle.st_session.specs.inside.Joining.{RestJoins, ReadyJoins, SessionJoins, FollowedJoins, RefusedJoins};
-ghost use Rattle.st_session.specs.inside.Joining.{ExportJoins, CondenseJoins, MakingJoins, BegunJoins};
+ghost use Rattle.st_session.specs.inside.Joining.{RestJoins, ReadyJoins, FailedJoins, MadeJoins, SessionJoins, FollowedJoins};
+ghost use Rattle.st_session.specs.inside.Joining.{RefusedJoins, ExportJoins, CondenseJoins, MakingJoins, BegunJoins};
 ghost use Rattle.st_session.specs.inside.OneOpening.{OneAnswer, OpensGives, RefusedIs, FollowedIs, StaysIs};
 ghost use Rattle.st_session.specs.{Keeping.in_a_store, Points.Point, inside.ScriptGroups.GroupsByBytes};
 ghost use Rattle.st_session.specs.Sessions.{session as session_over};
@@ -58,10 +58,16 @@ pub fn condensing_keeps_texts()
 
 /// What a call leaves meets what the next call asks for as it begins: if it left the store at rest, and no stop came; and after a stop
 /// at any moment of it, over whatever host. The call is a session that kept its promise, or one over a store that wasn't at rest, from
-/// its opening on; a refused opening; an export or a condense; or the making of a store, whole once it was said that it is made.
+/// its opening on; a refused opening; an export or a condense; or the making of a store, whole once it was said that it is made. Each
+/// root that a stop may leave chosen names what is firm if the store was left at rest, or the gate failed, or a store was made.
 pub fn calls_join<H: Host, N: Host>()
     ensures rest { RestJoins H.Host.own }
     ensures ready { ReadyJoins H.Host.own }
+    ensures failed { FailedJoins H.Host.own }
+    ensures import_made { (over : HeadValues) (image : List ℕ) → MadeJoins H.Host.own FromImage
+        (ReadsAs over image) (IsWrongImage (IsTrue H.is_told) over image) }
+    ensures build_made { (text : List ℕ) → MadeJoins H.Host.own FromKernel
+        (Builds text) (IsWrongKernel (IsTrue H.is_told) text) }
     ensures session { SessionJoins H.Host.own N.Host.own }
     ensures followed { FollowedJoins H.Host.own N.Host.own }
     ensures refused { RefusedJoins H.Host.own N.Host.own }

@@ -15,7 +15,7 @@ ghost use Rattle.st_session.specs.Sessions.{follow, follow_script, follow_told, 
 ghost use Rattle.st_session.specs.Sessions.{session, session_so_far, session_of};
 ghost use Rattle.st_session.specs.inside.Standing.{MayGoOn, Follows, FollowsTold, FollowsSome, Serves};
 ghost use Rattle.st_session.specs.inside.OpenSessions.{IsOpen};
-ghost use Rattle.st_session.specs.Opening.{session_over, session_so_far_over};
+ghost use Rattle.st_session.specs.Opening.{session_over, session_so_far_over, session_of_over};
 ghost use Rattle.st_call.specs.inside.Telling.{IsOfServing};
 
 use crate::first_lines::say_opening;
@@ -247,6 +247,8 @@ pub fn serve<M: Memory, H: Host, S: Source>(
         opened.store.name (session_over opened.replayed (losses_of opened.lost.items) s c
         (S.remaining script.old))
         (session_so_far_over opened.replayed (losses_of opened.lost.items) s c)
+        (session_of_over opened.replayed (losses_of opened.lost.items) s c)
+        (asked_in (S.remaining script.old))
         (S.remaining script.old) (S.remaining script.new) host.old host.new result }
     ensures complete { IsTrue S.is_told → (c : Commit) (s : State Births)
         → IsOpen M.view H.Host.own host.old opened c s

@@ -1,6 +1,6 @@
 -- What a stop leaves while a store is opened.
 use Rattle.std.proofs.Common.{◌≡◌, ◌≢◌, ◌⊎◌, inl, inr, ⊎_elim, ℕ, ◌+◌, ◌-◌, ◌<◌, ◌≤◌, List, [], ◌∷◌, length, slice_index, Option, IsTrue, refl, sym, subst, ◌∙◌, arith, lit<}
-use Rattle.std.specs.Prelude.{Result}
+use Rattle.std.specs.Prelude.{Some, None, Result}
 use Rattle.st_host.specs.Files.{Files, bytes_of, IsWritten}
 use Rattle.st_host.specs.Stops.{Here}
 use Rattle.st_host.specs.Runs.{LeavesOnly, Narrows, NarrowsBut, Changes, Spares, ReadsAlike, IsSynced, Makes}
@@ -10,12 +10,14 @@ use Rattle.st_host.proofs.Touching.{narrows_but, changes_but, but_join, changes_
 use Rattle.st_store.specs.Names.{roots_file, changes_file, image_file, IsNoFileOf}
 use Rattle.st_store.specs.Roots.{place, Chooses, IsFresh}
 use Rattle.st_store.specs.Refusals.{Fit, RefusesFront, RefusesNumbers, Refuses, IsRefusal}
-use Rattle.st_store.specs.Stored.{Stored, Begins, Opens, IsChosen, IsStaged, IsReady, OpensAsOne, IsOpening, stored_in}
+use Rattle.st_store.specs.Stored.{Stored, Begins, Opens, IsChosen, IsStaged, IsReady, IsOpening, stored_in}
+use Rattle.st_store.specs.Faults.{OpensAsOne}
 use Rattle.st_store.specs.declared.root.Root.{Root}
 use Rattle.st_store.specs.declared.fault.StorePlace.TheVariants.{Roots, Changes as ChangesPlace}
 use Rattle.st_store.specs.declared.fault.StoreFault.{StoreFault}
 use Rattle.st_store.specs.declared.fault.StoreFault.TheVariants.{Missing, Exists, NotAStore, Disk, OutOfMemory}
 use Rattle.st_store.proofs.Bytes.{root_same}
+use Rattle.st_store.proofs.Clearing.{letters_or_none}
 use Rattle.st_store.proofs.Turning.{opens_as, rests}
 
 pub front_refuses : (name : List ℕ) (f : Files) (e : StoreFault) → RefusesFront (f (roots_file name)) e → Refuses name f e
@@ -146,18 +148,20 @@ module _ {D : Type 0} (host : Ghosts D) (name : List ℕ) where
       makes.moments
       (λ f s so. (so.0 ∙ narrows.quiet told, inr (record { is = c; read = read; now = ⊎_elim (λ x. x) (λ x. x) so.1 })))
 
-  -- Where all that each root names which could be chosen is firm, the files open at each moment as some that a stop before
-  -- could leave.
+  -- If each root that could be chosen names what is firm, the files open at each moment as some that a stop before could leave.
   pub as_before : (a d : D) → ((n : List ℕ) → host.may_leave a n (host.files a n)) → IsReady host a name
       → LeavesOnly host a d (λ f s. (s ≡ host.said a) × IsOpening host a name f) → LeavesOnly host a d (λ f s. (s ≡ host.said a) × OpensAsOne host a name f)
   as_before a d reads ready run = weaker host a d (λ f s. (s ≡ host.said a) × OpensAsOne host a name f) (λ f s. (s ≡ host.said a) × IsOpening host a name f) run (λ f s so. (so.0, one f so.1))
     where
       one : (f : Files) → IsOpening host a name f → OpensAsOne host a name f
-      one f (inl could) =
-          let at = ready (f (roots_file name)) (could (roots_file name)) in
+      one f (inl could) = ⊎_elim
+          (λ letters.
+          let at = ready (f (roots_file name)) (could (roots_file name)) letters in
           let opens = opens_as host name a at.1 f at.0 at.3 (λ n other. could n) at.2 in
-          record { is = at.1; were = f; could = could; was = opens; now = opens }
-      one f (inr opens) = record { is = opens.is; were = host.files a; could = reads; was = opens.read; now = opens.now }
+          record { is = Some at.1; were = f; could = could; was = opens; now = opens })
+          (λ none. record { is = None; were = f; could = could; was = none; now = none })
+          (letters_or_none (f (roots_file name)) 8 (omega arith))
+      one f (inr opens) = record { is = Some opens.is; were = host.files a; could = reads; was = opens.read; now = opens.now }
 
   -- both roots are one, and the gate is written
   pub freshly : (m d : D) (k : ℕ) (c : Stored) → host.may_leave m (roots_file name) (host.files m (roots_file name)) → IsStaged host m name k c c

@@ -9,7 +9,7 @@ use Rattle.st_host.specs.declared.host.Host.{Ghosts}
 use Rattle.st_host.proofs.Joining.{weaker}
 use Rattle.st_store.specs.Names.{roots_file, changes_file, image_file}
 use Rattle.st_store.specs.Roots.{place, root_at, root_bytes, IsWhole, Chooses, Fits}
-use Rattle.st_store.specs.Stored.{Stored, StoreState, Opens, Leaves, IsFirm, IsChosen, IsKept, IsStaged}
+use Rattle.st_store.specs.Stored.{Stored, StoreState, Opens, Leaves, IsFirm, IsChosen, IsKept, IsStaged, IsReady}
 use Rattle.st_store.specs.declared.root.Root.{Root}
 use Rattle.st_store.proofs.Bytes.{root_same, root_written}
 use Rattle.st_store.proofs.Others.{changes_roots, image_roots}
@@ -169,6 +169,21 @@ module _ {D : Type 0} (host : Ghosts D) (name : List ℕ) where
         ⊎_elim
         (λ was. inl (opens_as a c f one.0 chosen.firm others was))
         (λ is. inr (opens_as a d f one.0 st.firm others is))
+        one.1
+
+    -- whichever stands, it names what is firm
+    pub turning_ready : IsTrue host.is_told → Writes host (roots_file name) 8 1 a b → IsStaged host a name k c d → host.may_leave a (roots_file name) (host.files a (roots_file name)) → IsReady host b name
+    turning_ready told writes st reads x can letters =
+        let roots = roots_file name in
+        let chosen = st.chosen in
+        let long = (chosen.roots (host.files a roots) reads).whole.long in
+        let fewer = (writes.run.others told).fewer in
+        let one = came (host.may_leave a roots) (TornByWrite (host.files a roots) 8 1) (λ y. (j : ℕ) × (Chooses j c.root y ⊎ Chooses j d.root y)) x
+        (λ y could torn. gate_torn k chosen.which c.root d.root (host.files a roots) y x long (record { chosen = chosen.roots y could; other = st.other y could }) torn)
+        (writes.run.own told x can) in
+        ⊎_elim
+        (λ was. (one.0, c, was, firm_on a b c chosen.firm fewer))
+        (λ is. (one.0, d, is, firm_on a b d st.firm fewer))
         one.1
 
     -- once the gate is written and synced

@@ -3,7 +3,7 @@ use Rattle.std.specs.Prelude.{◌≡◌, ◌⊎◌, ◌≤◌, ◌^◌, ◌-◌,
 use Rattle.st_host.specs.Files.{Files, bytes_of}
 use Rattle.st_host.specs.declared.host.Host.{Ghosts}
 use Rattle.st_store.specs.Names.{roots_file, changes_file, image_file}
-use Rattle.st_store.specs.Roots.{place, root_at, Chooses}
+use Rattle.st_store.specs.Roots.{place, root_at, HasLetters, Chooses}
 use Rattle.st_store.specs.declared.root.Root.{Root}
 
 -- a root, the bytes of the image that it names, and the changes up to its length
@@ -88,15 +88,7 @@ module _ {D : Type 0} (host : Ghosts D) (h : D) where
   abbrev pub IsOpening : List ℕ → Files → Type 0
   IsOpening name f = ((n : List ℕ) → host.may_leave h n (f n)) ⊎ OpensAsRead name f
 
-  -- each root that a stop may leave chosen, the image bytes that it names and the changes up to its length are the same in
-  -- every file that a stop may leave
+  -- Each roots file that a stop may leave is no store's, or it chooses a root, and the image bytes that this names and the changes up to
+  -- its length are the same in every file that a stop may leave.
   abbrev pub IsReady : List ℕ → Type 0
-  IsReady name = Leaves (roots_file name) (λ file. (k : ℕ) × (c : Stored) × Chooses k c.root file × IsFirm name c)
-
-  -- the files open as some that a stop now could leave
-  pub record OpensAsOne (name : List ℕ) (f : Files) : Type 0 where
-    pub is : Stored
-    pub were : Files
-    pub could : (n : List ℕ) → host.may_leave h n (were n)
-    pub was : Opens name is were
-    pub now : Opens name is f
+  IsReady name = Leaves (roots_file name) (λ file. HasLetters (bytes_of file) → (k : ℕ) × (c : Stored) × Chooses k c.root file × IsFirm name c)

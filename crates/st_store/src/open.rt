@@ -6,8 +6,8 @@ ghost use Rattle.st_host.specs.Runs.{LeavesOnly, ReadsAlike, Narrows, NarrowsBut
 ghost use Rattle.st_store.specs.Names.{roots_file, IsNoFileOf};
 ghost use Rattle.st_store.specs.Roots.{Chooses, IsFresh};
 ghost use Rattle.st_store.specs.Refusals.{IsWrongNumber, Fit, RefusesFront, RefusesNumbers, Refuses, IsOfOpening, IsRefusal, FaultHasCause};
-ghost use Rattle.st_store.specs.Stored.{Opens, IsSound, IsChosen, WhereChosen, IsKept, IsReady, IsOpening, OpensAsOne, stored_in};
-ghost use Rattle.st_store.specs.Faults.{SyncsFirst, TriesSync, HasSettled, Settles};
+ghost use Rattle.st_store.specs.Stored.{Opens, IsSound, IsChosen, WhereChosen, IsKept, IsReady, IsOpening, stored_in};
+ghost use Rattle.st_store.specs.Faults.{OpensAsOne, SyncsFirst, TriesSync, HasSettled, Settles};
 ghost use Rattle.st_store.specs.declared.fault.StoreFault.TheVariants.{NotAStore, Disk};
 ghost use Rattle.st_store.specs.declared.fault.StorePlace.TheVariants.{Roots};
 
@@ -177,13 +177,13 @@ pub fn open_store<H: Host>(alloc: Global, host: &mut H, name: &str) -> Result<St
     // A stop at any moment leaves what it could leave before, or files that open as those that were read.
     ensures moments { IsTrue H.is_told → LeavesOnly H.Host.own host.old host.new
         (λ f s. (s ≡ H.said host.old) × IsOpening H.Host.own host.old name.now f) }
-    // Where all that a root names which could be chosen is firm, files that open as some that it could leave before.
+    // If each root that could be chosen names what is firm, files that open as some that could be left before.
     ensures as_before { IsTrue H.is_told → IsReady H.Host.own host.old name.now
         → LeavesOnly H.Host.own host.old host.new
         (λ f s. (s ≡ H.said host.old) × OpensAsOne H.Host.own host.old name.now f) }
-    // And once the roots file was synced, files that open as one of these, also behind an error.
+    // And once the roots file was synced, files that open as one of these, also after an error.
     ensures settled { OnOk result (IsTrue H.is_told → IsReady H.Host.own host.old name.now
-        → HasSettled H.Host.own name.now host.old host.new) }
+        → HasSettled H.Host.own (Opens name.now) name.now host.old host.new) }
     ensures settles { OnErr result (IsTrue H.is_told → IsReady H.Host.own host.old name.now
         → Settles H.Host.own name.now host.old host.new) }
 

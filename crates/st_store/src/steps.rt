@@ -4,7 +4,7 @@ ghost use Rattle.st_host.specs.Counts.{HasCause};
 ghost use Rattle.st_host.specs.Files.{IsWritten};
 ghost use Rattle.st_host.specs.Runs.{Makes, Changes, Writes};
 ghost use Rattle.st_store.specs.Names.{roots_file};
-ghost use Rattle.st_store.specs.Stored.{Stored, Opens, IsFirm, IsChosen, IsStaged};
+ghost use Rattle.st_store.specs.Stored.{Stored, Opens, IsFirm, IsChosen, IsStaged, IsReady};
 
 use crate::Root;
 use crate::names::Names;
@@ -49,6 +49,9 @@ pub(crate) fn turn<H: Host>(host: &mut H, names: &Names, gate: u64) -> Result<()
     ensures other { OnOk result (let name = string_bytes names.now.name in (k : ℕ) (c d : Stored)
         → IsTrue H.is_told
         → gate ≡ 1 - k → IsStaged H.Host.own host.old name k c d → IsChosen H.Host.own host.new name gate d) }
+    // Also after an error, each root that a stop may leave chosen names what is firm.
+    ensures ready { let name = string_bytes names.now.name in (k : ℕ) (c d : Stored) → IsTrue H.is_told
+        → IsStaged H.Host.own host.old name k c d → IsReady H.Host.own host.new name }
 
     // in opening, where both roots are one
     ensures keeps { let name = string_bytes names.now.name in (c : Stored) → IsTrue H.is_told

@@ -1,7 +1,8 @@
 // The host of the real program. It tells nothing of what files and output hold.
-ghost use Rattle.std.specs.Prelude.{◌≡◌, ◌≤◌, false, None, [], length, IfOk};
+ghost use Rattle.std.specs.Prelude.{◌≡◌, ◌≤◌, false, None, [], length, IfOk, OnOk};
 ghost use Rattle.st_host.specs.Counts.{HasCause};
-ghost use Rattle.st_system_host.specs.{inside.Refusing.StaysRefused, inside.Untold.{untold, CountsOnce}};
+ghost use Rattle.st_system_host.specs.inside.{Refusing.StaysRefused, Locking.{Locks, LocksOrLacks}};
+ghost use Rattle.st_system_host.specs.inside.Untold.{untold, CountsOnce};
 
 use crate::guard::{Guard, Place, Refusal};
 use st_host::{Host, HostFault, SayFault};
@@ -63,6 +64,7 @@ impl<R: Files<File = File> + Print + Drop> DirHost<R> {
         ensures counts { KeepsCounts self.old.disk_faults self.old.say_faults
             self.new.disk_faults self.new.say_faults }
         ensures refused { StaysRefused self.old.guard.refusal self.new.guard.refusal result }
+        ensures locked { OnOk result (LocksOrLacks name.now self.new.guard) }
     {
         match self.guard.admit(&self.rt, name)? {
             Place::Absent => Ok(None),
@@ -74,6 +76,7 @@ impl<R: Files<File = File> + Print + Drop> DirHost<R> {
         ensures counts { KeepsCounts self.old.disk_faults self.old.say_faults
             self.new.disk_faults self.new.say_faults }
         ensures refused { StaysRefused self.old.guard.refusal self.new.guard.refusal result }
+        ensures locked { OnOk result (LocksOrLacks name.now self.new.guard) }
     {
         match self.open(name)? {
             Some(file) => Ok(Some(file.metadata()?.len())),
@@ -86,6 +89,7 @@ impl<R: Files<File = File> + Print + Drop> DirHost<R> {
         ensures counts { KeepsCounts self.old.disk_faults self.old.say_faults
             self.new.disk_faults self.new.say_faults }
         ensures refused { StaysRefused self.old.guard.refusal self.new.guard.refusal result }
+        ensures locked { OnOk result (LocksOrLacks name.now self.new.guard) }
     {
         match self.open(name)? {
             Some(mut file) => {
@@ -101,6 +105,7 @@ impl<R: Files<File = File> + Print + Drop> DirHost<R> {
         ensures counts { KeepsCounts self.old.disk_faults self.old.say_faults
             self.new.disk_faults self.new.say_faults }
         ensures refused { StaysRefused self.old.guard.refusal self.new.guard.refusal result }
+        ensures locked { OnOk result (Locks name.now self.new.guard) }
     {
         let mut file = self.open_to_write(name)?;
         file.seek(SeekFrom::Start(at))?;
@@ -111,6 +116,7 @@ impl<R: Files<File = File> + Print + Drop> DirHost<R> {
         ensures counts { KeepsCounts self.old.disk_faults self.old.say_faults
             self.new.disk_faults self.new.say_faults }
         ensures refused { StaysRefused self.old.guard.refusal self.new.guard.refusal result }
+        ensures locked { OnOk result (Locks name.now self.new.guard) }
     {
         let file = self.open_to_write(name)?;
         file.set_len(len)
@@ -121,6 +127,7 @@ impl<R: Files<File = File> + Print + Drop> DirHost<R> {
         ensures counts { KeepsCounts self.old.disk_faults self.old.say_faults
             self.new.disk_faults self.new.say_faults }
         ensures refused { StaysRefused self.old.guard.refusal self.new.guard.refusal result }
+        ensures locked { OnOk result (Locks name.now self.new.guard) }
     {
         match self.guard.admit(&self.rt, name)? {
             Place::Held => {}
@@ -156,6 +163,7 @@ impl<R: Files<File = File> + Print + Drop> DirHost<R> {
         ensures counts { KeepsCounts self.old.disk_faults self.old.say_faults
             self.new.disk_faults self.new.say_faults }
         ensures refused { StaysRefused self.old.guard.refusal self.new.guard.refusal result }
+        ensures locked { OnOk result (LocksOrLacks name.now self.new.guard) }
     {
         match self.open(name)? {
             Some(file) => file.sync_all()?,
@@ -220,6 +228,7 @@ impl<R: Files<File = File> + Print + Drop> Host for DirHost<R> {
 
     fn length(&mut self, name: &str) -> Result<Option<u64>, HostFault>
         ensures refused { StaysRefused self.old.guard.refusal self.new.guard.refusal result }
+        ensures locked { OnOk result (LocksOrLacks name.now self.new.guard) }
         ensures once { CountsOnce self.old.disk_faults self.new.disk_faults result }
         ensures cause { HasCause self.old.disk_faults self.new.disk_faults result }
         ensures say_count { self.new.say_faults ≡ self.old.say_faults }
@@ -236,6 +245,7 @@ impl<R: Files<File = File> + Print + Drop> Host for DirHost<R> {
     fn read_at(&mut self, name: &str, at: u64, into: &mut [u8]) -> Result<usize, HostFault>
         ensures within { IfOk result (λ k. k ≤ length into.old) }
         ensures refused { StaysRefused self.old.guard.refusal self.new.guard.refusal result }
+        ensures locked { OnOk result (LocksOrLacks name.now self.new.guard) }
         ensures once { CountsOnce self.old.disk_faults self.new.disk_faults result }
         ensures cause { HasCause self.old.disk_faults self.new.disk_faults result }
         ensures say_count { self.new.say_faults ≡ self.old.say_faults }
@@ -251,6 +261,7 @@ impl<R: Files<File = File> + Print + Drop> Host for DirHost<R> {
 
     fn write_at(&mut self, name: &str, at: u64, bytes: &[u8]) -> Result<(), HostFault>
         ensures refused { StaysRefused self.old.guard.refusal self.new.guard.refusal result }
+        ensures locked { OnOk result (Locks name.now self.new.guard) }
         ensures once { CountsOnce self.old.disk_faults self.new.disk_faults result }
         ensures cause { HasCause self.old.disk_faults self.new.disk_faults result }
         ensures say_count { self.new.say_faults ≡ self.old.say_faults }
@@ -266,6 +277,7 @@ impl<R: Files<File = File> + Print + Drop> Host for DirHost<R> {
 
     fn cut(&mut self, name: &str, len: u64) -> Result<(), HostFault>
         ensures refused { StaysRefused self.old.guard.refusal self.new.guard.refusal result }
+        ensures locked { OnOk result (Locks name.now self.new.guard) }
         ensures once { CountsOnce self.old.disk_faults self.new.disk_faults result }
         ensures cause { HasCause self.old.disk_faults self.new.disk_faults result }
         ensures say_count { self.new.say_faults ≡ self.old.say_faults }
@@ -281,6 +293,7 @@ impl<R: Files<File = File> + Print + Drop> Host for DirHost<R> {
 
     fn sync(&mut self, name: &str) -> Result<(), HostFault>
         ensures refused { StaysRefused self.old.guard.refusal self.new.guard.refusal result }
+        ensures locked { OnOk result (LocksOrLacks name.now self.new.guard) }
         ensures once { CountsOnce self.old.disk_faults self.new.disk_faults result }
         ensures cause { HasCause self.old.disk_faults self.new.disk_faults result }
         ensures say_count { self.new.say_faults ≡ self.old.say_faults }

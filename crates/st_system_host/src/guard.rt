@@ -1,6 +1,6 @@
 // That no store is lost by a mistake: one process at a time has its files, and none is written over that is there.
-ghost use Rattle.std.specs.Prelude.{◌≡◌};
-ghost use Rattle.st_system_host.specs.inside.Refusing.{StaysRefused};
+ghost use Rattle.std.specs.Prelude.{◌≡◌, IsSome, IfOk, OnOk};
+ghost use Rattle.st_system_host.specs.inside.{Refusing.StaysRefused, Locking.Fits};
 
 use arrayvec::ArrayString;
 use std::fmt::{self, Display, Formatter};
@@ -89,7 +89,8 @@ impl Guard {
 
     /// Locks a roots file that is there, before anything else is done with it. A call on a file comes behind this.
     pub(crate) fn admit<R: Files<File = File>>(&mut self, rt: &R, name: &str) -> io::Result<Place>
-        ensures { StaysRefused self.old.refusal self.new.refusal result }
+        ensures refused { StaysRefused self.old.refusal self.new.refusal result }
+        ensures fits { IfOk result (Fits name.now self.new) }
     {
         if self.refusal.is_some() {
             return Err(refused());
@@ -107,7 +108,9 @@ impl Guard {
     }
 
     // Locks the roots file, where it is there.
-    fn find_roots<R: Files<File = File>>(&mut self, rt: &R, name: &str) -> io::Result<Place> {
+    fn find_roots<R: Files<File = File>>(&mut self, rt: &R, name: &str) -> io::Result<Place>
+        ensures { IfOk result (Fits name.now self.new) }
+    {
         match OpenOptions::new().read(true).write(true).open(rt, name) {
             Ok(_) if self.was_absent => Err(self.refuse(Refusal::Replaced)),
             Ok(file) => {
@@ -131,7 +134,9 @@ impl Guard {
         &mut self,
         rt: &R,
         name: &str,
-    ) -> io::Result<()> {
+    ) -> io::Result<()>
+        ensures { OnOk result (IsSome self.new.held) }
+    {
         let stem = name.strip_suffix(ROOTS).unwrap_or(name);
         for ending in OTHERS {
             if let Some(other) = name_of(stem, ending) {
@@ -149,7 +154,9 @@ impl Guard {
     }
 
     // Doesn't wait for another process.
-    fn lock(&mut self, file: File) -> io::Result<()> {
+    fn lock(&mut self, file: File) -> io::Result<()>
+        ensures { OnOk result (IsSome self.new.held) }
+    {
         let metadata = file.metadata()?;
         match file.try_lock() {
             Ok(()) => {

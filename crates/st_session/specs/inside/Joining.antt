@@ -5,7 +5,7 @@ use Rattle.st_host.specs.Runs.{LeavesOnly, IsAtRest}
 use Rattle.st_host.specs.declared.host.Host.{Ghosts}
 use Rattle.st_store.specs.Founding.{IsNoStore}
 use Rattle.st_store.specs.Names.{roots_file}
-use Rattle.st_store.specs.Stored.{IsReady}
+use Rattle.st_store.specs.Stored.{Leaves, IsReady}
 use Rattle.st_protocol.specs.declared.status.Status.{Status}
 use Rattle.st_protocol.specs.Acknowledged.{Promised}
 use Rattle.st_install.specs.Defining.{installed}
@@ -17,6 +17,7 @@ use Rattle.st_session.specs.declared.making.Origin.{Origin}
 use Rattle.st_session.specs.Condensings.{IsWhole}
 use Rattle.st_session.specs.Exports.{Stays}
 use Rattle.st_session.specs.Makings.{Contents, commit_of, made_text, IsMaking}
+use Rattle.st_session.specs.Resting.{GateFailed}
 use Rattle.st_session.specs.StoreSessions.{IsRefused, IsFollowed, KeepsPromise, commits_over}
 
 -- A host begins with these files, as after a stop that left them: a stop now leaves just these.
@@ -34,9 +35,18 @@ pub record MayBegin {D : Type 0} (host : Ghosts D) (name : List ℕ) (c : Commit
 abbrev pub RestJoins : {D : Type 0} → Ghosts D → Type 0
 RestJoins {D = D} host = (name : List ℕ) (c : Commit) (h : D) → IsTrue host.is_told → IsAtRest host (OpensAs name) c h → MayBegin host name c h
 
--- Each root that a stop may leave chosen names what is firm: what an opening asks for from which on there is one answer.
+-- Each root that a stop may leave chosen names what is firm: then there is one answer from the first good sync of an opening on.
 abbrev pub ReadyJoins : {D : Type 0} → Ghosts D → Type 0
 ReadyJoins {D = D} host = (name : List ℕ) (c : Commit) (h : D) → IsTrue host.is_told → IsAtRest host (OpensAs name) c h → IsReady host h name
+
+-- So it is after a commit whose gate failed,
+abbrev pub FailedJoins : {D : Type 0} → Ghosts D → Type 0
+FailedJoins {D = D} host = (name : List ℕ) (c : Commit) (h : D) → GateFailed host (OpensAs name) name c h → IsReady host h name
+
+-- and after a making, however it ended, if no stop could leave a store of this name before.
+abbrev pub MadeJoins : {D : Type 0} → Ghosts D → Origin → (Contents → Type 0) → (Status → Type 0) → Type 0
+MadeJoins {D = D} host origin right wrong = (name : List ℕ) (old new : D) → IsTrue host.is_told → Leaves host old (roots_file name) IsNoStore
+    → LeavesOnly host old new (IsMaking host origin right wrong name old) → IsReady host new name
 
 module _ {D E : Type 0} (host : Ghosts D) (after : Ghosts E) where
   -- Behind a session that a stop ended, at any moment: with the commit whose number is that of those acknowledged by then, or with the

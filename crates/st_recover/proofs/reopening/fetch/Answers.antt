@@ -7,9 +7,9 @@ use Rattle.st_image.specs.inside.Reading.{IsStart}
 use Rattle.st_store.specs.Stored.{IsOpening, stored_in}
 use Rattle.st_changes.specs.Lists.{Lists}
 use Rattle.st_recover.specs.Openings.{IsReadable, by_store}
-use Rattle.st_recover.proofs.Refusing.{store_refuses, store_kind, no_disk, store_unnamed, store_cause, cause_behind, image_kind, image_no_roots, image_refuses, changes_kind, changes_no_roots, changes_refuse}
+use Rattle.st_recover.proofs.Refusing.{store_refuses, store_kind, no_disk, roots_refuse, store_unnamed, store_cause, cause_behind, image_kind, image_no_roots, image_refuses, changes_kind, changes_no_roots, changes_refuse}
 use Rattle.st_recover.proofs.Fetching.{image_is, changes_are, kept_on, left_reading, rests_as_read, but_reading, spares_image, spares_changes}
-use Rattle.st_store.proofs.Settling.{settled_more}
+use Rattle.st_store.proofs.Settling.{settled_more, settled_maybe}
 use Rattle.st_recover.proofs.reopening.fetch.Goals as goal
 
 pub returns-in_err-store : goal.returns-in_err-store
@@ -36,6 +36,7 @@ returns-in_err-store g c =
       refused = λ told. store_refuses name (H.files a) fault (failed.refused told);
       kind = store_kind fault failed.kind;
       writes_nothing = λ roots. failed.writes_nothing (no_disk fault roots);
+      synced = λ roots. failed.synced (roots_refuse fault roots);
       rests = λ told named. absurd (store_unnamed fault failed.kind named);
       moments = opened.moments;
       settles = failed.settles;
@@ -76,9 +77,10 @@ returns-in_err-loaded g c =
       refused = λ told. image_refuses name (H.files a) store (c.in_ok-store.ensures.opens told) _ (at told) fault (failed.refused told);
       kind = image_kind fault failed.kind;
       writes_nothing = λ roots. absurd (image_no_roots fault failed.kind roots);
+      synced = λ roots. absurd (image_no_roots fault failed.kind roots);
       rests = λ told named y opens. rests_as_read H name store x a m y told c.in_ok-store.ensures.named (c.in_ok-store.ensures.opens told) opens (kept_on H store x b m told (reads_narrow H b m c.read_image.ensures.reads) (kept told));
       moments = λ told. seen told m told (opened.moments told) (reads_narrow H b m c.read_image.ensures.reads);
-      settles = λ told ready. inr (settled_more H name a b told m (c.in_ok-store.ensures.settled told ready) (reads_narrow H b m c.read_image.ensures.reads));
+      settles = λ told ready. inr (settled_maybe H name a m (settled_more H name a b told m (c.in_ok-store.ensures.settled told ready) (reads_narrow H b m c.read_image.ensures.reads)));
       only = but_reading H name a b m opened.only (reads_narrow H b m c.read_image.ensures.reads);
       spares = spared;
       cause = cause_behind H a b m fault opened.only.disk failed.cause;
@@ -120,9 +122,10 @@ returns-in_err-changes g c =
       refused = λ told. changes_refuse name (H.files a) x _ (c.in_ok-store.ensures.opens told) (readable told) (bytes told) fault (failed.refused told);
       kind = changes_kind fault failed.kind;
       writes_nothing = λ roots. absurd (changes_no_roots fault failed.kind roots);
+      synced = λ roots. absurd (changes_no_roots fault failed.kind roots);
       rests = λ told named y opens. rests_as_read H name store x a d y told c.in_ok-store.ensures.named (c.in_ok-store.ensures.opens told) opens (kept_on H store x b d told narrows (kept told));
       moments = λ told. seen told d told (opened.moments told) narrows;
-      settles = λ told ready. inr (settled_more H name a b told d (c.in_ok-store.ensures.settled told ready) narrows);
+      settles = λ told ready. inr (settled_maybe H name a d (settled_more H name a b told d (c.in_ok-store.ensures.settled told ready) narrows));
       only = but_reading H name a b d opened.only narrows;
       spares = spares_changes H name store.name store.root.slot a m d c.in_ok-store.ensures.named spared c.read_listing.ensures.only;
       cause = cause_behind H a m d (by_store fault) (omega (arith, opened.only.disk, c.read_image.ensures.reads.disk)) (store_cause H m d fault failed.cause);
@@ -168,9 +171,10 @@ returns g c =
       refused = tt;
       kind = tt;
       writes_nothing = tt;
+      synced = tt;
       rests = tt;
       moments = λ told. seen told d told (opened.moments told) narrows;
-      settles = λ told ready. inr (settled_more H name a b told d (c.in_ok-store.ensures.settled told ready) narrows);
+      settles = λ told ready. inr (settled_maybe H name a d (settled_more H name a b told d (c.in_ok-store.ensures.settled told ready) narrows));
       only = but_reading H name a b d opened.only narrows;
       spares = spares_changes H name store.name store.root.slot a m d c.in_ok-store.ensures.named spared c.read_listing.ensures.only;
       cause = tt;

@@ -2,15 +2,17 @@ use Rattle.std.proofs.Common.{List, IsTrue, inl, inr, sym, subst}
 use Rattle.st_host.specs.Counts.{Rose}
 use Rattle.st_host.specs.Runs.{IsAtRest}
 use Rattle.st_store.specs.Names.{IsNoFileOf}
+use Rattle.st_store.specs.Stored.{IsChosen}
 use Rattle.st_protocol.specs.Courses.{deeds_of, commits_of}
 use Rattle.st_install.specs.Defining.{installed}
-use Rattle.st_recover.specs.Commits.{Commit, OpensAs}
+use Rattle.st_recover.specs.Commits.{Commit, OpensAs, stored_of}
 use Rattle.st_recover.specs.Openings.{Reopens}
 use Rattle.st_recover.specs.inside.Replayings.{losses_of}
 use Rattle.st_recover.proofs.Determined.{same_commit}
-use Rattle.st_session.specs.Opening.{session_so_far_over}
+use Rattle.st_session.specs.Opening.{session_so_far_over, session_of_over}
+use Rattle.st_session.specs.Sessions.{asked_in}
 use Rattle.st_session.specs.StoreSessions.{course_over, commits_over, IsOfSession, KeepsPromise}
-use Rattle.st_session.proofs.Commanded.{one_opening, refused_promise, followed_promise, refused_so, refused_cause, refused_complete, spares_line, spares_then, cause_between, calm_between, open_at, ends_at, end_at, spares_told, kind_served, kind_refused}
+use Rattle.st_session.proofs.Commanded.{one_opening, refused_promise, followed_promise, refused_so, refused_cause, refused_complete, spares_line, spares_then, cause_between, calm_between, open_at, ends_at, end_at, spares_told, kind_served, kind_refused, settled_from}
 use Rattle.st_session.proofs.command.session.Goals as goal
 
 pub returns-in-Ok-clause-ends : goal.returns-in-Ok-clause-ends
@@ -43,6 +45,8 @@ returns-in-Ok-clause-ends g c =
         opened = mid;
         opening = opened.only;
         meanwhile = opened.moments told;
+        settled = λ ready. settled_from host name (opened.opened told).0 o.store.chosen o.store.root.slot old mid (λ f s left. g.met.H.Host.only_now mid f s told left) (λ n. g.met.H.Host.read_counts mid n told) at.opens
+            (subst (λ n. IsChosen host mid n o.store.chosen (stored_of o.store.root.slot (opened.opened told).0)) opened.named at.kept.is) (opened.settles told ready);
         closed = closed;
         counts = served.counts;
         ends = ends told read;
@@ -54,7 +58,7 @@ returns-in-Ok-clause-ends g c =
           let one = same_commit name (opened.opened told).0 k (host.files old) at.opens (rest.opens_as (host.files old) (λ n. g.met.H.Host.read_counts old n told)) in
           let two = one_opening installed k at.replayed r (subst (λ (x : Commit). Reopens installed x at.replayed) one at.reopens) reopens in
           subst (λ (l : List Commit). KeepsPromise host name l old new e) (λ i. commits_over (one i) (two i) script)
-          (followed_promise host name (opened.opened told).0 (course_over (opened.opened told).0 at.replayed script) (session_so_far_over at.replayed.count at.replayed.lost at.replayed.state (opened.opened told).0) script left e old mid closed new
+          (followed_promise host name (opened.opened told).0 (course_over (opened.opened told).0 at.replayed script) (session_so_far_over at.replayed.count at.replayed.lost at.replayed.state (opened.opened told).0) (session_of_over at.replayed.count at.replayed.lost at.replayed.state (opened.opened told).0) (asked_in script) script left e old mid closed new
           (subst (λ (x : Commit). IsAtRest host (OpensAs name) x old) (sym one) rest) (λ n. g.met.H.Host.read_counts old n told) (g.met.H.Host.counts_now closed) (opened.moments told) (opened.only.quiet told) told (ends told read) line.reads);
       complete = λ told read whole calm.
           let at = (opened.opened told).1 in
@@ -79,7 +83,7 @@ returns-in-Err-clause-ends g c =
     let opened = c.in-Err.ensures in
     let line = c.refuse_opening.ensures in
     let refused = λ (told : IsTrue g.H.Host.is_told). refused_so g.H.Host name c.in-Err.fault c.refuse_opening.result c.args.host.now c.reopen.new.host c.refuse_opening.new.host line.status
-    (opened.refused told) opened.only (opened.moments told) (opened.leaves told) (opened.rests told) (opened.settles told) opened.spares told line.line line.reads line.alike in
+    (opened.refused told) opened.only (opened.moments told) (opened.leaves told) (opened.rests told) opened.synced (opened.settles told) opened.spares told line.line line.reads line.alike in
     record {
       over = λ told read. inl (refused told);
       promise = λ told read k rest r reopens.

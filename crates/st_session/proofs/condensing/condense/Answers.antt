@@ -74,7 +74,7 @@ returns-in-Err-clause-ends g c =
     let old = c.args.host.now in
     let new = c.refuse_opening.new.host in
     let refused = λ (told : IsTrue g.H.Host.is_told). refused_so g.H.Host store c.in-Err.fault c.refuse_opening.result c.args.host.now c.reopen.new.host c.refuse_opening.new.host line.status
-    (opened.refused told) opened.only (opened.moments told) (opened.leaves told) (opened.rests told) (opened.settles told) opened.spares told line.line line.reads line.alike in
+    (opened.refused told) opened.only (opened.moments told) (opened.leaves told) (opened.rests told) opened.synced (opened.settles told) opened.spares told line.line line.reads line.alike in
     record {
       over = λ told. inl (refused told);
       whole = λ told k rest. refused_whole_moments g.H.Host store k c.refuse_opening.result old new rest (λ n. g.met.H.Host.read_counts old n told) (refused told).moments;

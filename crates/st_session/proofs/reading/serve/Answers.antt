@@ -1,4 +1,4 @@
-use Rattle.std.proofs.Common.{◌≡◌, ◌∙◌, ⊎_elim, ℕ, List, refl, sym, ap, subst, arith}
+use Rattle.std.proofs.Common.{◌≡◌, ◌∙◌, inl, inr, ⊎_elim, ℕ, List, refl, sym, ap, subst, arith}
 use Rattle.std.specs.Prelude.{Some, Err}
 use Rattle.st_host.specs.Counts.{Rose}
 use Rattle.st_host.specs.declared.host.Host.{Ghosts}
@@ -20,7 +20,8 @@ use Rattle.st_recover.specs.inside.Replayings.{losses_of}
 use Rattle.st_recover.proofs.Gates.{own_gate}
 use Rattle.st_session.specs.Ends.{SessionEnds, status_in}
 use Rattle.st_session.specs.Keeping.{in_a_store}
-use Rattle.st_session.specs.Opening.{session_over, session_so_far_over}
+use Rattle.st_session.specs.Opening.{session_over, session_so_far_over, session_of_over}
+use Rattle.st_session.specs.Sessions.{asked_in}
 use Rattle.st_session.specs.Points.{Point, alive}
 use Rattle.st_session.specs.inside.Standing.{IsAt, shown_by}
 use Rattle.st_session.proofs.Ending.{session_ends, ends_of, complete_of}
@@ -33,7 +34,7 @@ use Rattle.st_session.proofs.reading.serve.Goals as goal
 -- the same end in other words
 module _ {D : Type 0} (host : Ghosts D) (k : Commit) (s : State Births) (replayed : ℕ) (script left : List ℕ) (old new : D) where
   abbrev Ends_so : List ℕ → List Loss → Status → Type 0
-  Ends_so name lost e = SessionEnds host (OpensAs name) (IsNoFileOf name) k name (session_over replayed lost s k script) (session_so_far_over replayed lost s k) script left old new e
+  Ends_so name lost e = SessionEnds host (OpensAs name) (IsNoFileOf name) k name (session_over replayed lost s k script) (session_so_far_over replayed lost s k) (session_of_over replayed lost s k) (asked_in script) script left old new e
 
   ends_so : (n m : List ℕ) (l o : List Loss) (e f : Status) → n ≡ m → l ≡ o → e ≡ f → Ends_so n l e → Ends_so m o f
   ends_so n m l o e f one two three h = subst (λ (x : Status). Ends_so m o x) three (subst (λ (x : List Loss). Ends_so m x e) two (subst (λ (x : List ℕ). Ends_so x l e) one h))
@@ -53,12 +54,13 @@ returns-in-Err-clause-ends g c = λ told k s o.
     let lost = losses_of opened.lost.items in
     let course = session_over opened.replayed lost s k script in
     let a : ArchiveState = record { name = name; store = Some opened.store; listed = opened.changes.listed } in
-    ends_of g.H.Host (OpensAs name) (IsNoFileOf name) k (λ (x : Point Commit). Unit {0}) (λ (x : Point Commit). x.kept) course (session_so_far_over opened.replayed lost s k) script script name
+    ends_of g.H.Host (OpensAs name) (IsNoFileOf name) k (λ (x : Point Commit). Unit {0}) (λ (x : Point Commit). x.kept) course (session_so_far_over opened.replayed lost s k) script script (session_of_over opened.replayed lost s k) (asked_in script) name
     (λ tells other x new gate. own_gate g.H.Host name other x new tells (λ y n. g.met.H.Host.read_counts y n tells) gate) (Err status.OutOfMemory) h h
     (session_ends in_a_store installed opened.replayed lost (alive s k) script) (session_law opened.replayed lost (alive s k) script)
     (obeys_fault g.H.Host (OpensAs name) (IsNoFileOf name) (λ (x : Point Commit). Unit {0}) (λ (x : Point Commit). x.kept) k course status.OutOfMemory h tt (g.met.H.Host.only_now h) (holds_rest g.H.Host a k o.holds))
     (λ fault. cc)
     (λ none tells. none_acknowledged g.H.Host name (alive s k) opened.replayed lost script h h refl (holds_rest g.H.Host a k o.holds) tells)
+    (λ none tells. inl refl)
 
 pub returns-clause-ends : goal.returns-clause-ends
 returns-clause-ends g c = λ told k s o.
@@ -80,11 +82,12 @@ returns-clause-ends g c = λ told k s o.
     let on = IsAt view g.H.Host c.open.new.kept.machine c.open.new.kept.archive new in
     let named : a.name ≡ opened.store.name = ap (λ (x : ArchiveState). x.name) c.new-archive.ensures ∙ c.requires.named in
     ends_so g.H.Host k s opened.replayed script left h new a.name opened.store.name lost (losses_of opened.lost.items) c.open.result c.open.result named (ap losses_of c.deref.ensures.value) refl
-    (ends_of g.H.Host (OpensAs a.name) (IsNoFileOf a.name) k on (λ (x : Point Commit). x.kept) (session_over opened.replayed lost s k script) (session_so_far_over opened.replayed lost s k) script left a.name
+    (ends_of g.H.Host (OpensAs a.name) (IsNoFileOf a.name) k on (λ (x : Point Commit). x.kept) (session_over opened.replayed lost s k script) (session_so_far_over opened.replayed lost s k) script left (session_of_over opened.replayed lost s k) (asked_in script) a.name
     (λ tells other x new gate. own_gate g.H.Host a.name other x new tells (λ y n. g.met.H.Host.read_counts y n tells) gate) (Err c.open.result) h new
     (session_ends in_a_store installed opened.replayed lost p script) (session_law opened.replayed lost p script) (c.open.ensures.follows told p at) (λ fault. c.open.ensures.told (ap status_in fault) told p at)
     (λ none tells. ⊎_elim (λ same. none_acknowledged g.H.Host a.name p opened.replayed lost script h new same (holds_rest g.H.Host a k holds) tells)
-    (λ some. some_acknowledged g.H.Host a.name p opened.replayed lost script h new (some p at) tells) (c.open.ensures.starved (ap status_in none) told)))
+    (λ some. some_acknowledged g.H.Host a.name p opened.replayed lost script h new (some p at) tells) (c.open.ensures.starved (ap status_in none) told))
+    (λ none tells. ⊎_elim (λ same. inl same) (λ some. inr (some p at)) (c.open.ensures.starved (ap status_in none) told)))
 
 pub returns-clause-cause : goal.returns-clause-cause
 returns-clause-cause g c = c.open.ensures.counts.cause
@@ -95,7 +98,7 @@ returns-clause-complete g c = λ told k s o end calm.
     let name = opened.store.name in
     let script = g.S.Source.remaining c.args.script.now in
     let lost = losses_of opened.lost.items in
-    complete_of g.H.Host (OpensAs name) (IsNoFileOf name) k (λ (x : Point Commit). Unit {0}) (λ (x : Point Commit). x.kept) (session_over opened.replayed lost s k script) (session_so_far_over opened.replayed lost s k) script (g.S.Source.remaining c.open.new.script) name (Rose (g.S.Source.read_faults c.args.script.now) (g.S.Source.read_faults c.open.new.script)) c.open.result c.args.host.now c.open.new.host
+    complete_of g.H.Host (OpensAs name) (IsNoFileOf name) k (λ (x : Point Commit). Unit {0}) (λ (x : Point Commit). x.kept) (session_over opened.replayed lost s k script) (session_so_far_over opened.replayed lost s k) script (g.S.Source.remaining c.open.new.script) (session_of_over opened.replayed lost s k) (asked_in script) name (Rose (g.S.Source.read_faults c.args.script.now) (g.S.Source.read_faults c.open.new.script)) c.open.result c.args.host.now c.open.new.host
     (returns-clause-ends g c told k s o) (returns-clause-cause g c) end calm
 
 pub returns-clause-counts : goal.returns-clause-counts

@@ -6,7 +6,7 @@ use Rattle.st_store.specs.Roots.{IsFresh}
 use Rattle.st_store.specs.Stored.{Opens, IsChosen, stored_in}
 use Rattle.st_store.specs.Faults.{SyncsFirst}
 use Rattle.st_store.proofs.Opening.{refusal_is_of_files, as_before, narrows_none, only_looked, read_opens, but_roots, spared_on, opened_as}
-use Rattle.st_store.proofs.Settling.{when_err, syncs_none, settles_looked, settles_as}
+use Rattle.st_store.proofs.Settling.{when_err, syncs_none, settles_looked, settles_as, settled_maybe}
 use Rattle.st_store.proofs.open.open_store.Goals as goal
 
 pub returns-in_err-names-clause-as_before : goal.returns-in_err-names-clause-as_before
@@ -41,8 +41,9 @@ returns-in_err-freshen-clause-as_before g c told ready =
 pub returns-in_err-freshen-clause-settles : goal.returns-in_err-freshen-clause-settles
 returns-in_err-freshen-clause-settles g c = when_err c.from_residual-in_err-freshen.result _
     (λ told ready. let sought = c.in_ok-chosen.ensures in
-    inr (settles_as g.H.Host _ _ _ _ told c.in_ok-chosen.chosen.number _ _ c.freshen.result c.in_ok-names.ensures ready (λ h j. g.met.H.Host.read_counts h j told)
-    sought.first (sought.chosen told) (c.freshen.ensures.makes _ told (sought.chosen told) refl)))
+    inr (settled_maybe g.H.Host _ _ _
+    (settles_as g.H.Host _ _ _ _ told c.in_ok-chosen.chosen.number _ _ c.freshen.result c.in_ok-names.ensures ready (λ h j. g.met.H.Host.read_counts h j told)
+    sought.first (sought.chosen told) (c.freshen.ensures.makes _ told (sought.chosen told) refl))))
 
 pub returns-in_err-freshen-clause-only : goal.returns-in_err-freshen-clause-only
 returns-in_err-freshen-clause-only g c = subst (λ (y : List ℕ). NarrowsBut g.H.Host (roots_file y) c.args.host.now c.freshen.new.host) c.in_ok-names.ensures

@@ -3,7 +3,7 @@ use Rattle.st_host.proofs.Joining.{on_err}
 use Rattle.st_host.specs.Files.{bytes_of}
 use Rattle.st_store.specs.Names.{roots_file}
 use Rattle.st_store.specs.Roots.{place, root_at}
-use Rattle.st_store.proofs.Turning.{turning, gate_turned, rests, writes_as, written_as}
+use Rattle.st_store.proofs.Turning.{turning, turning_ready, gate_turned, rests, writes_as, written_as}
 use Rattle.st_store.proofs.steps.turn.Goals as goal
 
 pub returns-in_err-write_synced-clause-makes : goal.returns-in_err-write_synced-clause-makes
@@ -46,3 +46,11 @@ returns-clause-keeps g c x told st =
     let chosen = returns-clause-same g c x told st in
     turning g.H.Host _ x x _ _ _ told (g.met.H.Host.read_counts _ _ told) c.args.gate st
     (writes_as g.H.Host _ _ 8 1 1 _ _ c.roots.ensures refl c.write_synced.ensures.writes) (record { opens_as = λ f can. rests g.H.Host _ _ c.args.gate x f chosen can })
+
+pub returns-in_err-write_synced-clause-ready : goal.returns-in_err-write_synced-clause-ready
+returns-in_err-write_synced-clause-ready g c k x d told st =
+    turning_ready g.H.Host _ k x d _ _ told (writes_as g.H.Host _ _ 8 1 1 _ _ c.roots.ensures refl c.write_synced.ensures.writes) st (g.met.H.Host.read_counts _ _ told)
+
+pub returns-clause-ready : goal.returns-clause-ready
+returns-clause-ready g c k x d told st =
+    turning_ready g.H.Host _ k x d _ _ told (writes_as g.H.Host _ _ 8 1 1 _ _ c.roots.ensures refl c.write_synced.ensures.writes) st (g.met.H.Host.read_counts _ _ told)

@@ -53,10 +53,13 @@ returns-in_err-turn-clause-broken g c = when_err c.from_residual-in_err-turn.res
     let name = string_bytes c.self.inside.names.name in
     subst (λ (s : StoreState). RestsUnlessGate H (Opens s.name) s.name x c.turn.new.host) c.self.view_is
     (inr (record {
-      before = c.stage.new.host;
-      rest = record { opens_as = λ f can. rests H name c.stage.new.host c.self.inside.chosen x f staged.chosen can };
-      writes = c.turn.ensures.writes;
-      fault = c.in_err-turn.ensures.cause.rose refl;
+      fails = record {
+        before = c.stage.new.host;
+        rest = record { opens_as = λ f can. rests H name c.stage.new.host c.self.inside.chosen x f staged.chosen can };
+        writes = c.turn.ensures.writes;
+        fault = c.in_err-turn.ensures.cause.rose refl;
+      };
+      ready = c.turn.ensures.ready c.self.inside.chosen x d told staged;
     })))
 
 pub returns-clause-gate : goal.returns-clause-gate
