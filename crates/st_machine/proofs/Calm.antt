@@ -15,10 +15,10 @@ use Rattle.st_model.specs.View.{View, SettlesTo}
 use Rattle.st_frames.specs.declared.frame.Frame.{Frame}
 use Rattle.st_frames.specs.inside.Shown.{shown, IsReady}
 use Rattle.st_frames.proofs.Settled.{settled_same}
-use Rattle.st_at_once.specs.inside.AtOnce.{GoesOn}
-use Rattle.st_machine.specs.declared.stretch.StretchEnd.TheVariants.{Warns}
-use Rattle.st_machine.specs.inside.Cycling.{IsCalm, GoesCalmly, warns, foreseen_step}
-use Rattle.st_machine.proofs.Foreseeing.{from_switch, goes_by}
+use Rattle.st_model.specs.Outcomes as outcome
+use Rattle.st_machine.specs.declared.doing.StretchEnd.TheVariants.{Warns}
+use Rattle.st_machine.specs.inside.Cycling.{IsCalm, GoesBy, GoesCalmly, Finishes, warns, foreseen_step}
+use Rattle.st_machine.proofs.Foreseeing.{from_switch}
 use Rattle.std.proofs.lemmas.Bool.{and_parts}
 
 held_not : (b : Bool) → not b ≡ true → b ≡ false
@@ -43,8 +43,8 @@ unwarned d e =
     λ i. record { memory = d.memory; registers = d.registers; world = same i; head = d.head }
 
 -- what comes after a bytecode that was done is done, and what was warned of is told of, or nothing is
-pub calmly_finished : (start : State Table) (u k : View) (f : Frame) (w : World) (left : Deed) (b : Bool) → GoesOn start (shown u f w) → IsReady u f w → SettlesTo u k
-    → warns (free_space table (shown k f w)) w ≡ b → GoesCalmly start left (Ok (if b then Some Warns else None)) (shown k f w)
-calmly_finished start u k f w left true done ready settles e = λ d l. goes_by start (shown u f w) done d (ap (warned table) (settled_same u k f w ready settles) ∙ l)
-calmly_finished start u k f w left false done ready settles e =
-    goes_by start (shown u f w) done (shown k f w) (ap (warned table) (settled_same u k f w ready settles) ∙ unwarned (shown k f w) e)
+pub calmly_finished : (start : State Table) (u k : View) (f : Frame) (w : World) (left : Deed) (b : Bool) → GoesBy (foreseen_step start) outcome.Went (Finishes (shown u f w)) → IsReady u f w
+    → SettlesTo u k → warns (free_space table (shown k f w)) w ≡ b → GoesCalmly start left (Ok (if b then Some Warns else None)) (shown k f w)
+calmly_finished start u k f w left true goes ready settles e = λ d l. goes d (ap (warned table) (settled_same u k f w ready settles) ∙ l)
+calmly_finished start u k f w left false goes ready settles e =
+    goes (shown k f w) (ap (warned table) (settled_same u k f w ready settles) ∙ unwarned (shown k f w) e)

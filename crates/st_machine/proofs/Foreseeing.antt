@@ -1,10 +1,12 @@
 -- What a cycle of the code does, as the cycle over a table whose step is foreseen.
-use Rattle.std.proofs.Common.{◌≡◌, ℕ, ◌+◌, ◌-◌, true, false, refl, ◌∙◌, ap, sym, Ok, Err, arith}
-use Rattle.std.specs.Prelude.{nat_lt, nat_le, ◌&&◌, if◌then◌else◌}
+use Rattle.std.proofs.Common.{◌≡◌, ℕ, ◌+◌, ◌-◌, true, false, Option, Some, None, refl, ◌∙◌, ap, sym, subst, Ok, Err, arith}
+use Rattle.std.specs.Prelude.{Result, nat_lt, nat_le, ◌&&◌, if◌then◌else◌}
 use Rattle.std.proofs.lemmas.Bool.Decides.{nat_tests}
 use Rattle.st_model.specs.declared.dead.Dead.{Dead}
 use Rattle.st_model.specs.declared.demand.Demand.{Demand}
+use Rattle.st_model.specs.declared.deed.Deed.{Deed}
 use Rattle.st_model.specs.declared.outcome.Outcome.{Outcome as CodeOutcome}
+use Rattle.st_model.specs.declared.outcome.Outcome.TheVariants as code_outcome
 use Rattle.st_model.specs.Outcomes.{Outcome, Ending, With, Space, outcome_of}
 use Rattle.st_model.specs.Outcomes as outcome
 use Rattle.st_model.specs.Machine.{State, World, Transition, Died, Went, used, is_over}
@@ -15,8 +17,13 @@ use Rattle.st_model.specs.Cycles.{made_between, free_space, less, capacity_of, c
 use Rattle.st_model.specs.inside.Foreseen.{foreseen, foreseen_from, foreseen_cycle, done, done_if_room}
 use Rattle.st_model.specs.View.{View, fits}
 use Rattle.st_control.specs.inside.Foreseen.{IsForeseen}
-use Rattle.st_machine.specs.inside.Cycling.{GoesBy, Finishes, foreseen_step}
-use Rattle.st_machine.specs.inside.Doing.{IsDone}
+use Rattle.st_model.specs.inside.Calls.{transition_of}
+use Rattle.st_machine.specs.declared.cycling.CycleEnd.{CycleEnd}
+use Rattle.st_machine.specs.declared.cycling.CycleEnd.TheVariants as cycle_end
+use Rattle.st_machine.specs.declared.doing.StretchEnd.{StretchEnd}
+use Rattle.st_machine.specs.declared.doing.StretchEnd.TheVariants.{ToForesee, Leaves, Warns, Asks}
+use Rattle.st_machine.specs.inside.Cycling.{GoesCalmly, Finishes, Follows, foreseen_step}
+use Rattle.st_machine.specs.inside.Runs.{ending_of}
 use Rattle.st_step.specs.inside.Planned.{Plans, plus}
 use Rattle.st_frames.specs.declared.frame.Frame.{Frame}
 use Rattle.st_frames.specs.inside.Shown.{shown, registers_of}
@@ -69,16 +76,17 @@ module _ (c : State Table) where
   pub dies_at_once : (cause : Dead) → (step apart).run c ≡ Died cause → foreseen c ((step apart).run c) ≡ Died cause
   dies_at_once cause e = ap (foreseen c) e
 
--- what is still to be done of the cycle of a bytecode that was done at once
-pub goes_by : (c d : State Table) → IsForeseen c × ((step bounded_table).run c ≡ Went outcome.Went d) → GoesBy (foreseen_step c) outcome.Went (Finishes d)
-goes_by c d h e w = cycle_done c outcome.Went d e h.0 h.1 w
+-- what is left of a cycle was done
+module _ (c d e : State Table) (left : Deed) (x : Result CycleEnd Dead) where
+  went : (o : CodeOutcome) → foreseen_step c ≡ Went (With (outcome_of o)) e → x ≡ Ok (cycle_end.With o) → foreseen_step c ≡ transition_of ending_of x e
+  went o h same = subst (λ y. foreseen_step c ≡ transition_of ending_of y e) (sym same) h
 
--- how a bytecode goes that was done straight on, since there was room
-pub went_with_room : (c d x : State Table) (o : CodeOutcome) → IsDone c (Ok o) d → Finishes d x → foreseen_step c ≡ Went (With (outcome_of o)) x
-went_with_room c d x o h w = cycle_done c (outcome_of o) d x h.0 h.1 w
-
-pub died_with_room : (c d : State Table) (cause : Dead) → IsDone c (Err cause) d → foreseen_step c ≡ Died cause
-died_with_room c d cause h = dies_at_once c cause h
+  pub followed : (end : Option StretchEnd) → GoesCalmly c left (Ok end) d → Follows left end d x e → foreseen_step c ≡ transition_of ending_of x e
+  followed None h l = went code_outcome.Went (h ∙ ap (λ y. Went (With outcome.Went) y) l.1) l.0
+  followed (Some ToForesee) h l = subst (λ y. foreseen_step y ≡ transition_of ending_of x e) h l
+  followed (Some Leaves) h l = went code_outcome.Went (h e l.1) l.0
+  followed (Some Warns) h l = went code_outcome.Went (h e l.1) l.0
+  followed (Some (Asks o)) h l = went o (h e l.1) l.0
 
 -- what came before the bytecode
 

@@ -1,54 +1,96 @@
-ghost use Rattle.std.specs.Prelude.{◌≡◌, true, IfOk};
-ghost use Rattle.st_model.specs.{Outcomes.end_of, Deeds.deed_of_end};
-ghost use Rattle.st_model.specs.{Table.table, Bytecodes.step, inside.Calls.Does};
-ghost use Rattle.st_frames.specs.inside.{Rows.{row_state, with_left}, Shown.{IsFrame, IsReady, shown}};
-ghost use Rattle.st_machine.specs.inside.{Doing.IsDone, Room.is_roomy};
+ghost use Rattle.std.specs.Prelude.{◌≡◌, Ok, Some, None, IfOk, if◌then◌else◌};
+ghost use Rattle.st_model.specs.{Table.table, Machine.used, Cycles.{less, capacity_of}, View.SettlesTo};
+ghost use Rattle.st_model.specs.Outcomes.{outcome_of};
+ghost use Rattle.st_frames.specs.declared.registers.Registers.{Registers as Words};
+ghost use Rattle.st_frames.specs.inside.Rows.{registers_in, outcome_in};
+ghost use Rattle.st_frames.specs.inside.Shown.{IsFrame, IsReady, registers_of, shown};
+ghost use Rattle.st_step.specs.inside.Planned.{HasEnded};
+ghost use Rattle.st_machine.specs.inside.{Cycling.{GoesCalmly, warns}, Room.is_roomy};
+ghost use Rattle.st_machine.specs.declared.doing.StretchEnd.TheVariants.{Warns};
 
 use crate::roomy::Roomy;
+use crate::space::needs_warning;
 use st_at_once::Near;
-use st_frames::{Frame, Registers, World, hold, load};
-use st_input::carry_out;
+use st_frames::{Frame, Registers, RowEnd, World};
 use st_memory::Memory;
-use st_model::{Dead, Demand, Outcome, StepEnd};
-use st_step::{deed_of, outcome, step_row};
+use st_model::{Dead, Demand, Outcome};
+use st_step::{outcome, step_row};
+
+/// What is left of the cycle of a bytecode that wasn't foreseen, if that isn't all done.
+#[derive(Clone, Copy)]
+pub enum StretchEnd {
+    /// All of it: there isn't room for whatever the bytecode may take.
+    ToForesee,
+    /// The deed that the bytecode left to be done; and then what comes after it.
+    Leaves,
+    /// That space is low is to be told; what nothing supports was dropped.
+    Warns,
+    /// What comes after the bytecode, which asks for something besides.
+    Asks(Outcome),
+}
 
 /// Whether there is room for whatever the next bytecode takes: 70 entries, and 2,050 words for each.
-pub fn has_room<M: Memory>(m: &M) -> bool
-    ensures { result ≡ is_roomy (M.view m.now) }
+fn has_room<M: Memory>(near: &Near<M>) -> bool
+    ensures { result ≡ is_roomy (M.view near.now.memory.now) }
 {
-    m.room(Demand {
+    near.memory.room(Demand {
         entries: 70,
         words: 143_500,
     })
 }
 
-/// Does the row of the next bytecode over a memory that has room for whatever it takes, as over a table, which is never full.
-fn row_with_room<M: Memory>(m: &mut M, f: &Frame, r: &mut Registers) -> Result<StepEnd, Dead>
-    requires frame { IsFrame (M.view m.old) f.now }
-    requires room { is_roomy (M.view m.old) ≡ true }
-    ensures does { let old = M.view m.old in let new = M.view m.new in
-        Does (step table) end_of (row_state old.objects old.head r.old) result
-        (with_left deed_of_end result (row_state new.objects new.head r.new)) }
-    ensures world { r.new.world.now ≡ r.old.world.now }
-    ensures held { (M.view m.new).held ≡ (M.view m.old).held }
-    ensures head { (M.view m.new).head ≡ (M.view m.old).head }
+/// What comes after a bytecode: what nothing supports any more is dropped. Answers whether it is to be told that space is low.
+#[inline(always)]
+pub fn finish_calmly<M: Memory>(near: &mut Near<M>, w: &World) -> Option<StretchEnd>
+    ensures settles { SettlesTo (M.view near.old.memory.now) (M.view near.new.memory.now) }
+    ensures end { let free = less (capacity_of (M.view near.new.memory.now).head)
+        (used table (M.view near.new.memory.now).objects) in
+        result ≡ (if warns free w.now then Some Warns else None) }
+    ensures same_memory { near.new.memory.ghost_name ≡ near.old.memory.ghost_name }
 {
-    let near = Near::new(m, f);
-    let mut roomy = Roomy { near };
-    step_row(&mut roomy, r)
+    near.settle();
+    if needs_warning(near.memory, w) {
+        Some(StretchEnd::Warns)
+    } else {
+        None
+    }
 }
 
-/// Does the next bytecode over a memory that has room for whatever it takes, and what it leaves to be done. No plan is made. What
-/// a machine that dies leaves isn't said.
-pub fn do_with_room<M: Memory>(m: &mut M, f: &mut Frame, w: &mut World) -> Result<Outcome, Dead>
-    requires ready { IsReady (M.view m.old) f.old w.old }
-    requires room { is_roomy (M.view m.old) ≡ true }
-    ensures done { IsDone (shown (M.view m.old) f.old w.old) result (shown (M.view m.new) f.new w.new) }
-    ensures ready { IfOk result (λ o. IsReady (M.view m.new) f.new w.new) }
+/// The outcome of a step over what is near at hand whose row ended so.
+fn outcome_near<M: Memory>(near: &Near<M>, f: &Frame, end: RowEnd) -> Outcome
+    requires frame { IsFrame (M.view near.now.memory.now) f.now }
+    requires ended { (q : Words) × HasEnded (M.view near.now.memory.now) f.now q end }
+    ensures { (q : Words) → HasEnded (M.view near.now.memory.now) f.now q end
+        → outcome_of result ≡ outcome_in q end }
 {
-    let mut r = load(m, f, w);
-    let end = row_with_room(m, f, &mut r)?;
-    *f = hold(m, &r);
-    carry_out(m, w, deed_of(end));
-    Ok(outcome(m, f, end))
+    outcome(near.memory, f, end)
+}
+
+/// Does the next bytecode over what is near at hand, if there is room for whatever it takes, and then what comes after it. No plan
+/// is made. While it goes on, the registers are those of the frame.
+#[inline(never)]
+pub fn do_straight<M: Memory>(
+    roomy: &mut Roomy<M>,
+    f: &mut Frame,
+    r: &mut Registers,
+) -> Result<Option<StretchEnd>, Dead>
+    requires same { registers_in r.old ≡ registers_of f.old }
+    requires ready { IsReady (M.view roomy.old.near.memory.now) f.old r.old.world.now }
+    ensures step { GoesCalmly (shown (M.view roomy.old.near.memory.now) f.old r.old.world.now) r.new.left result
+        (shown (M.view roomy.new.near.memory.now) f.new r.old.world.now) }
+    ensures ready { IfOk result (λ end. IsReady (M.view roomy.new.near.memory.now) f.new r.old.world.now) }
+    ensures same { result ≡ Ok None → registers_in r.new ≡ registers_of f.new }
+    ensures world { r.new.world.now ≡ r.old.world.now }
+    ensures same_memory { roomy.new.near.memory.ghost_name ≡ roomy.old.near.memory.ghost_name }
+{
+    if !has_room(&roomy.near) {
+        return Ok(Some(StretchEnd::ToForesee));
+    }
+    let end = step_row(roomy, r)?;
+    roomy.near.hold_moved(f, r);
+    match end {
+        RowEnd::Went => Ok(finish_calmly(&mut roomy.near, r.world)),
+        RowEnd::Leaves => Ok(Some(StretchEnd::Leaves)),
+        _ => Ok(Some(StretchEnd::Asks(outcome_near(&roomy.near, f, end)))),
+    }
 }

@@ -12,6 +12,7 @@ mod roomy;
 mod running;
 mod saving;
 mod signals;
+mod space;
 mod stretch;
 mod stride;
 mod switch_saving;

@@ -14,8 +14,13 @@ use Rattle.st_model.specs.Settled.{reclaim}
 use Rattle.st_model.specs.Cycles.{is_low, warned}
 use Rattle.st_model.specs.Deeds.{with_deed}
 use Rattle.st_model.specs.inside.Foreseen.{foreseen}
-use Rattle.st_machine.specs.declared.stretch.StretchEnd.{StretchEnd}
-use Rattle.st_machine.specs.declared.stretch.StretchEnd.TheVariants.{ToForesee, Leaves, Warns, Asks}
+use Rattle.st_model.specs.declared.outcome.Outcome.TheVariants as code_outcome
+use Rattle.st_model.specs.inside.Calls.{transition_of}
+use Rattle.st_machine.specs.declared.cycling.CycleEnd.{CycleEnd}
+use Rattle.st_machine.specs.declared.cycling.CycleEnd.TheVariants as cycle_end
+use Rattle.st_machine.specs.declared.doing.StretchEnd.{StretchEnd}
+use Rattle.st_machine.specs.declared.doing.StretchEnd.TheVariants.{ToForesee, Leaves, Warns, Asks}
+use Rattle.st_machine.specs.inside.Runs.{ending_of}
 
 -- the cycle from the bytecode on
 abbrev pub foreseen_step : State Table → Transition (State Table) Ending
@@ -24,12 +29,6 @@ foreseen_step c = foreseen c ((step apart).run c)
 -- what comes after a bytecode
 abbrev pub Finishes : State Table → State Table → Type 0
 Finishes c d = warned table (reclaim table c) ≡ d
-
--- a bytecode that is tried at once dies as the cycle does, or goes on as that does, or changes nothing
-abbrev pub GoesAtOnce : State Table → Result Bool Dead → State Table → Type 0
-GoesAtOnce c (Err cause) d = foreseen_step c ≡ Died cause
-GoesAtOnce c (Ok false) d = d ≡ c
-GoesAtOnce c (Ok true) d = foreseen_step c ≡ Went (With outcome.Went) d
 
 -- nothing comes before a bytecode: no signal is pending, and no process waits to be switched to
 abbrev pub IsCalm : World → Type 0
@@ -43,9 +42,9 @@ warns free w = is_held nil w.devices.low_space && (is_low free w && nat_lt (leng
 abbrev pub GoesBy : Transition (State Table) Ending → Outcome → (State Table → Type 0) → Type 0
 GoesBy t o left = (d : State Table) → left d → t ≡ Went (With o) d
 
--- In a calm world a bytecode that is done without a plan dies as the cycle does, or goes on as that does, or changes nothing; or of the
--- cycle is still to be done the deed that is left and what comes after a bytecode, or the warning alone, or what comes after one that
--- asks for something besides.
+-- A bytecode that is done without a plan dies as the cycle does, or goes on as that does, or changes nothing; or of the cycle is still to
+-- be done the deed that is left and what comes after a bytecode, or the warning alone, or what comes after one that asks for something
+-- besides.
 abbrev pub GoesCalmly : State Table → Deed → Result (Option StretchEnd) Dead → State Table → Type 0
 GoesCalmly c left (Err cause) d = foreseen_step c ≡ Died cause
 GoesCalmly c left (Ok None) d = foreseen_step c ≡ Went (With outcome.Went) d
@@ -53,3 +52,11 @@ GoesCalmly c left (Ok (Some ToForesee)) d = d ≡ c
 GoesCalmly c left (Ok (Some Leaves)) d = GoesBy (foreseen_step c) outcome.Went (Finishes (with_deed left d))
 GoesCalmly c left (Ok (Some Warns)) d = GoesBy (foreseen_step c) outcome.Went (λ e. warned table d ≡ e)
 GoesCalmly c left (Ok (Some (Asks o))) d = GoesBy (foreseen_step c) (outcome_of o) (Finishes d)
+
+-- what is left of the cycle is done
+abbrev pub Follows : Deed → Option StretchEnd → State Table → Result CycleEnd Dead → State Table → Type 0
+Follows left None c result d = (result ≡ Ok (cycle_end.With code_outcome.Went)) × (c ≡ d)
+Follows left (Some ToForesee) c result d = foreseen_step c ≡ transition_of ending_of result d
+Follows left (Some Leaves) c result d = (result ≡ Ok (cycle_end.With code_outcome.Went)) × Finishes (with_deed left c) d
+Follows left (Some Warns) c result d = (result ≡ Ok (cycle_end.With code_outcome.Went)) × (warned table c ≡ d)
+Follows left (Some (Asks o)) c result d = (result ≡ Ok (cycle_end.With o)) × Finishes c d

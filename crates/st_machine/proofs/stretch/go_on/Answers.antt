@@ -3,7 +3,7 @@ use Rattle.st_frames.specs.inside.Shown.{shown, IsReady}
 use Rattle.st_machine.specs.inside.Cycling.{GoesCalmly}
 use Rattle.st_machine.specs.inside.Strides.{SoFar, StretchEnds}
 use Rattle.st_machine.proofs.Runs.{none_so_far}
-use Rattle.st_machine.proofs.Strides.{calm_goes, calm_dies, calm_ends}
+use Rattle.st_machine.proofs.Strides.{calm_goes, calm_ends}
 use Rattle.st_machine.proofs.stretch.go_on.Goals as goal
 
 pub loop-done-init : goal.loop-done-init
@@ -19,49 +19,25 @@ loop-done-init g c =
       shows = λ s h. subst (λ m. SoFar 0 s (shown (g.M.Memory.view m) f w)) same (none_so_far s (shown (g.M.Memory.view c.args.m.now) f w) h);
     }
 
-pub returns-in-Ok-Some-clause-goes : goal.returns-in-Ok-Some-clause-goes
-returns-in-Ok-Some-clause-goes g c = λ s h.
-    let v = g.M.Memory.view c.loop-done.roomy.near.memory.now in
-    let u = g.M.Memory.view c.do_calmly.new.roomy.near.memory.now in
-    let f = c.loop-done.f in
-    let q = c.do_calmly.new.f in
-    let w = c.args.w.now in
-    let far = c.loop-done.invariant in
-    let end : c.do_calmly.result ≡ Ok (Some c.in-Ok-Some.end) = c.in-Ok-Some.is ∙ ap (λ x. Ok x) c.in-Ok-Some.field-0-is in
-    let step = subst (λ y. GoesCalmly (shown v f c.loop-done.r.world.now) c.do_calmly.new.left y (shown u q c.loop-done.r.world.now)) end c.do_calmly.ensures.step in
-    subst (λ y. StretchEnds c.loop-done.done s c.do_calmly.new.left (Ok (Some c.in-Ok-Some.end)) (shown (g.M.Memory.view y) q w)) (search rules)
-    (calm_ends v f w (g.met.M.Memory.whole c.loop-done.roomy.near.memory.now) far.ready c.loop-done.done s c.do_calmly.new.left c.in-Ok-Some.end (shown u q w) c.requires.calm (far.shows s h)
-    (subst (λ x. GoesCalmly (shown v f x) c.do_calmly.new.left (Ok (Some c.in-Ok-Some.end)) (shown u q x)) far.world step))
-
-pub returns-in-Err-clause-goes : goal.returns-in-Err-clause-goes
-returns-in-Err-clause-goes g c = λ s h.
-    let v = g.M.Memory.view c.loop-done.roomy.near.memory.now in
-    let u = g.M.Memory.view c.do_calmly.new.roomy.near.memory.now in
-    let f = c.loop-done.f in
-    let q = c.do_calmly.new.f in
-    let w = c.args.w.now in
-    let far = c.loop-done.invariant in
-    calm_dies v f w (g.met.M.Memory.whole c.loop-done.roomy.near.memory.now) far.ready c.loop-done.done s c.do_calmly.new.left c.in-Err.cause (shown u q w) c.requires.calm (far.shows s h)
-    (subst (λ x. GoesCalmly (shown v f x) c.do_calmly.new.left (Err c.in-Err.cause) (shown u q x)) far.world c.in-Err.ensures.step)
-
 pub loop-done-preserved : goal.loop-done-preserved
 loop-done-preserved g c =
     let v = g.M.Memory.view c.loop-done.roomy.near.memory.now in
-    let u = g.M.Memory.view c.do_calmly.new.roomy.near.memory.now in
+    let u = g.M.Memory.view c.do_calmly-end.new.roomy.near.memory.now in
     let f = c.loop-done.f in
-    let q = c.do_calmly.new.f in
+    let q = c.do_calmly-end.new.f in
     let w = c.args.w.now in
     let far = c.loop-done.invariant in
-    let one = c.do_calmly.ensures in
-    let end : c.do_calmly.result ≡ Ok None = c.in-Ok-None.is ∙ ap (λ x. Ok x) c.in-Ok-None.field-0-is in
-    let step = subst (λ y. GoesCalmly (shown v f c.loop-done.r.world.now) c.do_calmly.new.left y (shown u q c.loop-done.r.world.now)) end one.step in
+    let one = c.do_calmly-end.ensures in
+    let left = c.do_calmly-end.new.r.left in
+    let end : c.do_calmly-end.result ≡ Ok None = c.in-Ok-None.is ∙ ap (λ x. Ok x) c.in-Ok-None.field-0-is in
+    let step = subst (λ y. GoesCalmly (shown v f c.loop-done.r.world.now) left y (shown u q c.loop-done.r.world.now)) end one.step in
     record {
       ready = subst (λ x. IsReady u q x) far.world c.in-Ok-None.ensures.ready;
       same = one.same end;
       world = one.world ∙ far.world;
       name = one.same_memory ∙ far.name;
-      shows = λ s h. calm_goes v f w (g.met.M.Memory.whole c.loop-done.roomy.near.memory.now) far.ready c.loop-done.done s c.do_calmly.new.left (shown u q w) c.requires.calm (far.shows s h)
-          (subst (λ x. GoesCalmly (shown v f x) c.do_calmly.new.left (Ok None) (shown u q x)) far.world step);
+      shows = λ s h. calm_goes v f w (g.met.M.Memory.whole c.loop-done.roomy.near.memory.now) far.ready c.loop-done.done s left (shown u q w) c.requires.calm (far.shows s h)
+          (subst (λ x. GoesCalmly (shown v f x) left (Ok None) (shown u q x)) far.world step);
     }
 
 pub returns-clause-goes : goal.returns-clause-goes

@@ -2,7 +2,7 @@ use Rattle.std.proofs.Common.{sym}
 use Rattle.st_frames.specs.inside.Shown.{shown}
 use Rattle.st_machine.specs.inside.Cycling.{IsCalm}
 use Rattle.st_machine.proofs.Runs.{none_so_far}
-use Rattle.st_machine.proofs.Strides.{ready_next, after_stretch}
+use Rattle.st_machine.proofs.Strides.{ready_next}
 use Rattle.st_machine.proofs.stride.advance.Goals as goal
 
 pub returns-then-not-is_calm-clause-strides : goal.returns-then-not-is_calm-clause-strides
@@ -12,11 +12,3 @@ returns-then-not-is_calm-clause-strides g c = λ s h.
     let w = c.args.w.now in
     ready_next v f w (g.met.M.Memory.whole c.args.m.now) c.requires.ready 0 s c.cycle-end.result (shown (g.M.Memory.view c.cycle-end.new.m) c.cycle-end.new.f c.cycle-end.new.w)
     (none_so_far s (shown v f w) h) c.cycle-end.ensures.cycle
-
-pub returns-clause-strides : goal.returns-clause-strides
-returns-clause-strides g c = λ s h.
-    let t = c.go_on-stretch in
-    let last = c.do_after-end in
-    let calm : IsCalm c.args.w.now = sym c.if-not-is_calm.ensures in
-    after_stretch t.result.done s (g.M.Memory.view t.new.m) t.new.f c.args.w.now t.result.left t.result.end last.result (shown (g.M.Memory.view last.new.m) last.new.f last.new.w)
-    (g.met.M.Memory.whole t.new.m) calm t.ensures.ready (t.ensures.goes s h) last.ensures.follows
