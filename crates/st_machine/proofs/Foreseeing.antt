@@ -1,5 +1,5 @@
 -- What a cycle of the code does, as the cycle over a table whose step is foreseen.
-use Rattle.std.proofs.Common.{◌≡◌, ℕ, ◌+◌, ◌-◌, true, false, Option, Some, None, refl, ◌∙◌, ap, sym, subst, Ok, Err, arith}
+use Rattle.std.proofs.Common.{◌≡◌, ℕ, ◌+◌, ◌-◌, true, false, Some, refl, ◌∙◌, ap, sym, subst, Ok, Err, arith}
 use Rattle.std.specs.Prelude.{Result, nat_lt, nat_le, ◌&&◌, if◌then◌else◌}
 use Rattle.std.proofs.lemmas.Bool.Decides.{nat_tests}
 use Rattle.st_model.specs.declared.dead.Dead.{Dead}
@@ -81,12 +81,11 @@ module _ (c d e : State Table) (left : Deed) (x : Result CycleEnd Dead) where
   went : (o : CodeOutcome) → foreseen_step c ≡ Went (With (outcome_of o)) e → x ≡ Ok (cycle_end.With o) → foreseen_step c ≡ transition_of ending_of x e
   went o h same = subst (λ y. foreseen_step c ≡ transition_of ending_of y e) (sym same) h
 
-  pub followed : (end : Option StretchEnd) → GoesCalmly c left (Ok end) d → Follows left end d x e → foreseen_step c ≡ transition_of ending_of x e
-  followed None h l = went code_outcome.Went (h ∙ ap (λ y. Went (With outcome.Went) y) l.1) l.0
-  followed (Some ToForesee) h l = subst (λ y. foreseen_step y ≡ transition_of ending_of x e) h l
-  followed (Some Leaves) h l = went code_outcome.Went (h e l.1) l.0
-  followed (Some Warns) h l = went code_outcome.Went (h e l.1) l.0
-  followed (Some (Asks o)) h l = went o (h e l.1) l.0
+  pub followed : (end : StretchEnd) → GoesCalmly c left (Ok (Some end)) d → Follows left end d x e → foreseen_step c ≡ transition_of ending_of x e
+  followed ToForesee h l = subst (λ y. foreseen_step y ≡ transition_of ending_of x e) h l
+  followed Leaves h l = went code_outcome.Went (h e l.1) l.0
+  followed Warns h l = went code_outcome.Went (h e l.1) l.0
+  followed (Asks o) h l = went o (h e l.1) l.0
 
 -- what came before the bytecode
 

@@ -51,6 +51,6 @@ module _ (v : View) (f : Frame) (w : World) (whole : IsWhole v) (ready : IsReady
       ended k s left x d other (record { from = shown v f w; ends = λ o e. calm_next k s o calm far e; goes = h })
 
 -- the rest of the cycle that ended a stretch
-pub rest_ends : (k : ℕ) (s : State Births) (left : Deed) (end : Option StretchEnd) (c : State Table) (x : Result CycleEnd Dead) (d : State Table)
-    → LastGoes k s left (Ok end) c → Follows left end c x d → NextEnds k s (transition_of ending_of x d)
+pub rest_ends : (k : ℕ) (s : State Births) (left : Deed) (end : StretchEnd) (c : State Table) (x : Result CycleEnd Dead) (d : State Table)
+    → LastGoes k s left (Ok (Some end)) c → Follows left end c x d → NextEnds k s (transition_of ending_of x d)
 rest_ends k s left end c x d h l = h.ends (transition_of ending_of x d) (followed h.from c d left x end h.goes l)

@@ -57,7 +57,7 @@ pub fn finish_straight<M: Memory>(
     m: &mut M,
     f: &mut Frame,
     w: &mut World,
-    end: Option<StretchEnd>,
+    end: StretchEnd,
     left: Deed,
 ) -> Result<CycleEnd, Dead>
     requires ready { IsReady (M.view m.old) f.old w.old }
@@ -66,14 +66,13 @@ pub fn finish_straight<M: Memory>(
     ensures ready { OnOk result (IsReady (M.view m.new) f.new w.new) }
 {
     match end {
-        None => {}
-        Some(StretchEnd::ToForesee) => return foresee(m, f, w),
-        Some(StretchEnd::Leaves) => {
+        StretchEnd::ToForesee => return foresee(m, f, w),
+        StretchEnd::Leaves => {
             carry_out(m, w, left);
             finish(m, f, w);
         }
-        Some(StretchEnd::Warns) => warn(m, w),
-        Some(StretchEnd::Asks(outcome)) => {
+        StretchEnd::Warns => warn(m, w),
+        StretchEnd::Asks(outcome) => {
             finish(m, f, w);
             return Ok(CycleEnd::With(outcome));
         }
@@ -94,7 +93,10 @@ pub fn do_next<M: Memory>(m: &mut M, f: &mut Frame, w: &mut World) -> Result<Cyc
     let mut roomy = Roomy { near };
     let end = do_straight(&mut roomy, f, &mut r)?;
     let left = r.left;
-    finish_straight(m, f, w, end, left)
+    match end {
+        None => Ok(CycleEnd::With(Outcome::Went)),
+        Some(end) => finish_straight(m, f, w, end, left),
+    }
 }
 
 /// One cycle: pending signals are made and a process switch that waits is done; the next bytecode is done if there is room for

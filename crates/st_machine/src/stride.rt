@@ -44,7 +44,7 @@ pub fn advance<M: Memory>(m: &mut M, f: &mut Frame, w: &mut World, n: u32) -> St
     let stretch = go_on(m, f, w, n - 1);
     let end = match stretch.end {
         Ok(None) => do_next(m, f, w),
-        Ok(end) => finish_straight(m, f, w, end, stretch.left),
+        Ok(Some(end)) => finish_straight(m, f, w, end, stretch.left),
         Err(cause) => Err(cause),
     };
     Stride {

@@ -54,9 +54,8 @@ GoesCalmly c left (Ok (Some Warns)) d = GoesBy (foreseen_step c) outcome.Went (�
 GoesCalmly c left (Ok (Some (Asks o))) d = GoesBy (foreseen_step c) (outcome_of o) (Finishes d)
 
 -- what is left of the cycle is done
-abbrev pub Follows : Deed → Option StretchEnd → State Table → Result CycleEnd Dead → State Table → Type 0
-Follows left None c result d = (result ≡ Ok (cycle_end.With code_outcome.Went)) × (c ≡ d)
-Follows left (Some ToForesee) c result d = foreseen_step c ≡ transition_of ending_of result d
-Follows left (Some Leaves) c result d = (result ≡ Ok (cycle_end.With code_outcome.Went)) × Finishes (with_deed left c) d
-Follows left (Some Warns) c result d = (result ≡ Ok (cycle_end.With code_outcome.Went)) × (warned table c ≡ d)
-Follows left (Some (Asks o)) c result d = (result ≡ Ok (cycle_end.With o)) × Finishes c d
+abbrev pub Follows : Deed → StretchEnd → State Table → Result CycleEnd Dead → State Table → Type 0
+Follows left ToForesee c result d = foreseen_step c ≡ transition_of ending_of result d
+Follows left Leaves c result d = (result ≡ Ok (cycle_end.With code_outcome.Went)) × Finishes (with_deed left c) d
+Follows left Warns c result d = (result ≡ Ok (cycle_end.With code_outcome.Went)) × (warned table c ≡ d)
+Follows left (Asks o) c result d = (result ≡ Ok (cycle_end.With o)) × Finishes c d

@@ -100,14 +100,12 @@ outcome_near-requires-clause-ended g c =
     let v = g.M.Memory.view c.args.roomy.now.near.memory.now in
     let f = c.args.f.now in
     let start = c.args.r.now in
-    let w = start.world.now in (
-      c.step_row.new.r,
-      w,
-      shown v f w,
-      row_ends v f w (g.met.M.Memory.whole c.args.roomy.now.near.memory.now) c.requires.ready start c.requires.same refl (g.M.Memory.view c.step_row.new.m.near.memory.now) c.step_row.new.r c.in_ok-end.end
-          (g.met.M.Memory.whole c.step_row.new.m.near.memory.now) (ap (λ (x : View). x.head) row.takes.fixed) row.does.does (g.M.Memory.view c.hold_moved.new.self.memory.now) c.hold_moved.new.f
-          row.does.world hold.same hold.objects hold.head c.in_default.not-Leaves,
-    )
+    let w = start.world.now in
+    let went =
+    row_ends v f w (g.met.M.Memory.whole c.args.roomy.now.near.memory.now) c.requires.ready start c.requires.same refl (g.M.Memory.view c.step_row.new.m.near.memory.now) c.step_row.new.r c.in_ok-end.end
+    (g.met.M.Memory.whole c.step_row.new.m.near.memory.now) (ap (λ (x : View). x.head) row.takes.fixed) row.does.does (g.M.Memory.view c.hold_moved.new.self.memory.now) c.hold_moved.new.f
+    row.does.world hold.same hold.objects hold.head c.in_default.not-Leaves in
+    (c.step_row.new.r, (w, shown v f w, went))
 
 pub returns-in_default-clause-step : goal.returns-in_default-clause-step
 returns-in_default-clause-step g c =

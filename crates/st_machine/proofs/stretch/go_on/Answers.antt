@@ -1,9 +1,10 @@
 use Rattle.std.proofs.Common.{rules, ◌≡◌, Ok, Err, Some, None, refl, sym, subst, ap, ◌∙◌}
+use Rattle.std.specs.Prelude.{IfOk}
 use Rattle.st_frames.specs.inside.Shown.{shown, IsReady}
 use Rattle.st_machine.specs.inside.Cycling.{GoesCalmly}
-use Rattle.st_machine.specs.inside.Strides.{SoFar, StretchEnds}
+use Rattle.st_machine.specs.inside.Strides.{SoFar}
 use Rattle.st_machine.proofs.Runs.{none_so_far}
-use Rattle.st_machine.proofs.Strides.{calm_goes, calm_ends}
+use Rattle.st_machine.proofs.Strides.{calm_goes}
 use Rattle.st_machine.proofs.stretch.go_on.Goals as goal
 
 pub loop-done-init : goal.loop-done-init
@@ -29,10 +30,10 @@ loop-done-preserved g c =
     let far = c.loop-done.invariant in
     let one = c.do_calmly-end.ensures in
     let left = c.do_calmly-end.new.r.left in
-    let end : c.do_calmly-end.result ≡ Ok None = c.in-Ok-None.is ∙ ap (λ x. Ok x) c.in-Ok-None.field-0-is in
+    let end : c.do_calmly-end.result ≡ Ok None = c.in-Ok-None.is ∙ ap (λ x. Ok x) (rw c.in-Ok-None.is at c.in-Ok-None.field-0-is) in
     let step = subst (λ y. GoesCalmly (shown v f c.loop-done.r.world.now) left y (shown u q c.loop-done.r.world.now)) end one.step in
     record {
-      ready = subst (λ x. IsReady u q x) far.world c.in-Ok-None.ensures.ready;
+      ready = subst (λ x. IsReady u q x) far.world (subst (λ y. IfOk y (λ e. IsReady u q c.loop-done.r.world.now)) end one.ready);
       same = one.same end;
       world = one.world ∙ far.world;
       name = one.same_memory ∙ far.name;
