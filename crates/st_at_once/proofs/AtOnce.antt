@@ -129,9 +129,6 @@ or_send-on : (m : ObjectMemory Table) (k : ℕ) (o : Transition (State Table) Bo
 unfolding or_send ◌>>=◌
 or_send-on m k o q s h = tried-on _ o (q.run s) h
 
-or_send-as : (m : ObjectMemory Table) (k : ℕ) (p q : Step Table Bool) → IsAs true p q → IsAs outcome.Went p (or_send m k q)
-or_send-as m k p q h s = or_send-on m k (p.run s) q s (h s)
-
 module _ (m : ObjectMemory Table) where
   -- a primitive on SmallIntegers, where the receiver was read
 

@@ -1,5 +1,5 @@
 -- A bytecode that was done at once from the registers of a frame, over a memory.
-use Rattle.std.proofs.Common.{◌≡◌, Bool, true, false, Ok, refl, sym, ap, ◌∙◌, subst}
+use Rattle.std.proofs.Common.{◌≡◌, Bool, true, Ok, refl, sym, ap, ◌∙◌, subst}
 use Rattle.st_model.specs.declared.dead.Dead.{Dead}
 use Rattle.st_model.specs.Outcomes as outcome
 use Rattle.st_model.specs.Machine.{World, State, Transition, Died, Went, Step}
@@ -12,9 +12,10 @@ use Rattle.st_frames.specs.declared.registers.Registers.{Registers as Words}
 use Rattle.st_frames.specs.inside.Rows.{row_state, registers_in}
 use Rattle.st_frames.specs.inside.Shown.{shown, registers_of, IsReady, StaysFrame}
 use Rattle.st_frames.proofs.Stored.{loaded}
+use Rattle.st_control.specs.inside.Foreseen.{IsForeseen}
 use Rattle.st_control.proofs.Framed.{frame_held}
 use Rattle.st_control.proofs.Suffices.{dies, foreseen, bounded}
-use Rattle.st_at_once.specs.inside.AtOnce.{NamesSame, kept, GoesOn, step_at_once}
+use Rattle.st_at_once.specs.inside.AtOnce.{NamesSame, kept, step_at_once}
 use Rattle.st_at_once.proofs.Kept.{kept_same, kept_frame}
 use Rattle.st_at_once.proofs.AtOnce.{As, step-as}
 use Rattle.st_at_once.proofs.Alike.{step-is}
@@ -23,7 +24,7 @@ use Rattle.st_at_once.proofs.Alike.{step-is}
 pub quick_ready : (u v : View) (f g : Frame) (w : World) → IsReady u f w → StaysFrame u v g → IsReady v g w
 quick_ready u v f g w ready stays = record { frame = stays.frame; devices = stays.devices ∙ ready.devices }
 
--- where it wasn't done, nothing was changed
+-- if it wasn't done, nothing was changed
 
 pub still_shown : (v u : View) (f g : Frame) (w : World) → u.objects ≡ v.objects → u.head ≡ v.head → g ≡ f → shown u g w ≡ shown v f w
 still_shown v u f g w objects head frame = λ i. record { memory = objects i; registers = registers_of (frame i); world = w; head = head i }
@@ -32,9 +33,9 @@ pub still_ready : (v u : View) (f g : Frame) (w : World) → u.held ≡ v.held �
 still_ready v u f g w held frame ready =
     subst (λ x. IsReady u x w) (sym frame) (record { frame = frame_held v u f held ready.frame; devices = ap (λ (x : Held). x.devices) held ∙ ready.devices })
 
--- where it was done, the bytecode goes on, and the frame has the registers
+-- if it was done, the bytecode would have been foreseen, and goes on; and the frame has the registers
 pub record Done (c : State Table) (u : View) (g : Frame) (w : World) (r : Words) : Type 0 where
-  pub goes : GoesOn c (shown u g w)
+  pub goes : IsForeseen c × ((step bounded_table).run c ≡ Went outcome.Went (shown u g w))
   pub ready : IsReady u g w
   pub same : registers_in r ≡ registers_of g
 

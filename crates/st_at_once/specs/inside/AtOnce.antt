@@ -1,7 +1,7 @@
 -- Bytecodes that are done at once: pushes, stores, pops, duplicates, jumps, arithmetic on two SmallIntegers, == and class. They make
 -- no object, and stay in their context. Each answers whether it was done. If it wasn't, the registers name what they named, and
 -- instruction and stack pointer are of no use.
-use Rattle.std.specs.Prelude.{◌≡◌, ℕ, ◌+◌, ◌*◌, ◌-◌, ◌==◌, Bool, true, false, Option, Some, None, Result, Ok, Err, if◌then◌else◌, pos, ℤ}
+use Rattle.std.specs.Prelude.{◌≡◌, ℕ, ◌+◌, ◌*◌, ◌==◌, Bool, true, false, Option, Some, None, Result, Ok, Err, if◌then◌else◌, pos, ℤ}
 use Rattle.st_model.specs.declared.dead.Dead.{Dead}
 use Rattle.st_model.specs.declared.dead.Dead.TheVariants as dead
 use Rattle.st_model.specs.declared.bytecode.Bytecode.{Bytecode}
@@ -12,17 +12,14 @@ use Rattle.st_model.specs.Values.{Value, Small, Ref, integer, small_integer}
 use Rattle.st_model.specs.declared.page.PageObject.{PageObject}
 use Rattle.st_model.specs.declared.page.PageObject.TheVariants.{FalseObject, TrueObject}
 use Rattle.st_model.specs.Decoded.{decoded}
-use Rattle.st_model.specs.Outcomes as outcome
-use Rattle.st_model.specs.Machine.{ObjectMemory, Registers, State, Went, Step, answer, tried, ◌>>=◌, ◌>>◌}
+use Rattle.st_model.specs.Machine.{ObjectMemory, Registers, Step, answer, tried, ◌>>=◌, ◌>>◌}
 use Rattle.st_model.specs.Steps.{or_die, under, drop_words, push, next_byte}
 use Rattle.st_model.specs.Integers.{binary}
 use Rattle.st_model.specs.Primitives.{truth}
 use Rattle.st_model.specs.Arithmetic.{integer_under, arithmetic_number, equivalence, receiver_class}
-use Rattle.st_model.specs.Bytecodes.{push_operand, store_and_pop, push_receiver, push_constant, extended_push, extended_store, extended_store_and_pop, pop_stack, duplicate_top, push_active_context, short_unconditional_jump, long_unconditional_jump, step}
-use Rattle.st_model.specs.Table.{Table, bounded_table}
+use Rattle.st_model.specs.Bytecodes.{push_operand, store_and_pop, push_receiver, push_constant, extended_push, extended_store, extended_store_and_pop, pop_stack, duplicate_top, push_active_context, short_unconditional_jump, long_unconditional_jump}
 use Rattle.st_frames.specs.declared.frame.Frame.{Frame}
 use Rattle.st_frames.specs.declared.registers.Registers.{Registers as Words}
-use Rattle.st_control.specs.inside.Foreseen.{IsForeseen}
 use Rattle.st_control.specs.inside.AtOnce.{at_once, jump_at_once}
 
 -- the registers name what they named
@@ -37,10 +34,6 @@ abbrev pub kept : Result Bool Dead → Frame → Words → Frame
 kept (Ok true) f r = record f { ip = r.ip; sp = r.sp }
 kept (Ok false) f r = f
 kept (Err cause) f r = f
-
--- the bytecode would have been foreseen, with room for what it makes, and goes on to this state
-abbrev pub GoesOn : State Table → State Table → Type 0
-GoesOn c d = IsForeseen c × ((step bounded_table).run c ≡ Went outcome.Went d)
 
 module _ {H : Type 0} (m : ObjectMemory H) where
   -- of a receiver, and of the argument at the top where that is a SmallInteger, the primitive has an answer

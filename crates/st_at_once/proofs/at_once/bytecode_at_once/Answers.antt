@@ -1,5 +1,4 @@
-use Rattle.std.proofs.Common.{rules, Ok, true}
-use Rattle.st_model.specs.inside.Calls.{itself}
+use Rattle.std.proofs.Common.{rules}
 use Rattle.st_control.specs.inside.AtOnce.{at_once}
 use Rattle.st_frames.proofs.Doing.{rows}
 use Rattle.st_at_once.specs.inside.AtOnce.{bytecode_at_once, primitive_at_once}
