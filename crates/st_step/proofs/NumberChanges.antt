@@ -1,7 +1,11 @@
 -- What a primitive comes to that is tried by its number, and how many changes it makes.
-use Rattle.std.proofs.Common.{◌≡◌, ◌≤◌, ℕ, Bool, Option, Some, None, Result, Ok, Err, refl, sym, subst, arith}
+use Rattle.std.proofs.Common.{◌≡◌, ◌≤◌, ℕ, Bool, true, Option, Some, None, Result, Ok, Err, refl, sym, subst, arith}
 use Rattle.st_model.specs.declared.dead.Dead.{Dead}
-use Rattle.st_model.specs.Machine.{State, Went, Step, answer, after, ◌>>=◌}
+use Rattle.st_model.specs.Values.{Value}
+use Rattle.st_model.specs.Outcomes as outcome
+use Rattle.st_model.specs.Machine.{ObjectMemory, State, Went, Step, answer, after, ◌>>=◌}
+use Rattle.st_model.specs.Steps.{top}
+use Rattle.st_model.specs.Storage.{primitive_say}
 use Rattle.st_model.specs.Table.{Table}
 use Rattle.st_memory.specs.declared.objects.Objects.{Ghosts}
 use Rattle.st_frames.specs.declared.registers.Registers.{Registers as Words}
@@ -10,7 +14,7 @@ use Rattle.st_frames.specs.declared.tried.Tried.{Tried}
 use Rattle.st_frames.specs.declared.tried.Tried.TheVariants.{Failed, Done, Leaves}
 use Rattle.st_frames.specs.inside.Rows.{Takes, with_left, is_done, deed_of_trial, tried_changes, storage_changes, response_changes, execution_changes}
 use Rattle.st_frames.proofs.Doing.{rows}
-use Rattle.st_step.specs.inside.Trying.{if_done, end_of_trial, outcome_if_any, deed_if_any, number_changes}
+use Rattle.st_step.specs.inside.Trying.{if_done, says, end_of_trial, outcome_if_any, deed_if_any, number_changes}
 
 -- one that performs nothing makes no more than one that may
 pub responds_within : {M : Type 0} (o : Ghosts M) (x : Result (Option RowEnd) Dead) (old new : M) → Takes o (number_changes response_changes x) old new → Takes o (number_changes execution_changes x) old new
@@ -37,6 +41,11 @@ pub takes_tried : {M : Type 0} (o : Ghosts M) (n : ℕ) (t : Tried) (x : Option 
 takes_tried o n Failed x old new e l k = subst (λ y. Takes o (number_changes response_changes (Ok y)) old new) (sym e) (record { room = omega (arith, k.room); fixed = k.fixed })
 takes_tried o n Done x old new e l k = subst (λ y. Takes o (number_changes response_changes (Ok y)) old new) (sym e) (record { room = omega (arith, k.room); fixed = k.fixed })
 takes_tried o n Leaves x old new e l k = subst (λ y. Takes o (number_changes response_changes (Ok y)) old new) (sym e) (record { room = omega (arith, k.room); fixed = k.fixed })
+
+-- one that has the receiver's bytes said
+pub says_done : (m : ObjectMemory Table) (v : Value) (b : Bool) (s t : State Table) → b ≡ true → (top m).run s ≡ Went v s → (primitive_say m v).run s ≡ Went b t → (says m).run s ≡ Went (Some (outcome.Say v)) t
+unfolding says ◌>>=◌ after answer
+says_done m v b s t done receiver said = rw (receiver, said, done) refl
 
 -- a primitive that its family tries
 pub ruleset trials = (tried_ends, takes_few, takes_tried, rows)

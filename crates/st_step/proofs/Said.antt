@@ -3,13 +3,10 @@ use Rattle.std.proofs.Common.{◌≡◌, ℕ, refl, sym, ◌∙◌, ap, arith}
 use Rattle.std.specs.Prelude.{◌-◌}
 use Rattle.st_model.specs.declared.dead.Dead.{Dead}
 use Rattle.st_model.specs.Values.{Value}
-use Rattle.st_model.specs.Outcomes.{Outcome}
 use Rattle.st_model.specs.Outcomes as outcome
 use Rattle.st_model.specs.Machine.{State, Died, Went, after, ◌>>=◌, ◌>>◌}
 use Rattle.st_model.specs.Steps.{get_sp, get_active, found, object_named, object, check, or_die, fetch_field, top, under}
 use Rattle.st_model.specs.Table.{Table, table, bounded_table}
-use Rattle.st_model.specs.Bytecodes.{step}
-use Rattle.st_simulation.proofs.Going.{step_names_top}
 
 less_none : (n : ℕ) → n - 0 ≡ n
 less_none n = omega arith
@@ -27,8 +24,3 @@ said_is s o x u e =
 
 pub none_said : (s : State Table) (k : Dead) (x : Value) → (under table 0).run s ≡ Died k → (top bounded_table).run s ≡ Went x s → ⊥
 none_said s k x u e = let q : Died k ≡ Went x s = sym u ∙ (sym (top_under s) ∙ e) in cc
-
--- the outcome is the one that names the word at the top
-pub says_top : (s t : State Table) (v : Value) (o : Outcome) → (step bounded_table).run s ≡ Went (outcome.Say v) t
-    → ((x : Value) → (top bounded_table).run t ≡ Went x t → o ≡ outcome.Say x) → (step bounded_table).run s ≡ Went o t
-says_top s t v o e f = e ∙ ap (λ y. Went y t) (sym (f v (step_names_top s t v e)))

@@ -1,9 +1,9 @@
-ghost use Rattle.std.specs.Prelude.{◌≡◌, ◌<◌, ◌≤◌, ◌+◌, true, false, IfOk};
+ghost use Rattle.std.specs.Prelude.{◌≡◌, ◌<◌, ◌≤◌, ◌+◌, false, IfOk};
 ghost use Rattle.st_model.specs.Values.{word};
 ghost use Rattle.st_model.specs.Storage.{fetch_element, primitive_at, primitive_size, primitive_instance_variable_at};
 ghost use Rattle.st_model.specs.Deeds.{copies_pixels};
 ghost use Rattle.st_frames.specs.inside.Answering.{succeed_by, answer_word, answer_deed};
-ghost use Rattle.st_frames.specs.inside.Rows.{RowLeaves, RowTries, Takes, is_done};
+ghost use Rattle.st_frames.specs.inside.Rows.{RowLeaves, RowTries, Takes};
 
 use crate::elements::{count_elements, place_at, place_behind_fixed};
 use crate::large::answer_integer;
@@ -55,7 +55,6 @@ fn answer_element<O: Objects>(
     requires room { 2 ≤ O.room m.old }
     ensures does { RowTries O.Objects.own
         (succeed_by O.names 1 (fetch_element O.names (word object) place)) m.old r.old result m.new r.new }
-    ensures done { IfOk result (λ t. is_done t ≡ true) }
     ensures takes { Takes O.Objects.own 2 m.old m.new }
 {
     let answer = fetch_element(m, r, object, place)?;
@@ -68,7 +67,6 @@ pub fn primitive_at<O: Objects>(m: &mut O, r: &mut Registers) -> Result<Tried, D
     requires room { 2 ≤ O.room m.old }
     ensures does { RowTries O.Objects.own (primitive_at O.names) m.old r.old result m.new r.new }
     ensures takes { Takes O.Objects.own 2 m.old m.new }
-    ensures still { IfOk result (λ t. is_done t ≡ false → m.new ≡ m.old) }
 {
     let object = under(m, r, 1)?;
     let index = top(m, r)?;

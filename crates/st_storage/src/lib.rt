@@ -21,7 +21,4 @@ mod streams;
 mod strings;
 
 pub use dispatch::try_storage;
-pub use fetching::primitive_at;
-pub use making::{primitive_new, primitive_new_with};
-pub use putting::primitive_at_put;
 pub use saying::primitive_say;

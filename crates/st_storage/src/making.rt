@@ -1,4 +1,4 @@
-ghost use Rattle.std.specs.Prelude.{◌≡◌, ◌≢◌, ◌<◌, ◌≤◌, ◌+◌, ◌^◌, IfOk, true, false};
+ghost use Rattle.std.specs.Prelude.{◌≡◌, ◌≢◌, ◌<◌, ◌≤◌, ◌+◌, ◌^◌, IfOk, false};
 ghost use Rattle.st_model.specs.Values.{Ref, word};
 ghost use Rattle.st_model.specs.Objects.{place_of, is_method};
 ghost use Rattle.st_model.specs.declared.page.PageObject.TheVariants.{MethodClass};
@@ -8,7 +8,7 @@ ghost use Rattle.st_model.specs.Steps.{make};
 ghost use Rattle.st_model.specs.Primitives.{fixed_count};
 ghost use Rattle.st_frames.specs.inside.Answering.{succeed_by};
 ghost use Rattle.st_storage.specs.inside.Storing.{shape_in};
-ghost use Rattle.st_frames.specs.inside.Rows.{RowReads, RowTries, Takes, is_done};
+ghost use Rattle.st_frames.specs.inside.Rows.{RowReads, RowTries, Takes};
 
 use crate::numbers::{fixed_count, has_pointers, has_words, is_indexable, specification};
 use crate::shapes::Shape;
@@ -72,7 +72,6 @@ fn answer_fixed<O: Objects>(
     ensures does { RowTries O.Objects.own
         (succeed_by O.names 0 (make O.names (word class) (kind_of_fixed s) (fixed_count s) 0))
         m.old r.old result m.new r.new }
-    ensures done { IfOk result (λ t. is_done t ≡ true) }
     ensures takes { Takes O.Objects.own 2 m.old m.new }
 {
     let answer = m.make(class, kind_of_fixed(s), fixed_count(s), 0)?;
@@ -85,7 +84,6 @@ pub fn primitive_new<O: Objects>(m: &mut O, r: &mut Registers) -> Result<Tried, 
     requires room { 2 ≤ O.room m.old }
     ensures does { RowTries O.Objects.own (primitive_new O.names) m.old r.old result m.new r.new }
     ensures takes { Takes O.Objects.own 2 m.old m.new }
-    ensures still { IfOk result (λ t. is_done t ≡ false → m.new ≡ m.old) }
 {
     let receiver = top(m, r)?;
     match fixed_specification(m, r, receiver) {
@@ -162,7 +160,6 @@ fn answer_shaped<O: Objects>(
     ensures does { RowTries O.Objects.own
         (succeed_by O.names 1 (make O.names (word class) shape.kind shape.size 0))
         m.old r.old result m.new r.new }
-    ensures done { IfOk result (λ t. is_done t ≡ true) }
     ensures takes { Takes O.Objects.own 33 m.old m.new }
 {
     let answer = m.make(class, shape.kind, shape.size, 0)?;
@@ -175,7 +172,6 @@ pub fn primitive_new_with<O: Objects>(m: &mut O, r: &mut Registers) -> Result<Tr
     requires room { 33 ≤ O.room m.old }
     ensures does { RowTries O.Objects.own (primitive_new_with O.names) m.old r.old result m.new r.new }
     ensures takes { Takes O.Objects.own 33 m.old m.new }
-    ensures still { IfOk result (λ t. is_done t ≡ false → m.new ≡ m.old) }
 {
     let receiver = under(m, r, 1)?;
     let count = top(m, r)?;

@@ -1,4 +1,4 @@
-ghost use Rattle.std.specs.Prelude.{◌≡◌, ◌<◌, ◌≤◌, ◌+◌, true, false, IfOk};
+ghost use Rattle.std.specs.Prelude.{◌≡◌, ◌<◌, ◌≤◌, ◌+◌, false, IfOk};
 ghost use Rattle.st_model.specs.Values.{word};
 ghost use Rattle.st_model.specs.Storage.{store_element, store_and_answer, primitive_at_put, primitive_string_at_put, primitive_instance_variable_at_put};
 ghost use Rattle.st_model.specs.Steps.{store_word, store_byte};
@@ -6,7 +6,7 @@ ghost use Rattle.st_model.specs.inside.Calls.{itself};
 ghost use Rattle.st_model.specs.Deeds.{copies_pixels};
 ghost use Rattle.st_frames.specs.inside.Answering.{IsOfKind, succeed_by, answer_word, answer_deed, no_word};
 ghost use Rattle.st_storage.specs.inside.Storing.{storing_in};
-ghost use Rattle.st_frames.specs.inside.Rows.{RowLeaves, RowTries, Takes, is_done};
+ghost use Rattle.st_frames.specs.inside.Rows.{RowLeaves, RowTries, Takes};
 
 use crate::shapes::Storing;
 use crate::storing::{put_operands, storing_behind_fixed, storing_by_index};
@@ -94,7 +94,6 @@ fn answer_stored<O: Objects>(m: &mut O, r: &mut Registers, s: Storing) -> Result
     ensures does { RowTries O.Objects.own
         (succeed_by O.names 2 (store_and_answer O.names (word s.object) (word s.value) (storing_in s)))
         m.old r.old result m.new r.new }
-    ensures done { IfOk result (λ t. is_done t ≡ true) }
     ensures takes { Takes O.Objects.own 2 m.old m.new }
 {
     let answer = store_and_answer(m, r, s)?;
@@ -108,7 +107,6 @@ pub fn primitive_at_put<O: Objects>(m: &mut O, r: &mut Registers) -> Result<Trie
     requires room { 2 ≤ O.room m.old }
     ensures does { RowTries O.Objects.own (primitive_at_put O.names) m.old r.old result m.new r.new }
     ensures takes { Takes O.Objects.own 2 m.old m.new }
-    ensures still { IfOk result (λ t. is_done t ≡ false → m.new ≡ m.old) }
 {
     let put = put_operands(m, r)?;
     match storing_behind_fixed(m, r, put) {

@@ -42,11 +42,13 @@ outcome-requires-clause-ended g c =
     let done = c.carry_out.ensures in
     let does = c.in-Ok.ensures.does in (
       c.step_row.new.r,
-      c.carry_out.new.w,
-      shown v c.args.f.now c.args.w.now,
-      carried_out v (g.M.Memory.view c.step_row.new.m) (g.M.Memory.view c.hold.new.m) (g.M.Memory.view c.carry_out.new.m) c.args.f.now c.hold.result c.args.w.now c.carry_out.new.w
-          c.load-r.result c.step_row.new.r c.in-Ok.end c.deed_in-deed.result c.load-r.ensures.registers c.load-r.ensures.world does.does c.deed_in-deed.ensures held.same does.world held.objects held.head
-          done.objects done.head done.world,
+      (
+        c.carry_out.new.w,
+        shown v c.args.f.now c.args.w.now,
+        carried_out v (g.M.Memory.view c.step_row.new.m) (g.M.Memory.view c.hold.new.m) (g.M.Memory.view c.carry_out.new.m) c.args.f.now c.hold.result c.args.w.now c.carry_out.new.w
+            c.load-r.result c.step_row.new.r c.in-Ok.end c.deed_in-deed.result c.load-r.ensures.registers c.load-r.ensures.world does.does c.deed_in-deed.ensures held.same does.world held.objects held.head
+            done.objects done.head done.world,
+      ),
     )
 
 pub returns-clause-step : goal.returns-clause-step
