@@ -1,7 +1,5 @@
--- What a frame keeps of a row that is done at once.
-use Rattle.std.proofs.Common.{◌≡◌, ◌≢◌, Bool, true, false, Ok, Err, refl, sym}
-use Rattle.std.specs.Prelude.{Result}
-use Rattle.st_model.specs.declared.dead.Dead.{Dead}
+-- What a frame keeps of a row that was done at once.
+use Rattle.std.proofs.Common.{◌≡◌, true, Ok, sym}
 use Rattle.st_model.specs.Machine.{Registers}
 use Rattle.st_model.specs.View.{View}
 use Rattle.st_frames.specs.declared.frame.Frame.{Frame}
@@ -10,13 +8,7 @@ use Rattle.st_frames.specs.inside.Rows.{registers_in}
 use Rattle.st_frames.specs.inside.Shown.{registers_of, IsFrame}
 use Rattle.st_at_once.specs.inside.AtOnce.{NamesSame, kept}
 
--- of a row that wasn't done it keeps nothing
-pub kept_other : (result : Result Bool Dead) (f : Frame) (r : Words) → result ≢ Ok true → f ≡ kept result f r
-kept_other (Ok true) f r other = absurd (other refl)
-kept_other (Ok false) f r other = refl
-kept_other (Err cause) f r other = refl
-
--- of one that was done it keeps the registers
+-- it keeps the registers
 pub kept_same : (f : Frame) (r : Words) → NamesSame (registers_of f) (registers_in r) → registers_of (kept (Ok true) f r) ≡ registers_in r
 kept_same f r n = λ i. record { active = sym n.active i; home = sym n.home i; method = sym n.method i; receiver = sym n.receiver i; ip = r.ip; sp = r.sp }
 
@@ -35,5 +27,3 @@ kept_frame v f r h = record {
 -- the registers of a row that wasn't done, once instruction and stack pointer are put back
 pub put_back : (f : Frame) (r : Registers) → NamesSame (registers_of f) r → record r { ip = f.ip; sp = f.sp } ≡ registers_of f
 put_back f r n = λ i. record { active = n.active i; home = n.home i; method = n.method i; receiver = n.receiver i; ip = f.ip; sp = f.sp }
-
-pub ruleset keeps = (kept_other)

@@ -21,13 +21,6 @@ abbrev pub reads : Result Value Dead → State Table → Transition (State Table
 reads (Ok v) s = Went v s
 reads (Err cause) s = Died cause
 
-pub read_went : (x : Result Value Dead) (v : Value) (s t : State Table) → reads x s ≡ Went v t → (x ≡ Ok v) × (t ≡ s)
-read_went (Ok w) v s t e =
-    let same : w ≡ v = cc in
-    let still : t ≡ s = cc in
-    (ap Ok same, still)
-read_went (Err cause) v s t e = cc
-
 abbrev part : Bool → Option Value → Result Value Dead
 part false x = Err dead.Kind
 part true None = Err dead.Field

@@ -138,7 +138,7 @@ pub fn row_at_once<O: Objects>(m: &mut O, f: &mut Frame, r: &mut Registers) -> R
     requires room { 1 ≤ O.room m.old }
     ensures does { RowDoes O.Objects.own (step_at_once O.names) itself m.old r.old result m.new r.new }
     ensures frame { f.new ≡ kept result f.old r.new }
-    ensures names { IfOk result (λ (done : Bool). NamesSame (registers_in r.old) (registers_in r.new)) }
+    ensures names { IfOk result (λ done. NamesSame (registers_in r.old) (registers_in r.new)) }
     ensures takes { Takes O.Objects.own 1 m.old m.new }
     ensures still { IsStill O.Objects.own m.old result m.new }
 {
