@@ -1,5 +1,5 @@
 -- Stretches of cycles, and what follows them.
-use Rattle.std.proofs.Common.{◌≡◌, ◌≢◌, ℕ, ◌+◌, Option, Some, None, Ok, Err, refl}
+use Rattle.std.proofs.Common.{◌≡◌, ℕ, ◌+◌, Option, Some, None, Ok}
 use Rattle.std.specs.Prelude.{Result}
 use Rattle.st_model.specs.declared.dead.Dead.{Dead}
 use Rattle.st_model.specs.declared.deed.Deed.{Deed}
@@ -18,15 +18,10 @@ use Rattle.st_machine.specs.declared.cycling.CycleEnd.{CycleEnd}
 use Rattle.st_machine.specs.declared.doing.StretchEnd.{StretchEnd}
 use Rattle.st_machine.specs.inside.Cycling.{IsCalm, GoesCalmly, Follows, foreseen_step}
 use Rattle.st_machine.specs.inside.Runs.{ending_of}
-use Rattle.st_machine.specs.inside.Strides.{SoFar, NextEnds, LastGoes, StretchEnds}
+use Rattle.st_machine.specs.inside.Strides.{SoFar, NextEnds, LastGoes}
 use Rattle.st_machine.proofs.Calm.{calm_cycle}
 use Rattle.st_machine.proofs.Foreseeing.{followed}
 use Rattle.st_machine.proofs.Runs.{shown_next, one_more}
-
-ended : (k : ℕ) (s : State Births) (left : Deed) (x : Result (Option StretchEnd) Dead) (c : State Table) → x ≢ Ok None → LastGoes k s left x c → StretchEnds k s left x c
-ended k s left (Ok None) c other h = absurd (other refl)
-ended k s left (Ok (Some end)) c other h = h
-ended k s left (Err cause) c other h = h
 
 module _ (v : View) (f : Frame) (w : World) (whole : IsWhole v) (ready : IsReady v f w) where
   sound : IsSound (shown v f w)
@@ -44,11 +39,10 @@ module _ (v : View) (f : Frame) (w : World) (whole : IsWhole v) (ready : IsReady
   pub calm_goes : (k : ℕ) (s : State Births) (left : Deed) (d : State Table) → IsCalm w → SoFar k s (shown v f w) → GoesCalmly (shown v f w) left (Ok None) d → SoFar (k + 1) s d
   calm_goes k s left d calm far e = one_more k s d (calm_next k s (Went (With outcome.Went) d) calm far e)
 
-  -- a stretch that ends in it
+  -- one that ends a stretch
   pub calm_ends : (k : ℕ) (s : State Births) (left : Deed) (x : Result (Option StretchEnd) Dead) (d : State Table) → IsCalm w → SoFar k s (shown v f w) → GoesCalmly (shown v f w) left x d
-      → x ≢ Ok None → StretchEnds k s left x d
-  calm_ends k s left x d calm far h other =
-      ended k s left x d other (record { from = shown v f w; ends = λ o e. calm_next k s o calm far e; goes = h })
+      → LastGoes k s left x d
+  calm_ends k s left x d calm far h = record { from = shown v f w; ends = λ o e. calm_next k s o calm far e; goes = h }
 
 -- the rest of the cycle that ended a stretch
 pub rest_ends : (k : ℕ) (s : State Births) (left : Deed) (end : StretchEnd) (c : State Table) (x : Result CycleEnd Dead) (d : State Table)

@@ -60,14 +60,23 @@ pub fn go_on<M: Memory>(m: &mut M, f: &mut Frame, w: &World, n: u32) -> Stretch
     let near = Near::new(m, f);
     let mut roomy = Roomy { near };
     for done in 0..n {
-        let end = do_calmly(&mut roomy, f, &mut r);
-        let Ok(None) = end else {
-            return Stretch {
-                done,
-                end,
-                left: r.left,
-            };
-        };
+        match do_calmly(&mut roomy, f, &mut r) {
+            Ok(None) => {}
+            Ok(Some(end)) => {
+                return Stretch {
+                    done,
+                    end: Ok(Some(end)),
+                    left: r.left,
+                };
+            }
+            Err(cause) => {
+                return Stretch {
+                    done,
+                    end: Err(cause),
+                    left: r.left,
+                };
+            }
+        }
     }
     Stretch {
         done: n,

@@ -116,3 +116,8 @@ returns-in_default-clause-step g c =
     (g.M.Memory.view c.step_row.new.m.near.memory.now) c.step_row.new.r c.in_ok-end.end (g.met.M.Memory.whole c.step_row.new.m.near.memory.now) (ap (λ (x : View). x.head) row.takes.fixed) row.does.does
     (g.M.Memory.view c.hold_moved.new.self.memory.now) c.hold_moved.new.f row.does.world hold.same hold.objects hold.head c.in_default.not-Leaves c.outcome_near.result (c.outcome_near.ensures c.step_row.new.r)
 
+pub returns-in_default-clause-same_memory : goal.returns-in_default-clause-same_memory
+returns-in_default-clause-same_memory g c =
+    c.hold_moved.ensures.same_memory
+    ∙ same_name (g.M.Memory.view c.args.roomy.now.near.memory.now) (g.M.Memory.view c.step_row.new.m.near.memory.now) c.args.roomy.now.near.memory.ghost_name c.step_row.new.m.near.memory.ghost_name
+    c.in_ok-end.ensures.takes.fixed
