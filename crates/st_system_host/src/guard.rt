@@ -130,11 +130,7 @@ impl Guard {
 
     /// Makes a roots file that was absent, and locks it. One that another process has made since is left alone, and so are files
     /// that would be the store's.
-    pub(crate) fn make_roots<R: Files<File = File>>(
-        &mut self,
-        rt: &R,
-        name: &str,
-    ) -> io::Result<()>
+    pub(crate) fn make_roots<R: Files<File = File>>(&mut self, rt: &R, name: &str) -> io::Result<()>
         ensures { OnOk result (IsSome self.new.held) }
     {
         let stem = name.strip_suffix(ROOTS).unwrap_or(name);
