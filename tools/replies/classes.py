@@ -114,6 +114,11 @@ def is_class(image, name, pointer):
     return len(image.elements_of(pointer)) >= CLASS_FIELDS and class_name(image, pointer) == name
 
 
+def class_of_class(image, pointer):
+    """The class of an object's class, which of a class is Metaclass; nil for a SmallInteger."""
+    return NIL if is_small(pointer) else image.get(image.get(pointer).of_class).of_class
+
+
 def side_name(name, meta):
     return f"{name} class" if meta else name
 
@@ -125,6 +130,13 @@ class System:
         self.image = image
         self.globals = members_of(image, image.globals) if image.globals else {}
         self.classes = {name: Described(image, it) for name, it in self.globals.items() if is_class(image, name, it)}
+
+    def misnamed(self):
+        """The globals whose value is a class of another name that no global has, with this name."""
+        kinds = {self.image.get(it.metaclass).of_class for it in self.classes.values()}
+        known = {it.pointer for it in self.classes.values()}
+        return {name: class_name(self.image, it) for name, it in self.globals.items()
+                if it not in known and class_of_class(self.image, it) in kinds}
 
     def methods(self):
         """All methods, by class, side and selector."""

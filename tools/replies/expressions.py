@@ -18,7 +18,7 @@ WANTING = re.compile(rf"(?:[;_^]|(?<![A-Za-z0-9:#])[A-Za-z][A-Za-z0-9]*:|(?<!#)(
 CLASS = re.compile(r"[sS]ubclass:\s*#\w+(?:\s+(?!category|package)\w+:\s*'[^']*')*\Z")  # what makes a class, but for its end
 DECLARATIONS = re.compile(r"\|([A-Za-z0-9\s]*)\|")
 # What follows another token.
-FOLLOWING = re.compile(rf";|[A-Za-z][A-Za-z0-9]*:(?!=)|{BINARY}")
+FOLLOWING = re.compile(rf";|[A-Za-z][A-Za-z0-9]*:(?!=)|(?!-\s*\d){BINARY}")
 
 
 def pieces(text):

@@ -16,6 +16,8 @@ AT_PLACE = (
     ("syntax 1", r"#\[", "`#[` begins no token: `ByteArray with: 1 with: 2` does"),
     ("syntax 1", r"#", "a `#` begins a Symbol or a literal array, as `#size`, `#at:put:` and `#(1 2)`"),
     ("syntax 1", r"\$", "a character is missing after the `$`"),
+    ("syntax 1", r"!", "no token begins with `!`: a header, as `!Account methodsFor: 'x'!`, begins its line"),
+    ("syntax 3", r"-\s+\d", "no blank stands between a minus and its number"),
     ("syntax 3", r":=|_", "a name is missing before the assignment"),
     ("syntax 7", r":=|_", "only a name takes an assignment"),
     ("syntax 7", r"\.", "a period stands between two statements, and one is missing before this one"),
@@ -25,6 +27,8 @@ IN_ARRAY = {
     "code 9": "a literal array takes no number below -16384: `Array with: -100000` does",
 }
 IN_BLOCK = "a block has no variables of its own here: declare them where the expression or the method begins"
+NO_NAME = "a method begins with its name, as `balance` or `add: aNumber`"
+HANDLER = re.compile(r"\bon:\s*\Z")  # what comes before the name of an error's class
 # Messages of other Smalltalks, and what this one has.
 ELSEWHERE = {
     "++": "x := x + 1",
@@ -71,9 +75,16 @@ def is_in_array(text, at):
     return at < end
 
 
+def elsewhere(selector):
+    """What this Smalltalk has for a message of others."""
+    return f"other Smalltalks have {selector}; this one has {ELSEWHERE[selector]}"
+
+
 def hint_for_name(text, at):
     """What would give a name a meaning that has none."""
     name = NAME.match(text, at)[0]
+    if HANDLER.search(text[:at]) and re.match(r"\s*do:", text[at + len(name) :]):
+        return elsewhere("on:do:")
     if name[0].isupper():
         return f"no class or global is called {name}"
     if text.startswith(FRONT):
@@ -88,6 +99,8 @@ def hint_at(cause, text, at):
             return sentence
     if cause == "syntax 1" and text[at : at + 1]:
         return f"no token begins with the character {text[at]}"
+    if cause == "syntax 3" and not text[:at].strip():
+        return NO_NAME
     if cause == "syntax 3" and text[at : at + 1] == "|" and BLOCK.search(text[:at]):
         return IN_BLOCK
     if cause == "code 3" and NAME.match(text, at):
@@ -109,7 +122,7 @@ def meaning_in(reply, text):
 def message_meant(receiver, selector, understood):
     """A sentence on the message that may have been meant, of those that a receiver's class understands, if there is one."""
     if selector in ELSEWHERE:
-        return f"other Smalltalks have {selector}; this one has {ELSEWHERE[selector]}"
+        return elsewhere(selector)
     keywords = selector.count(":")
     # (the nearest in length first)
     known = sorted(understood, key=lambda it: (abs(it.count(":") - keywords), len(it), it))

@@ -109,6 +109,13 @@ def why_no_group(text):
     return None if text[: found.end()].endswith("!") else f"a `!` is missing after the header {found[1]}"
 
 
+def parts_of_group(text):
+    """The header of a text that begins with one, its whole methods, each with its `!`, and what comes after them."""
+    begin = BEGIN_OF_GROUP.match(text).end()
+    end = max(it.end() for it in re.finditer("!!?", text) if it[0] == "!")
+    return text[:begin], text[begin:end], text[end:]
+
+
 def is_open_group(text):
     """Whether the empty chunk at the end of a group is missing."""
     return not END_OF_GROUP.search(text)
