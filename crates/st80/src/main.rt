@@ -8,11 +8,9 @@
 mod tool;
 
 use crate::tool::exit_code;
-use st_call::{Command, read_command, refuse};
-use st_host::Source;
+use st_call::{Command, read_command};
 use st_protocol::Status;
 use st_system_host::{DirHost, StdinSource};
-use std::alloc::Global;
 use std::fs::File;
 use std::io::{self, ErrorKind};
 use std::process::ExitCode;
@@ -25,13 +23,10 @@ fn main(rt: HostRuntime) -> ExitCode {
     let _places = StreamPlaces::take(&rt);
     let mut script = StdinSource::new(&rt);
     let mut host = DirHost::new(rt);
-    let code = match do_call(alloc, words, &mut host, &mut script) {
-        Ok(code) => code,
-        Err(status) => {
-            refuse(&mut host, status);
-            ExitCode::from(status.number())
-        }
-    };
+    if let Ok(words) = &words {
+        keep_stores(words.as_slice(), &mut host);
+    }
+    let code = exit_code(alloc, words, &mut host, &mut script);
     if let Some(refusal) = host.refusal() {
         // The status says it too, where this can't be said.
         errors.println(format_args!("st80: {refusal}")).ok();
@@ -72,18 +67,11 @@ fn words_of_call<R: Env + AllocGlobal>(rt: &R) -> Result<Vec<String>, Status> {
     Ok(words)
 }
 
-// Does what the words say, or says why nothing was begun.
-fn do_call<R: Files<File = File> + Print + Drop, S: Source>(
-    alloc: Global,
-    words: Result<Vec<String>, Status>,
-    host: &mut DirHost<R>,
-    script: &mut S,
-) -> Result<ExitCode, Status> {
-    let words = words?;
+// Has no image that is exported written over a file of a store.
+fn keep_stores<R: Files<File = File> + Print + Drop>(words: &[String], host: &mut DirHost<R>) {
     if let Some(Command::Export { store, image } | Command::Clean { store, image }) = read_command(
-        words.as_slice(),
+        words,
     ) {
         host.keep_stores_from(store, image);
     }
-    Ok(exit_code(alloc, words.as_slice(), host, script))
 }

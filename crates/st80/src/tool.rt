@@ -1,6 +1,7 @@
-ghost use Rattle.std.specs.{Prelude.{◌≡◌, map, IsTrue}, String.string_bytes, Process.exit_status};
+ghost use Rattle.std.specs.{Prelude.{◌≡◌, map, IsTrue, IfOk, IfErr}, String.string_bytes, Process.exit_status};
 ghost use Rattle.st_host.specs.Counts.{Rose};
 ghost use Rattle.st_protocol.specs.Statuses.{number_of};
+ghost use Rattle.st_call.specs.LastLines.{SaysLastLine};
 ghost use Rattle.st_session.specs.Calls.{CallEnds};
 
 use st_call::{Command, read_command, refuse};
@@ -67,17 +68,27 @@ pub fn tool<H: Host, S: Source>(
     }
 }
 
-/// The exit code of such a call, which is the number of its status.
+/// The exit code of a call with these words, which is the number of its status. Where the words were not to be had, it is that of the
+/// status that comes in their place, whose last line is said.
 pub fn exit_code<H: Host, S: Source>(
     alloc: Global,
-    words: &[String],
+    words: Result<Vec<String>, Status>,
     host: &mut H,
     script: &mut S,
 ) -> ExitCode
-    ensures ends { let reads = Rose (S.read_faults script.old) (S.read_faults script.new) in
+    ensures ends { IfOk words (λ given. let reads = Rose (S.read_faults script.old) (S.read_faults script.new) in
         (status : Status) × (exit_status result ≡ number_of status)
-        × CallEnds H.Host.own (map string_bytes words.now) (IsTrue S.is_told) reads
-        (S.remaining script.old) (S.remaining script.new) host.old host.new status }
+        × CallEnds H.Host.own (map string_bytes given.items) (IsTrue S.is_told) reads
+        (S.remaining script.old) (S.remaining script.new) host.old host.new status) }
+    ensures refused { IfErr words (λ status. (exit_status result ≡ number_of status)
+        × SaysLastLine H.Host.own status host.old host.new) }
 {
-    ExitCode::from(tool(alloc, words, host, script).number())
+    let status = match words {
+        Ok(words) => tool(alloc, words.as_slice(), host, script),
+        Err(status) => {
+            refuse(host, status);
+            status
+        }
+    };
+    ExitCode::from(status.number())
 }
