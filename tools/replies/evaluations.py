@@ -144,8 +144,8 @@ class Clocks:
         return self.variable("Workspace", "Evaluation") != NIL
 
     def first_end(self):
-        """What the millisecond clock shows when the evaluation's first delay ends; none if none waits."""
-        if not self.is_evaluating():
+        """What the millisecond clock shows when the first delay ends; none if none waits. With a person before it an evaluation's alone counts."""
+        if not self.is_evaluating() and self.is_real:
             return None
         waiting = self.variable("Delay", "Waiting")
         fields = self.live.elements_of(waiting)

@@ -16,6 +16,7 @@ BINARY = r"[-+*/\\~<>=@%|&?,]"
 # What another token must follow: a cascade's semicolon, an assignment, a keyword or a binary operator, and none of a literal's.
 WANTING = re.compile(rf"(?:[;_^]|(?<![A-Za-z0-9:#])[A-Za-z][A-Za-z0-9]*:|(?<!#)(?<!{BINARY}){BINARY}+)\Z")
 CLASS = re.compile(r"[sS]ubclass:\s*#\w+(?:\s+(?!category|package)\w+:\s*'[^']*')*\Z")  # what makes a class, but for its end
+FURTHER = re.compile(r"\s|[A-Za-z]\w*:|\Z")  # how a line begins that goes on with it
 DECLARATIONS = re.compile(r"\|([A-Za-z0-9\s]*)\|")
 # What follows another token.
 FOLLOWING = re.compile(rf";|[A-Za-z][A-Za-z0-9]*:(?!=)|(?!-\s*\d){BINARY}")
@@ -58,6 +59,11 @@ def goes_on(text):
     parts, bare = parts_of(text), text.strip(BLANKS)
     wants = bool(parts) and bool(WANTING.search(text[: parts[-1] + 1]))
     return (wants or bool(CLASS.search(bare))) and not DECLARATIONS.fullmatch(bare)
+
+
+def cuts_class(line, text):
+    """Whether a text makes a class but for its end, and a line after it doesn't go on with that."""
+    return bool(CLASS.search(text.strip(BLANKS))) and not is_open(text) and not FURTHER.match(line)
 
 
 def is_rest(text):
