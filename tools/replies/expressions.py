@@ -16,7 +16,7 @@ BINARY = r"[-+*/\\~<>=@%|&?,]"
 # What another token must follow: a cascade's semicolon, an assignment, a keyword or a binary operator, and none of a literal's.
 WANTING = re.compile(rf"(?:[;_^]|(?<![A-Za-z0-9:#])[A-Za-z][A-Za-z0-9]*:|(?<!#)(?<!{BINARY}){BINARY}+)\Z")
 CLASS = re.compile(r"[sS]ubclass:\s*#\w+(?:\s+(?!category|package)\w+:\s*'[^']*')*\Z")  # what makes a class, but for its end
-FURTHER = re.compile(r"\s|[A-Za-z]\w*:|\Z")  # how a line begins that goes on with it
+FURTHER = re.compile(r"\s|[A-Za-z]\w*:(?!=)|\Z")  # how a line begins that goes on with it
 DECLARATIONS = re.compile(r"\|([A-Za-z0-9\s]*)\|")
 # What follows another token.
 FOLLOWING = re.compile(rf";|[A-Za-z][A-Za-z0-9]*:(?!=)|(?!-\s*\d){BINARY}")
