@@ -15,10 +15,19 @@ class Unfit(Exception):
     """The edit can't be applied: why."""
 
 
+@dataclasses.dataclass(frozen=True)
+class Part:
+    """What an edit turns: a function, as the checker names it; or a module, if the edit stands beside its functions."""
+
+    name: str
+    file: str
+    is_body: bool  # whether the edit stands in a function's body, so that no other function sees it
+
+
 @dataclasses.dataclass
 class Edited:
-    texts: dict  # the files that the edit changes, by their paths in the crate's folder, with their new texts
-    parts: list  # the functions that it turns, as the checker names them; the module if it turns something else
+    texts: dict  # the files that edits change, by their paths in the crate's folder, with their new texts
+    parts: list
 
 
 def last_word(path):
@@ -47,23 +56,33 @@ def module_of(file):
     return [] if parts in (("lib",), ("main",)) else list(parts)
 
 
-def method_around(text, head):
-    """The name of the function that begins so, without its module's, and where its last line ends; or None if that can't be told."""
+def function_from(file, text, head):
+    """The name of the function that begins so, and where its body begins and ends; or None if that can't be told."""
     indent, name = head[1] or "", head[2]
-    closes = re.compile(rf"^{indent}\}}$", re.M).search(text, head.end())
+    opens = re.compile(rf"^{indent}(?! ).*\{{$", re.M).search(text, head.start())
+    closes = opens and re.compile(rf"^{indent}\}}$", re.M).search(text, opens.end())
     owner = owner_of(text, head.start()) if indent else ""
     if owner is None or not closes:
         return None
-    return "::".join([*([owner] if owner else []), name]), closes.end()
+    return "::".join([*module_of(file), *([owner] if owner else []), name]), opens.end(), closes.end()
+
+
+def lines_of(part, text):
+    """The first and the last line of a function in its file's text."""
+    for head in FUNCTION.finditer(text):
+        found = function_from(part.file, text, head)
+        if found and found[0] == part.name:
+            return text.count("\n", 0, head.start()) + 1, text.count("\n", 0, found[2]) + 1
+    return 0, 0
 
 
 def part_around(file, text, start, end):
     """The function that this part of a file stands in, else the module."""
-    heads = [*FUNCTION.finditer(text, 0, end)]
-    found = method_around(text, heads[-1]) if heads and heads[-1].start() <= start else None
-    if found and end <= found[1]:
-        return "::".join([*module_of(file), found[0]])
-    return "::".join(module_of(file))
+    heads = [it for it in FUNCTION.finditer(text, 0, end) if it.start() <= start]
+    found = function_from(file, text, heads[-1]) if heads else None
+    if found and end <= found[2]:
+        return Part(found[0], file, start >= found[1])
+    return Part("::".join(module_of(file)), file, False)
 
 
 def replace_once(file, text, old, new):
@@ -84,9 +103,10 @@ def read_file(folder, file):
         raise Unfit(f"{file} can't be read") from None
 
 
-def apply_edit(edit, folder):
-    """What a crate's folder becomes by the text of an edit: lines `file:`, and then pairs of lines `old:` and `new:`."""
-    texts, parts, file, old = {}, [], None, None
+def apply_edit(edit, folder, before=None):
+    """What a crate's folder, or what earlier edits made of it, becomes by the text of an edit: lines `file:`, and then pairs of lines
+    `old:` and `new:`. The parts are those of this edit alone."""
+    texts, parts, file, old = dict(before or {}), set(), None, None
     for line in edit.split("\n"):
         word, _, rest = line.partition(":")
         rest = rest.removeprefix(" ")
@@ -98,8 +118,8 @@ def apply_edit(edit, folder):
             if not file or not old:
                 raise Unfit("a 'new:' line has no 'file:' and 'old:' lines before it")
             texts[file], part = replace_once(file, texts.get(file) or read_file(folder, file), old, rest)
-            parts.append(part)
+            parts.add(part)
             old = None
-    if not texts:
+    if not parts:
         raise Unfit("it has no 'old:' and 'new:' pair")
-    return Edited(texts, sorted({*parts}))
+    return Edited(texts, sorted(parts, key=lambda it: it.name))
