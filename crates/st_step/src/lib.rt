@@ -16,5 +16,5 @@ mod stepping;
 
 pub use calling::try_primitive;
 pub use laws::execution_tries_by_number;
-pub use rows::{bytecode, step_row};
-pub use stepping::{deed_in, outcome, plan, step};
+pub use rows::bytecode;
+pub use stepping::{outcome, plan, step};
