@@ -40,7 +40,8 @@ fn do_calmly<M: Memory>(
     ensures same_memory { roomy.new.near.memory.ghost_name ≡ roomy.old.near.memory.ghost_name }
 {
     let code = fetch(roomy, f, r)?;
-    let (ip, sp) = (r.ip, r.sp);
+    let ip = r.ip;
+    let sp = r.sp;
     if bytecode_at_once(&mut roomy.near, f, r, code)? {
         return Ok(finish_calmly(&mut roomy.near, r.world));
     }

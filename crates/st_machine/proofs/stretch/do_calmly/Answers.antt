@@ -1,6 +1,8 @@
-use Rattle.std.proofs.Common.{rules, ◌≡◌, false, true, Ok, Err, Some, None, refl, sym, subst, ap, ◌∙◌}
+use Rattle.std.proofs.Common.{rules, arith, w32, to_z, of_z, ◌≡◌, false, true, Ok, Err, Some, None, refl, sym, subst, ap, ◌∙◌}
 use Rattle.std.specs.Prelude.{if◌then◌else◌}
+use Rattle.std.proofs.lemmas.Int.{to_z-of_z}
 use Rattle.st_model.specs.Outcomes as outcome
+use Rattle.st_model.specs.Bytecodes.{bytecode, step}
 use Rattle.st_model.specs.Cycles.{free_space}
 use Rattle.st_model.specs.Machine.{Went}
 use Rattle.st_model.specs.Table.{table, bounded_table}
@@ -69,9 +71,14 @@ unfolding row_state
 returns-then-branch-clause-same g c = λ e.
     let row = c.in_ok-bytecode_at_once.ensures in
     let fetched = c.in_ok-code.ensures in
+    let v = g.M.Memory.view c.args.roomy.now.near.memory.now in
+    let u = g.M.Memory.view c.bytecode_at_once.new.m.memory.now in
     let f = c.args.f.now in
+    let start = c.fetch.new.r in
+    let code = c.in_ok-code.code in
     let r = c.bytecode_at_once.new.r in
-    let names = names_then (registers_of f) (registers_in c.fetch.new.r) (registers_in r) fetched.names (names_left _ _ _ _ (row_stays _ c.in_ok-code.code) row.does.does) in
+    let names = names_then (registers_of f) (registers_in start) (registers_in r) fetched.names
+    (names_left (bytecode_at_once bounded_table code) (row_state v.objects v.head start) (row_state u.objects u.head r) _ (row_stays _ code) row.does.does) in
     sym (kept_same f r names) ∙ ap registers_of (sym (subst (λ y. c.bytecode_at_once.new.f ≡ kept (Ok y) f r) c.if-branch.true row.frame))
 
 pub returns-then-branch-clause-same_memory : goal.returns-then-branch-clause-same_memory
@@ -87,15 +94,24 @@ unfolding row_state
 do_straight-requires-clause-fetched g c =
     let row = c.in_ok-bytecode_at_once.ensures in
     let fetched = c.in_ok-code.ensures in
+    let v = g.M.Memory.view c.args.roomy.now.near.memory.now in
+    let u = g.M.Memory.view c.bytecode_at_once.new.m.memory.now in
     let f = c.args.f.now in
     let q = c.bytecode_at_once.new.f in
     let start = c.fetch.new.r in
     let r = c.bytecode_at_once.new.r in
     let code = c.in_ok-code.code in
-    let names = names_left _ _ _ _ (row_stays _ code) row.does.does in
+    let names = names_left (bytecode_at_once bounded_table code) (row_state v.objects v.head start) (row_state u.objects u.head r) _ (row_stays _ code) row.does.does in
     let still = row.still c.if-branch.false in
-    still_fetched (g.M.Memory.view c.args.roomy.now.near.memory.now) (g.M.Memory.view c.bytecode_at_once.new.m.memory.now) f q c.args.r.now.world.now r.world.now code start _ still.0 still.1
-    (subst (λ y. q ≡ kept (Ok y) f r) c.if-branch.false row.frame) (row.does.world ∙ fetched.world) (put_back (registers_in start) (registers_in r) names) row.does.world fetched.fetched
+    let again = record r { ip = start.ip; sp = start.sp; ip_low = start.ip_low; ip_high = start.ip_high; sp_low = start.sp_low; sp_high = start.sp_high } in
+    let low = start.ip_low in
+    let high = start.ip_high in
+    let read : to_z w32 (of_z w32 start.ip) ≡ start.ip = grind (arith, to_z-of_z, low, high) in
+    subst
+    (λ z. (step table).run (shown u q r.world.now)
+    ≡ (bytecode table code).run (record { memory = u.objects; registers = record (registers_in r) { ip = z; sp = start.sp }; world = r.world.now; head = u.head })) (sym read)
+    (still_fetched v u f q c.args.r.now.world.now r.world.now code start again still.0 still.1 (subst (λ y. q ≡ kept (Ok y) f r) c.if-branch.false row.frame) (row.does.world ∙ fetched.world)
+    (put_back (registers_in start) (registers_in r) names) row.does.world fetched.fetched)
 
 pub returns-clause-same_memory : goal.returns-clause-same_memory
 returns-clause-same_memory g c =
