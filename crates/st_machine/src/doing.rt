@@ -86,7 +86,7 @@ pub fn fetch<M: Memory>(roomy: &Roomy<M>, f: &Frame, r: &mut Registers) -> Resul
 
 /// Does the row of the next bytecode, which was fetched and decoded, over what is near at hand, if there is room for whatever it takes;
 /// and then what comes after it. No plan is made. While it goes on, the registers are those of the frame.
-#[inline(never)]
+#[inline(always)]
 pub fn do_straight<M: Memory>(
     roomy: &mut Roomy<M>,
     f: &mut Frame,
