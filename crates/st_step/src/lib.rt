@@ -14,5 +14,5 @@ mod send;
 mod stepping;
 
 pub use calling::try_primitive;
-pub use rows::{bytecode, step_row};
+pub use rows::bytecode;
 pub use stepping::{outcome, plan, step};
