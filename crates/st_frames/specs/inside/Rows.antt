@@ -52,6 +52,7 @@ with_left g (Ok b) s = with_deed (g b) s
 with_left g (Err cause) s = s
 
 -- The call is this step but for a deed, which it leaves to be done; and it leaves the world that the registers have beside them.
+-- For example `aString at: 1 put: $x`: the call pops receiver and arguments and pushes $x. The deed stores 120 as byte 0 of the string.
 pub record RowLeaves {M A B : Type 0} (o : Ghosts M) (step : Step Table A) (f : B → A) (g : B → Deed) (m : M) (r : Words)
     (result : Result B Dead) (n : M) (q : Words) : Type 0 where
   pub does : Does step f (state_of o m r) result (with_left g result (state_of o n q))
@@ -92,7 +93,8 @@ deed_in q end = deed_of_end (end_in q end)
 abbrev pub RowEnds : {M : Type 0} → Ghosts M → Step Table Outcome → M → Words → Result RowEnd Dead → M → Words → Type 0
 RowEnds o step m r result n q = RowLeaves o step (outcome_in q) (deed_in q) m r result n q
 
--- the call takes at most so many changes, and leaves what is fixed
+-- The call takes at most so many changes, and leaves what is fixed. For example a push stores one field of the active context, so it
+-- takes 1.
 pub record Takes {M : Type 0} (o : Ghosts M) (most : ℕ) (old new : M) : Type 0 where
   pub room : o.room old ≤ o.room new + most
   pub fixed : o.fixed new ≡ o.fixed old
