@@ -1,6 +1,7 @@
 """What tools share that prove or compile crates: which these are, and `rt ci` over a copy of them."""
 
 import contextlib
+import functools
 import os
 import pathlib
 import re
@@ -18,6 +19,23 @@ PAUSE = 1  # seconds between two looks at what the prover printed
 
 class Failed(Exception):
     """What was asked for can't be done: why."""
+
+
+class OtherToolchain(Failed):
+    """There is no toolchain, or it isn't as this tool expects: why."""
+
+
+@functools.cache
+def kit_folder(program):
+    """The folder of the toolchain, which has this program."""
+    try:
+        told = subprocess.run(["rt", "doc"], stdin=subprocess.DEVNULL, stdout=subprocess.PIPE, text=True, check=True)
+    except (OSError, subprocess.CalledProcessError):
+        raise OtherToolchain("rt, the command of the Rattle toolchain, isn't in the path") from None
+    folder = pathlib.Path(told.stdout.strip()).parent
+    if not (folder / "bin" / program).is_file():
+        raise OtherToolchain(f"it has no {program}")
+    return folder
 
 
 def uses_of_crates():
@@ -40,6 +58,15 @@ def crates_for(names, uses):
     return list(found)
 
 
+def library_words(crates, uses, top):
+    """The words that name the source of each of these crates below a folder, and what each uses."""
+    words = []
+    for name in crates:
+        used = dict.fromkeys(["core", "std", *sorted(uses[name], key=lambda it: it in uses)])
+        words += ["--lib", f"{name}:{','.join(used)}={top}/crates/{name}/src/lib.rt"]
+    return words
+
+
 def copy_sources(names, to):
     """Copies what a proof of these crates reads: the gate's edits, further wrong bodies and what earlier runs made stay out."""
     wanted = crates_for(names, uses_of_crates())
@@ -58,7 +85,7 @@ def gate_over(sources, place, log):
             gate = subprocess.Popen(["rt", "ci"], cwd=sources, env={**os.environ, "TMPDIR": str(place)},
                                     stdin=subprocess.DEVNULL, stdout=output, stderr=subprocess.STDOUT, start_new_session=True)
         except FileNotFoundError:
-            raise Failed("rt, the command of the Rattle toolchain, isn't in the path") from None
+            raise OtherToolchain("rt, the command of the Rattle toolchain, isn't in the path") from None
     try:
         yield gate
     finally:
