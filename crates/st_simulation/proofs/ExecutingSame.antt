@@ -2,9 +2,10 @@
 use Rattle.std.proofs.Common.{◌≡◌, ℕ, Bool, Option, Some, None, refl, ap}
 use Rattle.std.specs.Prelude.{◌==◌}
 use Rattle.st_model.specs.Values.{Value, renamed}
-use Rattle.st_model.specs.Machine.{ObjectMemory, Step, answer}
+use Rattle.st_model.specs.Machine.{ObjectMemory, Step, answer, ◌>>◌}
 use Rattle.st_model.specs.Outcomes.{Outcome, renamed_outcome, IsLiveOutcome}
 use Rattle.st_model.specs.Outcomes as outcome
+use Rattle.st_model.specs.Steps.{look_at_words}
 use Rattle.st_model.specs.Sends.{Call}
 use Rattle.st_model.specs.Methods.{flag_of}
 use Rattle.st_model.specs.Executing.{goes_on, if_done, succeeds, says, asks, respond_last, respond_on_objects, respond_always, respond, answer_field, by_flag, or_activate, respond_by_extension, execute_by, takes, execute_found, drop_selector, spread_array, perform_found, perform, primitive_perform, spreading, perform_fields, primitive_perform_with, respond_or_perform, execute, executed, execute_if_any, executed_if_any}
@@ -178,6 +179,10 @@ module _ {H K : Type 0} {M : ObjectMemory H} {N : ObjectMemory K} (sim : Simulat
   respond_or_perform-same : (k n : ℕ) → SameAnyEnd sim (respond_or_perform M k n) (respond_or_perform N k n)
   unfolding respond_or_perform
   respond_or_perform-same k n = search (steps_same, primitive_perform-same, primitive_perform_with-same, respond-same) depth 16 fits 4000
+
+  pub tried-same : (k n : ℕ) → SameAnyEnd sim (look_at_words M n >> respond_or_perform M k n) (look_at_words N n >> respond_or_perform N k n)
+  unfolding look_at_words
+  tried-same k n = search (parts_same, respond_or_perform-same) depth 16 fits 4000
 
   execute-same : (c d : Call) → CallSame sim c d → SameEnd sim (execute M c) (execute N d)
   unfolding execute
