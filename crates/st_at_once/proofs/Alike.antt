@@ -18,7 +18,7 @@ use Rattle.st_model.specs.declared.bytecode.Bytecode.TheVariants as code
 use Rattle.st_model.specs.Table.{Table, table, IsTabular}
 use Rattle.st_model.proofs.Tabular.{of_page-as, class_of-as, fetch_field-as, store_field-as, count_fields-as, literal-as, byte_at-as}
 use Rattle.st_control.specs.inside.AtOnce.{jump_at_once}
-use Rattle.st_at_once.specs.inside.AtOnce.{argument_answer, replace_pair, answered_at_once, arithmetic_at_once_by, arithmetic_at_once, primitive_at_once, long_jump_at_once, bytecode_at_once, step_at_once}
+use Rattle.st_at_once.specs.inside.AtOnce.{argument_answer, replace_pair, answered_at_once, arithmetic_at_once_by, arithmetic_at_once, primitive_at_once, long_jump_at_once, bytecode_at_once}
 
 module _ {m : ObjectMemory Table} (h : IsTabular m) where
   page-is : of_page m ≡ of_page table
@@ -167,27 +167,23 @@ module _ {m : ObjectMemory Table} (h : IsTabular m) where
   unfolding jump_at_once
   jump_on-is = fun_ext (λ wanted. fun_ext (λ other. fun_ext (λ d. rw (pop-is, page-is) refl)))
 
-  bytecode-as : (b : Bytecode) → bytecode_at_once m b ≡ bytecode_at_once table b
+  pub bytecode-is : (b : Bytecode) → bytecode_at_once m b ≡ bytecode_at_once table b
   unfolding bytecode_at_once push_receiver push_constant extended_push extended_store extended_store_and_pop pop_stack duplicate_top push_active_context long_unconditional_jump arithmetic_at_once long_jump_at_once
-  bytecode-as (code.Push operand) = rw push_operand-is refl
-  bytecode-as (code.StoreAndPop operand) = rw store_and_pop-is refl
-  bytecode-as code.PushReceiver = rw push-is refl
-  bytecode-as (code.PushConstant c) = rw (constant_value-as c, push-is) refl
-  bytecode-as code.ExtendedPush = rw (next_byte-is, push_operand-is) refl
-  bytecode-as code.ExtendedStore = rw (next_byte-is, top-is, store_operand-is) refl
-  bytecode-as code.ExtendedStoreAndPop = rw (next_byte-is, store_and_pop-is) refl
-  bytecode-as code.PopStack = rw pop-is refl
-  bytecode-as code.DuplicateTop = rw (top-is, push-is) refl
-  bytecode-as code.PushActiveContext = rw push-is refl
-  bytecode-as (code.ShortUnconditionalJump i) = refl
-  bytecode-as (code.ShortJumpOnFalse i) = rw jump_on-is refl
-  bytecode-as (code.LongUnconditionalJump i) = rw next_byte-is refl
-  bytecode-as (code.LongJumpOnTrue i) = rw (next_byte-is, jump_on-is) refl
-  bytecode-as (code.LongJumpOnFalse i) = rw (next_byte-is, jump_on-is) refl
-  bytecode-as (code.ArithmeticSend k) = rw (under-is, arithmetic_by-is) refl
-  bytecode-as (code.PrimitiveSend k) = primitive-as k
-  bytecode-as b = refl
-
-  pub step-is : step_at_once m ≡ step_at_once table
-  unfolding step_at_once
-  step-is = rw (next_byte-is, fun_ext bytecode-as) refl
+  bytecode-is (code.Push operand) = rw push_operand-is refl
+  bytecode-is (code.StoreAndPop operand) = rw store_and_pop-is refl
+  bytecode-is code.PushReceiver = rw push-is refl
+  bytecode-is (code.PushConstant c) = rw (constant_value-as c, push-is) refl
+  bytecode-is code.ExtendedPush = rw (next_byte-is, push_operand-is) refl
+  bytecode-is code.ExtendedStore = rw (next_byte-is, top-is, store_operand-is) refl
+  bytecode-is code.ExtendedStoreAndPop = rw (next_byte-is, store_and_pop-is) refl
+  bytecode-is code.PopStack = rw pop-is refl
+  bytecode-is code.DuplicateTop = rw (top-is, push-is) refl
+  bytecode-is code.PushActiveContext = rw push-is refl
+  bytecode-is (code.ShortUnconditionalJump i) = refl
+  bytecode-is (code.ShortJumpOnFalse i) = rw jump_on-is refl
+  bytecode-is (code.LongUnconditionalJump i) = rw next_byte-is refl
+  bytecode-is (code.LongJumpOnTrue i) = rw (next_byte-is, jump_on-is) refl
+  bytecode-is (code.LongJumpOnFalse i) = rw (next_byte-is, jump_on-is) refl
+  bytecode-is (code.ArithmeticSend k) = rw (under-is, arithmetic_by-is) refl
+  bytecode-is (code.PrimitiveSend k) = primitive-as k
+  bytecode-is b = refl

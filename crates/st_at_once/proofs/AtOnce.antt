@@ -21,12 +21,12 @@ use Rattle.st_model.specs.Returns.{calls_nothing, jump_on}
 use Rattle.st_model.specs.Primitives.{succeed, primitive}
 use Rattle.st_model.specs.Arithmetic.{arithmetic, arithmetic_number, integer_answer, value_of_answer, integer_under}
 use Rattle.st_model.specs.Executing.{goes_on, execute_if_any, executed_if_any}
-use Rattle.st_model.specs.Bytecodes.{or_send, arithmetic_by, arithmetic_send, primitive_send, short_jump_on_false, long_jump_on_true, long_jump_on_false, bytecode, step}
+use Rattle.st_model.specs.Bytecodes.{or_send, arithmetic_by, arithmetic_send, primitive_send, short_jump_on_false, long_jump_on_true, long_jump_on_false, bytecode}
 use Rattle.st_model.specs.Table.{Table}
 use Rattle.st_model.proofs.Runs.{run-tried_went, run-tried_died}
 use Rattle.st_control.specs.inside.AtOnce.{at_once, jump_at_once}
 use Rattle.st_frames.proofs.Doing.{rows}
-use Rattle.st_at_once.specs.inside.AtOnce.{argument_answer, answered_at_once, arithmetic_at_once_by, arithmetic_at_once, primitive_at_once, long_jump_at_once, bytecode_at_once, step_at_once}
+use Rattle.st_at_once.specs.inside.AtOnce.{argument_answer, answered_at_once, arithmetic_at_once_by, arithmetic_at_once, primitive_at_once, long_jump_at_once, bytecode_at_once}
 use Rattle.st_control.proofs.Tries.{some_answer, no_answer, passed}
 use Rattle.st_at_once.proofs.Pairs.{reads, word_under, under-reads, number-same, truth-same}
 
@@ -216,7 +216,7 @@ module _ (m : ObjectMemory Table) where
   unfolding long_jump_at_once
   long_jump-as wanted other i = then-as _ _ _ _ (λ b. jump_on-as wanted other (pos (i * 256 + b)))
 
-  bytecode-as : (b : Bytecode) → IsAs outcome.Went (bytecode_at_once m b) (bytecode m b)
+  pub bytecode-as : (b : Bytecode) → IsAs outcome.Went (bytecode_at_once m b) (bytecode m b)
   unfolding bytecode_at_once bytecode short_jump_on_false long_jump_on_true long_jump_on_false
   bytecode-as (code.Push operand) = goes_on-as _
   bytecode-as (code.StoreAndPop operand) = goes_on-as _
@@ -236,7 +236,3 @@ module _ (m : ObjectMemory Table) where
   bytecode-as (code.ArithmeticSend k) = arithmetic-as k
   bytecode-as (code.PrimitiveSend k) = primitive-as k
   bytecode-as b = not-as _ _
-
-  pub step-as : IsAs outcome.Went (step_at_once m) (step m)
-  unfolding step_at_once step
-  step-as = then-as _ _ _ _ (λ b. bytecode-as _)

@@ -25,5 +25,5 @@ kept_frame v f r h = record {
 }
 
 -- the registers of a row that wasn't done, once instruction and stack pointer are put back
-pub put_back : (f : Frame) (r : Registers) → NamesSame (registers_of f) r → record r { ip = f.ip; sp = f.sp } ≡ registers_of f
-put_back f r n = λ i. record { active = n.active i; home = n.home i; method = n.method i; receiver = n.receiver i; ip = f.ip; sp = f.sp }
+pub put_back : (q r : Registers) → NamesSame q r → record r { ip = q.ip; sp = q.sp } ≡ q
+put_back q r n = λ i. record { active = n.active i; home = n.home i; method = n.method i; receiver = n.receiver i; ip = q.ip; sp = q.sp }

@@ -1,11 +1,12 @@
--- A bytecode that was done at once from the registers of a frame, over a memory.
+-- A bytecode that was fetched and done at once, over a memory.
 use Rattle.std.proofs.Common.{◌≡◌, Bool, true, Ok, refl, sym, ap, ◌∙◌, subst}
 use Rattle.st_model.specs.declared.dead.Dead.{Dead}
 use Rattle.st_model.specs.Outcomes as outcome
 use Rattle.st_model.specs.Machine.{World, State, Transition, Died, Went, Step}
 use Rattle.st_model.specs.Table.{Table, table, apart, bounded_table}
 use Rattle.st_memory.specs.inside.Tabular.{bounded_tabular}
-use Rattle.st_model.specs.Bytecodes.{step}
+use Rattle.st_model.specs.declared.bytecode.Bytecode.{Bytecode}
+use Rattle.st_model.specs.Bytecodes.{bytecode, step}
 use Rattle.st_model.specs.View.{View, Held, IsWhole}
 use Rattle.st_frames.specs.declared.frame.Frame.{Frame}
 use Rattle.st_frames.specs.declared.registers.Registers.{Registers as Words}
@@ -15,10 +16,10 @@ use Rattle.st_frames.proofs.Stored.{loaded}
 use Rattle.st_control.specs.inside.Foreseen.{IsForeseen}
 use Rattle.st_control.proofs.Framed.{frame_held}
 use Rattle.st_control.proofs.Suffices.{dies, foreseen, bounded}
-use Rattle.st_at_once.specs.inside.AtOnce.{NamesSame, kept, step_at_once}
+use Rattle.st_at_once.specs.inside.AtOnce.{NamesSame, kept, bytecode_at_once, IsFetched}
 use Rattle.st_at_once.proofs.Kept.{kept_same, kept_frame}
-use Rattle.st_at_once.proofs.AtOnce.{As, step-as}
-use Rattle.st_at_once.proofs.Alike.{step-is}
+use Rattle.st_at_once.proofs.AtOnce.{As, bytecode-as}
+use Rattle.st_at_once.proofs.Alike.{bytecode-is}
 
 -- the registers are held again, and so is what the world names
 pub quick_ready : (u v : View) (f g : Frame) (w : World) → IsReady u f w → StaysFrame u v g → IsReady v g w
@@ -26,12 +27,17 @@ quick_ready u v f g w ready stays = record { frame = stays.frame; devices = stay
 
 -- if it wasn't done, nothing was changed
 
-pub still_shown : (v u : View) (f g : Frame) (w : World) → u.objects ≡ v.objects → u.head ≡ v.head → g ≡ f → shown u g w ≡ shown v f w
-still_shown v u f g w objects head frame = λ i. record { memory = objects i; registers = registers_of (frame i); world = w; head = head i }
-
 pub still_ready : (v u : View) (f g : Frame) (w : World) → u.held ≡ v.held → g ≡ f → IsReady v f w → IsReady u g w
 still_ready v u f g w held frame ready =
     subst (λ x. IsReady u x w) (sym frame) (record { frame = frame_held v u f held ready.frame; devices = ap (λ (x : Held). x.devices) held ∙ ready.devices })
+
+-- and its row still begins with the registers, once they are put back
+pub still_fetched : (v u : View) (f g : Frame) (w x : World) (code : Bytecode) (start r : Words) → u.objects ≡ v.objects → u.head ≡ v.head → g ≡ f → x ≡ w → registers_in r ≡ registers_in start
+    → r.world.now ≡ start.world.now → IsFetched v f w code start → IsFetched u g x code r
+unfolding row_state
+still_fetched v u f g w x code start r objects head frame round same world fetched =
+    ap (λ (s : State Table). (step table).run s) (λ i. record { memory = objects i; registers = registers_of (frame i); world = round i; head = head i })
+    ∙ (fetched ∙ ap (λ (s : State Table). (bytecode table code).run s) (λ i. record { memory = sym objects i; registers = sym same i; world = sym world i; head = sym head i }))
 
 -- if it was done, the bytecode would have been foreseen, and goes on; and the frame has the registers
 pub record Done (c : State Table) (u : View) (g : Frame) (w : World) (r : Words) : Type 0 where
@@ -39,28 +45,27 @@ pub record Done (c : State Table) (u : View) (g : Frame) (w : World) (r : Words)
   pub ready : IsReady u g w
   pub same : registers_in r ≡ registers_of g
 
-module _ (v : View) (f : Frame) (w : World) (whole : IsWhole v) (ready : IsReady v f w) (start : Words) (same : registers_in start ≡ registers_of f) (before : start.world.now ≡ w) where
-  over_table : (o : Transition (State Table) Bool) → (step_at_once bounded_table).run (row_state v.objects v.head start) ≡ o → As outcome.Went o ((step table).run (shown v f w))
+module _ (v : View) (f : Frame) (w : World) (whole : IsWhole v) (ready : IsReady v f w) (code : Bytecode) (start : Words) (fetched : IsFetched v f w code start) where
+  over_table : (o : Transition (State Table) Bool) → (bytecode_at_once bounded_table code).run (row_state v.objects v.head start) ≡ o → As outcome.Went o ((step table).run (shown v f w))
   over_table o e =
-      let does : (step_at_once table).run (shown v f w) ≡ o =
-      ap (λ (m : Step Table Bool). m.run (shown v f w)) (sym (step-is bounded_tabular)) ∙ (ap (λ (s : State Table). (step_at_once bounded_table).run s) (sym (loaded v f w start same before)) ∙ e) in
-      subst (λ x. As outcome.Went x ((step table).run (shown v f w))) does (step-as table (shown v f w))
+      let s = row_state v.objects v.head start in
+      let does : (bytecode_at_once table code).run s ≡ o = ap (λ (m : Step Table Bool). m.run s) (sym (bytecode-is bounded_tabular code)) ∙ e in
+      subst (λ x. As outcome.Went o x) (sym fetched) (subst (λ x. As outcome.Went x ((bytecode table code).run s)) does (bytecode-as table code s))
 
-  pub at_once_dies : (cause : Dead) → (step_at_once bounded_table).run (row_state v.objects v.head start) ≡ Died cause → (step apart).run (shown v f w) ≡ Died cause
+  pub at_once_dies : (cause : Dead) → (bytecode_at_once bounded_table code).run (row_state v.objects v.head start) ≡ Died cause → (step apart).run (shown v f w) ≡ Died cause
   at_once_dies cause e = dies v f w whole ready cause (over_table (Died cause) e)
 
-  pub at_once_done : (u : View) (r : Words) (g : Frame) → (step_at_once bounded_table).run (row_state v.objects v.head start) ≡ Went true (row_state u.objects u.head r)
-      → IsWhole u → u.head ≡ v.head → u.held ≡ v.held → r.world.now ≡ start.world.now → g ≡ kept (Ok true) f r → NamesSame (registers_in start) (registers_in r) → Done (shown v f w) u g w r
+  pub at_once_done : (u : View) (r : Words) (g : Frame) → (bytecode_at_once bounded_table code).run (row_state v.objects v.head start) ≡ Went true (row_state u.objects u.head r)
+      → IsWhole u → u.head ≡ v.head → u.held ≡ v.held → r.world.now ≡ w → g ≡ kept (Ok true) f r → NamesSame (registers_of f) (registers_in r) → Done (shown v f w) u g w r
   unfolding row_state
   at_once_done u r g e whole_then head held world frame names =
       let d : State Table = row_state u.objects u.head r in
       let goes = over_table (Went true d) e in
-      let named : NamesSame (registers_of f) (registers_in r) = subst (λ q. NamesSame q (registers_in r)) same names in
-      let holds : registers_in r ≡ registers_of g = sym (kept_same f r named) ∙ ap registers_of (sym frame) in
+      let holds : registers_in r ≡ registers_of g = sym (kept_same f r names) ∙ ap registers_of (sym frame) in
       record {
         goes = (
           foreseen v f w whole ready outcome.Went d u goes whole_then refl head,
-          bounded v f w whole ready outcome.Went d u goes whole_then refl head ∙ ap (λ s. Went outcome.Went s) (loaded u g w r holds (world ∙ before)),
+          bounded v f w whole ready outcome.Went d u goes whole_then refl head ∙ ap (λ s. Went outcome.Went s) (loaded u g w r holds world),
         );
         ready = subst (λ y. IsReady u y w) (sym frame)
             (record { frame = kept_frame u f r (frame_held v u f held ready.frame); devices = ap (λ (x : Held). x.devices) held ∙ ready.devices });

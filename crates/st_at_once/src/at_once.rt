@@ -1,9 +1,9 @@
-ghost use Rattle.std.specs.Prelude.{◌≡◌, ◌<◌, ◌≤◌, ◌+◌, pos, IfOk};
+ghost use Rattle.std.specs.Prelude.{◌≡◌, ◌<◌, ◌≤◌, ◌+◌, pos};
 ghost use Rattle.st_model.specs.{inside.Calls.itself, Decoded.IsNumbered};
 ghost use Rattle.st_model.specs.declared.page.PageObject.TheVariants.{FalseObject, TrueObject};
 ghost use Rattle.st_control.specs.inside.AtOnce.{IsStill, jump_at_once};
-ghost use Rattle.st_at_once.specs.inside.AtOnce.{NamesSame, long_jump_at_once, bytecode_at_once, step_at_once, kept};
-ghost use Rattle.st_frames.specs.inside.Rows.{RowMoves, RowDoes, Takes, registers_in};
+ghost use Rattle.st_at_once.specs.inside.AtOnce.{long_jump_at_once, bytecode_at_once, kept};
+ghost use Rattle.st_frames.specs.inside.Rows.{RowMoves, RowDoes, Takes};
 
 use crate::arithmetic::arithmetic_at_once;
 use crate::holding::keep;
@@ -14,7 +14,7 @@ use st_control::{
 };
 use st_frames::{Frame, Registers, next_byte};
 use st_memory::Objects;
-use st_model::{Bytecode, Dead, PageObject, decode};
+use st_model::{Bytecode, Dead, PageObject};
 
 /// Pops, and jumps on false by i plus 1. Answers whether the word is a boolean.
 #[tactic(auto, using(st_frames::proofs::Doing::rows))]
@@ -71,11 +71,11 @@ fn jump_on_true_at_once<O: Objects>(m: &O, r: &mut Registers, i: u8) -> Result<b
     )
 }
 
-/// Does the row of a bytecode if that is done at once, and answers whether it is. If so, the frame keeps the instruction and the
-/// stack pointer.
+/// Does the row of a bytecode that was fetched and decoded, if that is done at once, and answers whether it is. If so, the frame keeps
+/// the instruction and the stack pointer; if not, nothing is changed but these two in the registers.
 #[inline(always)]
 #[tactic(auto, using(st_frames::proofs::Doing::rows), unfolding(crate::specs::inside::AtOnce::bytecode_at_once, crate::specs::inside::AtOnce::primitive_at_once, st_control::specs::inside::AtOnce::at_once))]
-fn bytecode_at_once<O: Objects>(
+pub fn bytecode_at_once<O: Objects>(
     m: &mut O,
     f: &mut Frame,
     r: &mut Registers,
@@ -128,20 +128,4 @@ fn bytecode_at_once<O: Objects>(
     }
     keep(f, r);
     Ok(true)
-}
-
-/// Does the next bytecode if that is done at once, and answers whether it is. If so, the frame keeps the instruction and the stack
-/// pointer; if not, nothing is changed but these two in the registers.
-#[inline(always)]
-#[tactic(auto, using(st_frames::proofs::Doing::rows), unfolding(crate::specs::inside::AtOnce::step_at_once))]
-pub fn row_at_once<O: Objects>(m: &mut O, f: &mut Frame, r: &mut Registers) -> Result<bool, Dead>
-    requires room { 1 ≤ O.room m.old }
-    ensures does { RowDoes O.Objects.own (step_at_once O.names) itself m.old r.old result m.new r.new }
-    ensures frame { f.new ≡ kept result f.old r.new }
-    ensures names { IfOk result (λ done. NamesSame (registers_in r.old) (registers_in r.new)) }
-    ensures takes { Takes O.Objects.own 1 m.old m.new }
-    ensures still { IsStill O.Objects.own m.old result m.new }
-{
-    let byte = next_byte(m, r)?;
-    bytecode_at_once(m, f, r, decode(byte))
 }

@@ -12,5 +12,5 @@ mod near;
 mod objects;
 mod passing;
 
-pub use at_once::row_at_once;
+pub use at_once::bytecode_at_once;
 pub use near::Near;

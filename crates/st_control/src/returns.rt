@@ -27,6 +27,7 @@ fn cannot_return<O: Objects>(m: &mut O, r: &mut Registers, answer: Word) -> Resu
 }
 
 /// Leaves the active context for good, and pushes the answer in another.
+#[inline(always)]
 #[tactic(auto, using(st_frames::proofs::Doing::rows), unfolding(st_model::specs::Returns::return_into))]
 fn return_into<O: Objects>(
     m: &mut O,

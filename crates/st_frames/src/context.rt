@@ -50,6 +50,7 @@ fn set_registers<O: Objects>(_m: &O, r: &mut Registers, new: &Fetched)
 }
 
 /// Fetches the registers from a context, which becomes the active one.
+#[inline(always)]
 #[tactic(auto, using(crate::proofs::Doing::rows), unfolding(st_model::specs::Contexts::fetch_context_registers))]
 pub fn fetch_context_registers<O: Objects>(
     m: &O,

@@ -60,6 +60,7 @@ fn hold_frame<M: Memory>(m: &mut M, f: &Frame)
 }
 
 /// The registers that a row leaves, all of which are there; they are held at their places.
+#[inline(always)]
 #[tactic(auto, using(crate::proofs::Homes::placed))]
 pub fn hold<M: Memory>(m: &mut M, r: &Registers) -> Frame
     requires { are_there table (M.view m.old).objects (registers_in r.now) ≡ true }

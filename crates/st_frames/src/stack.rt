@@ -91,6 +91,7 @@ pub fn under<O: Objects>(m: &O, r: &Registers, k: u32) -> Result<Word, Dead>
 }
 
 /// Looks at the top word and the n words below it.
+#[inline(always)]
 #[tactic(auto, using(crate::proofs::Doing::rows), unfolding(st_model::specs::Steps::look_at_words))]
 pub fn look_at_words<O: Objects>(m: &O, r: &Registers, n: u32) -> Result<(), Dead>
     requires few { n < 32768 }

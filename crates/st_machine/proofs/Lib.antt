@@ -1,5 +1,6 @@
 mod Endings
 mod Rooms
+mod Fetching
 mod RowDone
 mod Foreseeing
 mod Calm

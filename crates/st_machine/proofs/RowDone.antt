@@ -8,7 +8,8 @@ use Rattle.st_model.specs.Deeds.{with_deed}
 use Rattle.st_model.specs.Machine.{World, State, Died, Went, used}
 use Rattle.st_model.specs.Steps.{are_there}
 use Rattle.st_model.specs.Table.{Table, table, bounded_table}
-use Rattle.st_model.specs.Bytecodes.{step}
+use Rattle.st_model.specs.declared.bytecode.Bytecode.{Bytecode}
+use Rattle.st_model.specs.Bytecodes.{bytecode, step}
 use Rattle.st_model.specs.View.{View, IsWhole}
 use Rattle.st_simulation.proofs.Deeds.{deed_uses}
 use Rattle.st_frames.specs.declared.frame.Frame.{Frame}
@@ -19,8 +20,9 @@ use Rattle.st_frames.specs.inside.Rows.{row_state, registers_in, with_left, outc
 use Rattle.st_frames.specs.inside.Shown.{shown, registers_of, IsReady}
 use Rattle.st_control.specs.inside.Foreseen.{IsForeseen}
 use Rattle.st_control.proofs.Suffices.{dies, foreseen, bounded}
-use Rattle.st_step.proofs.Stepped.{from_row, held_again, there_after}
+use Rattle.st_step.proofs.Stepped.{held_again, there_after}
 use Rattle.st_step.specs.inside.Planned.{HasEnded}
+use Rattle.st_at_once.specs.inside.AtOnce.{IsFetched}
 use Rattle.st_machine.specs.inside.Cycling.{GoesBy, Finishes, foreseen_step}
 use Rattle.st_machine.proofs.Foreseeing.{cycle_done, dies_at_once}
 
@@ -33,18 +35,18 @@ nothing_left r rows.Snapshot other = refl
 nothing_left r rows.Quit other = refl
 nothing_left r rows.Debugger other = refl
 
-module _ (v : View) (f : Frame) (w : World) (whole : IsWhole v) (ready : IsReady v f w) (start : Words) (same : registers_in start ≡ registers_of f) (before : start.world.now ≡ w) where
-  pub row_dies : (cause : Dead) → (step table).run (row_state v.objects v.head start) ≡ Died cause → foreseen_step (shown v f w) ≡ Died cause
-  row_dies cause e = dies_at_once (shown v f w) cause (dies v f w whole ready cause (from_row (step table) v f w start (Died cause) same before e))
+module _ (v : View) (f : Frame) (w : World) (whole : IsWhole v) (ready : IsReady v f w) (code : Bytecode) (start : Words) (fetched : IsFetched v f w code start) (before : start.world.now ≡ w) where
+  pub row_dies : (cause : Dead) → (bytecode table code).run (row_state v.objects v.head start) ≡ Died cause → foreseen_step (shown v f w) ≡ Died cause
+  row_dies cause e = dies_at_once (shown v f w) cause (dies v f w whole ready cause (fetched ∙ e))
 
   module _ (u : View) (r : Words) (end : RowEnd) (kept : IsWhole u) (head : u.head ≡ v.head)
-      (does : (step table).run (row_state v.objects v.head start) ≡ Went (outcome_in r end) (with_left (deed_in r) (Ok end) (row_state u.objects u.head r))) where
+      (does : (bytecode table code).run (row_state v.objects v.head start) ≡ Went (outcome_in r end) (with_left (deed_in r) (Ok end) (row_state u.objects u.head r))) where
     left : State Table
     left = with_deed (deed_in r end) (row_state u.objects u.head r)
 
     from_shown : (step table).run (shown v f w) ≡ Went (outcome_in r end) left
     unfolding left
-    from_shown = from_row (step table) v f w start (Went (outcome_in r end) left) same before does
+    from_shown = fetched ∙ does
 
     -- what it leaves to be done changes nothing of what is used
     uses : used table left.memory ≡ used table u.objects

@@ -3,7 +3,7 @@ ghost use Rattle.st_model.specs.inside.{Foreseen.foreseen_cycle, Calls.transitio
 ghost use Rattle.st_frames.specs.inside.Shown.{IsReady, shown};
 ghost use Rattle.st_machine.specs.inside.{Cycling.{Finishes, Follows, foreseen_step}, Runs.ending_of};
 
-use crate::doing::{StretchEnd, do_straight};
+use crate::doing::{StretchEnd, do_straight, fetch};
 use crate::roomy::Roomy;
 use crate::space::{free_space, warn};
 use crate::switching::check_process_switch;
@@ -91,7 +91,8 @@ pub fn do_next<M: Memory>(m: &mut M, f: &mut Frame, w: &mut World) -> Result<Cyc
     let mut r = load(m, f, w);
     let near = Near::new(m, f);
     let mut roomy = Roomy { near };
-    let end = do_straight(&mut roomy, f, &mut r)?;
+    let code = fetch(&roomy, f, &mut r)?;
+    let end = do_straight(&mut roomy, f, &mut r, code)?;
     let left = r.left;
     match end {
         None => Ok(CycleEnd::With(Outcome::Went)),

@@ -1,20 +1,21 @@
-ghost use Rattle.std.specs.Prelude.{◌≡◌, Ok, Some, None, IfOk, if◌then◌else◌};
-ghost use Rattle.st_model.specs.{Table.table, Machine.used, Cycles.{less, capacity_of}, View.SettlesTo};
-ghost use Rattle.st_model.specs.Outcomes.{outcome_of};
+ghost use Rattle.std.specs.Prelude.{◌≡◌, Ok, Some, None, IfOk, IfErr, if◌then◌else◌};
+ghost use Rattle.st_model.specs.{Table.table, Machine.{Died, used}, Cycles.{less, capacity_of}, View.SettlesTo};
+ghost use Rattle.st_model.specs.{Decoded.IsNumbered, Outcomes.outcome_of};
 ghost use Rattle.st_frames.specs.declared.registers.Registers.{Registers as Words};
 ghost use Rattle.st_frames.specs.inside.Rows.{registers_in, outcome_in};
 ghost use Rattle.st_frames.specs.inside.Shown.{IsFrame, IsReady, registers_of, shown};
 ghost use Rattle.st_step.specs.inside.Planned.{HasEnded};
-ghost use Rattle.st_machine.specs.inside.{Cycling.{GoesCalmly, warns}, Room.is_roomy};
+ghost use Rattle.st_at_once.specs.inside.AtOnce.{IsFetched, NamesSame};
+ghost use Rattle.st_machine.specs.inside.{Cycling.{GoesCalmly, foreseen_step, warns}, Room.is_roomy};
 ghost use Rattle.st_machine.specs.declared.doing.StretchEnd.TheVariants.{Warns};
 
 use crate::roomy::Roomy;
 use crate::space::needs_warning;
 use st_at_once::Near;
-use st_frames::{Frame, Registers, RowEnd, World};
+use st_frames::{Frame, Registers, RowEnd, World, next_byte};
 use st_memory::Memory;
-use st_model::{Dead, Demand, Outcome};
-use st_step::{outcome, step_row};
+use st_model::{Bytecode, Dead, Demand, Outcome, decode};
+use st_step::{bytecode, outcome};
 
 /// What is left of the cycle of a bytecode that wasn't foreseen, if that isn't all done.
 #[derive(Clone, Copy)]
@@ -66,17 +67,37 @@ fn outcome_near<M: Memory>(near: &Near<M>, f: &Frame, end: RowEnd) -> Outcome
     outcome(near.memory, f, end)
 }
 
-/// Does the next bytecode over what is near at hand, if there is room for whatever it takes, and then what comes after it. No plan
-/// is made. While it goes on, the registers are those of the frame.
-#[inline(never)]
+/// Fetches and decodes the next bytecode.
+#[inline(always)]
+pub fn fetch<M: Memory>(roomy: &Roomy<M>, f: &Frame, r: &mut Registers) -> Result<Bytecode, Dead>
+    requires same { registers_in r.old ≡ registers_of f.now }
+    requires ready { IsReady (M.view roomy.now.near.memory.now) f.now r.old.world.now }
+    ensures dies { IfErr result (λ cause.
+        foreseen_step (shown (M.view roomy.now.near.memory.now) f.now r.old.world.now) ≡ Died cause) }
+    ensures numbered { IfOk result IsNumbered }
+    ensures fetched { IfOk result (λ code.
+        IsFetched (M.view roomy.now.near.memory.now) f.now r.old.world.now code r.new) }
+    ensures names { IfOk result (λ code. NamesSame (registers_of f.now) (registers_in r.new)) }
+    ensures world { r.new.world.now ≡ r.old.world.now }
+{
+    let byte = next_byte(roomy, r)?;
+    Ok(decode(byte))
+}
+
+/// Does the row of the next bytecode, which was fetched and decoded, over what is near at hand, if there is room for whatever it takes;
+/// and then what comes after it. No plan is made. While it goes on, the registers are those of the frame.
+#[inline(always)]
 pub fn do_straight<M: Memory>(
     roomy: &mut Roomy<M>,
     f: &mut Frame,
     r: &mut Registers,
+    code: Bytecode,
 ) -> Result<Option<StretchEnd>, Dead>
-    requires same { registers_in r.old ≡ registers_of f.old }
+    requires numbered { IsNumbered code }
+    requires fetched { IsFetched (M.view roomy.old.near.memory.now) f.old r.old.world.now code r.old }
     requires ready { IsReady (M.view roomy.old.near.memory.now) f.old r.old.world.now }
-    ensures step { GoesCalmly (shown (M.view roomy.old.near.memory.now) f.old r.old.world.now) r.new.left result
+    ensures step { GoesCalmly (shown (M.view roomy.old.near.memory.now) f.old r.old.world.now)
+        r.new.left result
         (shown (M.view roomy.new.near.memory.now) f.new r.old.world.now) }
     ensures ready { IfOk result (λ end. IsReady (M.view roomy.new.near.memory.now) f.new r.old.world.now) }
     ensures same { result ≡ Ok None → registers_in r.new ≡ registers_of f.new }
@@ -86,7 +107,7 @@ pub fn do_straight<M: Memory>(
     if !has_room(&roomy.near) {
         return Ok(Some(StretchEnd::ToForesee));
     }
-    let end = step_row(roomy, r)?;
+    let end = bytecode(roomy, r, code)?;
     roomy.near.hold_moved(f, r);
     match end {
         RowEnd::Went => Ok(finish_calmly(&mut roomy.near, r.world)),

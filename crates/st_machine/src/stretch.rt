@@ -2,9 +2,9 @@ ghost use Rattle.std.specs.Prelude.{◌≡◌, ◌≤◌, Ok, None, IfOk, OnOk};
 ghost use Rattle.st_frames.specs.inside.{Rows.registers_in, Shown.{IsReady, registers_of, shown}};
 ghost use Rattle.st_machine.specs.inside.{Cycling.{GoesCalmly, IsCalm}, Strides.GoesOn};
 
-use crate::doing::{StretchEnd, do_straight, finish_calmly};
+use crate::doing::{StretchEnd, do_straight, fetch, finish_calmly};
 use crate::roomy::Roomy;
-use st_at_once::{Near, row_at_once};
+use st_at_once::{Near, bytecode_at_once};
 use st_frames::{Frame, Registers, World, load};
 use st_memory::Memory;
 use st_model::{Dead, Deed};
@@ -31,19 +31,23 @@ fn do_calmly<M: Memory>(
 ) -> Result<Option<StretchEnd>, Dead>
     requires same { registers_in r.old ≡ registers_of f.old }
     requires ready { IsReady (M.view roomy.old.near.memory.now) f.old r.old.world.now }
-    ensures step { GoesCalmly (shown (M.view roomy.old.near.memory.now) f.old r.old.world.now) r.new.left result
+    ensures step { GoesCalmly (shown (M.view roomy.old.near.memory.now) f.old r.old.world.now)
+        r.new.left result
         (shown (M.view roomy.new.near.memory.now) f.new r.old.world.now) }
     ensures ready { IfOk result (λ end. IsReady (M.view roomy.new.near.memory.now) f.new r.old.world.now) }
     ensures same { result ≡ Ok None → registers_in r.new ≡ registers_of f.new }
     ensures world { r.new.world.now ≡ r.old.world.now }
     ensures same_memory { roomy.new.near.memory.ghost_name ≡ roomy.old.near.memory.ghost_name }
 {
-    if row_at_once(&mut roomy.near, f, r)? {
+    let code = fetch(roomy, f, r)?;
+    let ip = r.ip;
+    let sp = r.sp;
+    if bytecode_at_once(&mut roomy.near, f, r, code)? {
         return Ok(finish_calmly(&mut roomy.near, r.world));
     }
-    r.ip = f.ip;
-    r.sp = f.sp;
-    do_straight(roomy, f, r)
+    r.ip = ip;
+    r.sp = sp;
+    do_straight(roomy, f, r, code)
 }
 
 /// Does cycles in a calm world, at most n of them, up to the first that isn't all done: its bytecode is to be foreseen, leaves a

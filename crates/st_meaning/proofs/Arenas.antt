@@ -3,7 +3,6 @@ use Rattle.std.proofs.Common.{◌≡◌, ℕ, zero, suc, ◌+◌, ◌<◌, ◌�
 use Rattle.std.proofs.lemmas.List.{at_drop_more, at_drop_all, take-append-drop, drop_more, length-take-le}
 use Rattle.std.specs.Prelude.{slice_get}
 use Rattle.st_meaning.specs.declared.arena.Node.{Node}
-use Rattle.st_meaning.specs.inside.Values.{DeedView}
 use Rattle.st_meaning.specs.inside.Runs.{Going, Outcome, went, over, long, stuck, unfinished, Run, gives, then_go, ◌>>=◌}
 use Rattle.st_meaning.specs.inside.Arenas.{Meaning, each, node_run, runs_behind, runs_of}
 use Rattle.st_meaning.specs.inside.Traced.{Cut}
@@ -43,7 +42,7 @@ pub each_went : {X S : Type 0} (one : X → S → Run S) (xs : List X) (k : ℕ)
 each_went one xs k x s t g h w within is e whole =
     sym (ap (λ o. then_go o (each one (drop (k + 1) xs))) e) ∙ sym (each_first one xs k x s g within is) ∙ whole
 
-pub each_over : {X S : Type 0} (one : X → S → Run S) (xs : List X) (k : ℕ) (x : X) (s : S) (g : Going) (d : List DeedView) (w : Outcome S) → k < length xs → x ≡ get_or xs k x
+pub each_over : {X S : Type 0} (one : X → S → Run S) (xs : List X) (k : ℕ) (x : X) (s : S) (g d : Going) (w : Outcome S) → k < length xs → x ≡ get_or xs k x
     → one x s g ≡ over d → each one (drop k xs) s g ≡ w → w ≡ over d
 each_over one xs k x s g d w within is e whole =
     sym whole ∙ each_first one xs k x s g within is ∙ ap (λ o. then_go o (each one (drop (k + 1) xs))) e

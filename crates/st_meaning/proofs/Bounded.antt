@@ -57,7 +57,7 @@ module _ (most : ℕ) where
   unfolding did
   done_did d g = by_test (length g.deeds == most)
     where
-      by_test : (b : Bool) → IsDone (if b then long else over (g.deeds ++ d ∷ []))
+      by_test : (b : Bool) → IsDone (if b then long else over (record g { deeds = g.deeds ++ d ∷ [] }))
       by_test true = tt
       by_test false = tt
 

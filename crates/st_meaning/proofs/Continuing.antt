@@ -58,7 +58,7 @@ on_false on v c e jump go = by_false on v e jump go (going_view c)
 
 pub on_none : (on : Bool) (v : Value) (c d : Course) → boolean v ≡ None → (length c.deeds.items == most) ≡ false → going_view d ≡ with_deed (unsure v) (going_view c) → Tests on v c d None
 on_none on v c d e few w jump go =
-    by_none on v e jump go (going_view c) ∙ unsure_on most v (going_view c) (few_deeds most c few) ∙ ap (λ (g : Going). over g.deeds) (sym w)
+    by_none on v e jump go (going_view c) ∙ unsure_on most v (going_view c) (few_deeds most c few) ∙ ap over (sym w)
 
 pub on_none_long : (on : Bool) (v : Value) (c : Course) → boolean v ≡ None → (length c.deeds.items == most) ≡ true → IsLongTest on v c
 on_none_long on v c e full jump go = by_none on v e jump go (going_view c) ∙ unsure_long most v (going_view c) (full_deeds most c full)

@@ -56,7 +56,7 @@ module _ (most : ℕ) where
   unfolding make_block
   make_long g e = did_long (made g.blocks) _ g e
 
-  pub return_on : (v : Value) (g : Going) → (length g.deeds == most) ≡ false → return_value most {A = Value} v g ≡ over (with_deed (returned v) g).deeds
+  pub return_on : (v : Value) (g : Going) → (length g.deeds == most) ≡ false → return_value most {A = Value} v g ≡ over (with_deed (returned v) g)
   unfolding return_value
   return_on v g e = did_on (returned v) ends g e
 
@@ -64,7 +64,7 @@ module _ (most : ℕ) where
   unfolding return_value
   return_long v g e = did_long (returned v) ends g e
 
-  pub unsure_on : (v : Value) (g : Going) → (length g.deeds == most) ≡ false → be_unsure most {A = Value} v g ≡ over (with_deed (unsure v) g).deeds
+  pub unsure_on : (v : Value) (g : Going) → (length g.deeds == most) ≡ false → be_unsure most {A = Value} v g ≡ over (with_deed (unsure v) g)
   unfolding be_unsure
   unsure_on v g e = did_on (unsure v) ends g e
 

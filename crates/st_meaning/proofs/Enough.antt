@@ -174,7 +174,7 @@ module _ (most : ℕ) where
   unfolding return_value did
   ends_return n v = record { at = λ g l e. by_test g (length g.deeds == most) }
     where
-      by_test : (g : Going) (b : Bool) → IsEnded (if b then long else over (g.deeds ++ views.returned v ∷ []))
+      by_test : (g : Going) (b : Bool) → IsEnded (if b then long else over (record g { deeds = g.deeds ++ views.returned v ∷ [] }))
       by_test g true = tt
       by_test g false = tt
 

@@ -16,11 +16,11 @@ use Rattle.st_meaning.specs.declared.fault.MeaningFault.{MeaningFault}
 use Rattle.st_meaning.specs.declared.tracing.TurnEnd.{TurnEnd}
 use Rattle.st_meaning.specs.declared.tracing.TurnEnd.TheVariants.{Again, Left, Over}
 use Rattle.st_meaning.specs.inside.Runs.{Going, Outcome, went, over, long, Run, gives, then_go, ◌>>=◌, answer_to, return_value, jump_back, in_order, in_order_before}
-use Rattle.st_meaning.specs.inside.Values.{DeedView, returned}
+use Rattle.st_meaning.specs.inside.Values.{returned}
 use Rattle.st_meaning.specs.inside.Traces.{nil, goes_on, turns}
 use Rattle.st_meaning.specs.inside.Meanings.{most}
 use Rattle.st_meaning.specs.inside.Courses.{going_view, with_deed, with_back, stack_view, Goes, IsLong, Tests, IsLongTest}
-use Rattle.st_meaning.specs.inside.Arenas.{Meaning, meant, runs_of, left}
+use Rattle.st_meaning.specs.inside.Arenas.{Meaning, meant, runs_of}
 use Rattle.st_meaning.specs.inside.Traced.{Cut, IsCut, IsPassed, IsFirstOn, IsLeftOn, message_in, arguments_in, nodes_in, EndsTurn, IsTurnCut, Repeats, IsRepeatCut, again_in, body_in, chosen_in, sided_in, node_in, start_in, acts_in}
 use Rattle.st_meaning.proofs.Arenas.{cut_then, run_at, many_runs}
 use Rattle.st_meaning.proofs.Continuing.{so_long}
@@ -32,7 +32,7 @@ use Rattle.st_meaning.proofs.Coursing.{few_deeds, full_deeds, return_on, return_
 followed : {A B : Type 0} (m : Run A) (f : A → Run B) (x : A) (g h : Going) → m g ≡ went x h → (m >>= f) g ≡ f x h
 followed m f x g h e = ap (λ o. then_go o f) e
 
-ended : {A B : Type 0} (m : Run A) (f : A → Run B) (d : List DeedView) (g : Going) → m g ≡ over d → (m >>= f) g ≡ over d
+ended : {A B : Type 0} (m : Run A) (f : A → Run B) (d g : Going) → m g ≡ over d → (m >>= f) g ≡ over d
 ended m f d g e = ap (λ o. then_go o f) e
 
 cut : {A B : Type 0} (m : Run A) (f : A → Run B) (g : Going) → Cut (m g) → Cut ((m >>= f) g)
@@ -55,7 +55,7 @@ module _ {A : Type 0} where
   pub some_went : (m : Outcome A) (o : Option A) (x : A) (g : Going) → o ≡ Some x → Goes m o g → m ≡ went x g
   some_went m o x g is h = subst (λ (p : Option A). Goes m p g) is h
 
-  pub none_over : (m : Outcome A) (o : Option A) (g : Going) → o ≡ None → Goes m o g → m ≡ over g.deeds
+  pub none_over : (m : Outcome A) (o : Option A) (g : Going) → o ≡ None → Goes m o g → m ≡ over g
   none_over m o g is h = subst (λ (p : Option A). Goes m p g) is h
 
 -- a run is a first one and what follows its value: what is told of both, told of it
@@ -69,7 +69,7 @@ module _ {A : Type 0} (w : Outcome Value) (m : Outcome A) (f : A → Run Value) 
   pub behind_long : (o : Option A) (x : A) (g : Going) (r : Result (Option Value) MeaningFault) → o ≡ Some x → Goes m o g → IfErr r (IsLong (Cut (f x g))) → IfErr r (IsLong (Cut w))
   behind_long o x g r some e k = long_so w (f x g) r (behind_went x g (some_went m o x g some e)) k
 
-  pub behind_none : (o : Option A) (g : Going) → o ≡ None → Goes m o g → w ≡ over g.deeds
+  pub behind_none : (o : Option A) (g : Going) → o ≡ None → Goes m o g → w ≡ over g
   behind_none o g none e = is ∙ ap (λ (p : Outcome A). then_go p f) (none_over m o g none e)
 
   pub behind_cut : Cut m → Cut w
@@ -105,7 +105,7 @@ message_is xs n above r m places vs old mid e h =
     ap (λ (o : Outcome (List Value)). then_go o (λ ws. answer_to most r m.selector.items (in_order ws) above)) (sym (ap (λ (l : List ℕ). arguments_in xs n l old) e) ∙ h)
     ∙ ap (λ (l : List Value). answer_to most r m.selector.items l above mid) (in_order_back vs)
 
-pub message_over : (xs : List Node) (n : ℕ) (above : Bool) (r : Value) (m : Message) (places : List ℕ) (d : List DeedView) (old : Going) → places ≡ m.arguments.items → arguments_in xs n places old ≡ over d → message_in xs n above r m old ≡ over d
+pub message_over : (xs : List Node) (n : ℕ) (above : Bool) (r : Value) (m : Message) (places : List ℕ) (d old : Going) → places ≡ m.arguments.items → arguments_in xs n places old ≡ over d → message_in xs n above r m old ≡ over d
 message_over xs n above r m places d old e h =
     ap (λ (o : Outcome (List Value)). then_go o (λ ws. answer_to most r m.selector.items (in_order ws) above)) (sym (ap (λ (l : List ℕ). arguments_in xs n l old) e) ∙ h)
 
@@ -127,7 +127,7 @@ pub sided_is : (xs : List Node) (n : ℕ) (side : OneSided) (on b : Bool) (k v :
 sided_is xs n side on b k v a old mid is t = ap (λ (m : Run Value). m (going_view old)) (is v (body_in xs n a)) ∙ t (gives k) (body_in xs n a)
 
 pub sided_over : (xs : List Node) (n : ℕ) (side : OneSided) (on : Bool) (k v : Value) (a : Statements) (old new : Course) → IsPassed side on k → Tests on v old new None
-    → sided_in xs n side v a (going_view old) ≡ over (going_view new).deeds
+    → sided_in xs n side v a (going_view old) ≡ over (going_view new)
 sided_over xs n side on k v a old new is t = ap (λ (m : Run Value). m (going_view old)) (is v (body_in xs n a)) ∙ t (gives k) (body_in xs n a)
 
 pub sided_cut : (xs : List Node) (n : ℕ) (side : OneSided) (on : Bool) (k v : Value) (a : Statements) (old : Course) → IsPassed side on k → IsLongTest on v old → IsCut (sided_in xs n side v a) old
@@ -138,7 +138,7 @@ pub chosen_is : (xs : List Node) (n : ℕ) (side : TwoSided) (on c : Bool) (v : 
 chosen_is xs n side on c v a b old mid is t = ap (λ (m : Run Value). m (going_view old)) (is v (body_in xs n a) (body_in xs n b)) ∙ t (body_in xs n a) (body_in xs n b)
 
 pub chosen_over : (xs : List Node) (n : ℕ) (side : TwoSided) (on : Bool) (v : Value) (a b : Statements) (old new : Course) → IsFirstOn side on → Tests on v old new None
-    → chosen_in xs n side v a b (going_view old) ≡ over (going_view new).deeds
+    → chosen_in xs n side v a b (going_view old) ≡ over (going_view new)
 chosen_over xs n side on v a b old new is t = ap (λ (m : Run Value). m (going_view old)) (is v (body_in xs n a) (body_in xs n b)) ∙ t (body_in xs n a) (body_in xs n b)
 
 pub chosen_cut : (xs : List Node) (n : ℕ) (side : TwoSided) (on : Bool) (v : Value) (a b : Statements) (old : Course) → IsFirstOn side on → IsLongTest on v old → IsCut (chosen_in xs n side v a b) old
@@ -154,7 +154,7 @@ module _ {A : Type 0} (xs : List Node) (n : ℕ) (end : Bool → Value → Run A
   pub ended_is : (b : Bool) (v : Value) (mid : Going) → s.returns ≡ b → nodes_in xs n places old ≡ went v mid → closed ≡ end b v mid
   ended_is b v mid r h = ap (λ (o : Outcome Value). then_go o (end s.returns)) (sym (ap (λ (l : List ℕ). nodes_in xs n l old) same) ∙ h) ∙ ap (λ (c : Bool). end c v mid) r
 
-  pub ended_over : (d : List DeedView) → nodes_in xs n places old ≡ over d → closed ≡ over d
+  pub ended_over : (d : Going) → nodes_in xs n places old ≡ over d → closed ≡ over d
   ended_over d h = ap (λ (o : Outcome Value). then_go o (end s.returns)) (sym (ap (λ (l : List ℕ). nodes_in xs n l old) same) ∙ h)
 
   pub ended_cut : Cut (nodes_in xs n places old) → Cut closed
@@ -172,7 +172,7 @@ turn_left xs n kind x a on v old mid new is e t k =
 
 pub turn_over : (xs : List Node) (n : ℕ) (kind : Loop) (x a : Statements) (old new : Course) → Goes (body_in xs n x (going_view old)) None (going_view new) → EndsTurn xs n kind x a old new Over
 turn_over xs n kind x a old new e k =
-    ended (body_in xs n x) (λ v. goes_on most kind v (body_in xs n a >>= λ w. jump_back most (turns most k kind (body_in xs n x) (body_in xs n a))) (gives nil)) (going_view new).deeds (going_view old) e
+    ended (body_in xs n x) (λ v. goes_on most kind v (body_in xs n a >>= λ w. jump_back most (turns most k kind (body_in xs n x) (body_in xs n a))) (gives nil)) (going_view new) (going_view old) e
 
 pub turn_unsure : (xs : List Node) (n : ℕ) (kind : Loop) (x a : Statements) (on : Bool) (v : Value) (old mid new : Course) → IsLeftOn kind on
     → Goes (body_in xs n x (going_view old)) (Some v) (going_view mid) → Tests on v mid new None → EndsTurn xs n kind x a old new Over
@@ -229,7 +229,7 @@ again_back xs n a v old mid new e few w f =
     followed (body_in xs n a) (λ w. jump_back most f) v (going_view old) (going_view mid) e ∙ back_on most f (going_view mid) few ∙ ap f (sym w)
 
 pub again_over : (xs : List Node) (n : ℕ) (a : Statements) (old new : Course) → Goes (body_in xs n a (going_view old)) None (going_view new) → Repeats xs n a old new Over
-again_over xs n a old new e f = ended (body_in xs n a) (λ w. jump_back most f) (going_view new).deeds (going_view old) e
+again_over xs n a old new e f = ended (body_in xs n a) (λ w. jump_back most f) (going_view new) (going_view old) e
 
 pub again_cut : (xs : List Node) (n : ℕ) (a : Statements) (old : Course) → IsCut (body_in xs n a) old → IsRepeatCut xs n a old
 again_cut xs n a old h f = cut (body_in xs n a) (λ w. jump_back most f) (going_view old) h
@@ -252,7 +252,7 @@ module _ (xs : List Node) (n : ℕ) (kind : Loop) (x a : Statements) (w : Outcom
   turned_left zero old new some e h = absurd (omega (arith, some))
   turned_left (suc k) old new some e h = sym h ∙ e k
 
-  pub turned_over : (k : ℕ) (old new : Course) → 0 < k → EndsTurn xs n kind x a old new Over → turns most k kind (body_in xs n x) (body_in xs n a) (going_view old) ≡ w → w ≡ over (going_view new).deeds
+  pub turned_over : (k : ℕ) (old new : Course) → 0 < k → EndsTurn xs n kind x a old new Over → turns most k kind (body_in xs n x) (body_in xs n a) (going_view old) ≡ w → w ≡ over (going_view new)
   turned_over zero old new some e h = absurd (omega (arith, some))
   turned_over (suc k) old new some e h = sym h ∙ e k
 
@@ -266,15 +266,15 @@ module _ (xs : List Node) (n : ℕ) (kind : Loop) (x a : Statements) (w : Outcom
 
 -- ENDS
 
-pub returned_over : (v : Value) (mid new : Course) → (length mid.deeds.items == most) ≡ false → going_view new ≡ with_deed (returned v) (going_view mid) → return_value most {A = Value} v (going_view mid) ≡ over (going_view new).deeds
-returned_over v mid new few w = return_on most v (going_view mid) (few_deeds most mid few) ∙ ap (λ (g : Going). over g.deeds) (sym w)
+pub returned_over : (v : Value) (mid new : Course) → (length mid.deeds.items == most) ≡ false → going_view new ≡ with_deed (returned v) (going_view mid) → return_value most {A = Value} v (going_view mid) ≡ over (going_view new)
+returned_over v mid new few w = return_on most v (going_view mid) (few_deeds most mid few) ∙ ap over (sym w)
 
 pub returned_long : (v : Value) (mid : Course) → (length mid.deeds.items == most) ≡ true → return_value most {A = Value} v (going_view mid) ≡ long
 returned_long v mid full = return_long most v (going_view mid) (full_deeds most mid full)
 
 -- a method that returns a value, or finds no room for that deed
 module _ {A : Type 0} (w : Outcome Value) (v : Value) (mid : Course) (is : w ≡ return_value most v (going_view mid)) where
-  pub return_goes : (new : Course) (r : Result A MeaningFault) → OnOk r ((length mid.deeds.items == most) ≡ false) → OnOk r (going_view new ≡ with_deed (returned v) (going_view mid)) → OnOk r (w ≡ over (going_view new).deeds)
+  pub return_goes : (new : Course) (r : Result A MeaningFault) → OnOk r ((length mid.deeds.items == most) ≡ false) → OnOk r (going_view new ≡ with_deed (returned v) (going_view mid)) → OnOk r (w ≡ over (going_view new))
   return_goes new (Ok x) few e = is ∙ returned_over v mid new few e
   return_goes new (Err f) few e = tt
 

@@ -79,6 +79,6 @@ module _ (most : ℕ) (literals : List LiteralView) (bytes : List ℕ) where
   unfolding did
   over_leads at at' s g st d h = by_test (length g.deeds == most) h
     where
-      by_test : (b : Bool) → ((k : ℕ) → go (suc k) at s g ≡ (if b then long else over (g.deeds ++ d ∷ []))) → Leads at s g at' st (if b then long else over (g.deeds ++ d ∷ []))
+      by_test : (b : Bool) → ((k : ℕ) → go (suc k) at s g ≡ (if b then long else over (record g { deeds = g.deeds ++ d ∷ [] }))) → Leads at s g at' st (if b then long else over (record g { deeds = g.deeds ++ d ∷ [] }))
       by_test true h = (1, h 0)
       by_test false h = (1, h 0)

@@ -19,7 +19,7 @@ use Rattle.st_meaning.specs.declared.deed.Answer.{Answer}
 use Rattle.st_meaning.specs.declared.deed.Value.{Value}
 use Rattle.st_meaning.specs.declared.arena.Statements.{Statements}
 use Rattle.st_meaning.specs.declared.sketch.Sketch.{Sketch}
-use Rattle.st_meaning.specs.inside.Values.{AnswerView, DeedView}
+use Rattle.st_meaning.specs.inside.Values.{AnswerView}
 use Rattle.st_meaning.specs.inside.Runs.{Going, Outcome, went, over, long, stuck, unfinished, Run}
 use Rattle.st_meaning.specs.inside.Traces.{method_value}
 use Rattle.st_meaning.specs.inside.Deeds.{Lists, answers_view}
@@ -74,8 +74,8 @@ trace_is t names answers sketch s bound g is enough start =
 pub begun_with : (n m : ℕ) (given held : List Answer) (g : Going) → g ≡ before_all (start_of n) (answers_view held) → n ≡ m → held ≡ given → g ≡ before_all (start_of m) (answers_view given)
 begun_with n m given held g begins many same = begins ∙ ap (λ (k : ℕ). before_all (start_of k) (answers_view held)) many ∙ ap (λ (xs : List Answer). before_all (start_of m) (answers_view xs)) same
 
-pub lists_over : (o : Outcome Value) (d : List DeedView) → o ≡ over d → Lists o d
-lists_over o d e = subst (λ (x : Outcome Value). Lists x d) (sym e) refl
+pub lists_over : (o : Outcome Value) (d : Going) → o ≡ over d → Lists o d.deeds
+lists_over o d e = subst (λ (x : Outcome Value). Lists x d.deeds) (sym e) refl
 
 cut_long : (o : Outcome Value) → IsEnded o → Cut o → o ≡ long
 cut_long (went v g) h k = absurd k

@@ -69,6 +69,7 @@ pub(crate) fn live_fields<M: Memory>(m: &M, o: Word, n: u32, from: u32) -> Resul
 }
 
 /// The SmallInteger of 15 bits or the object that is there under a word.
+#[inline(always)]
 #[tactic(auto, using(crate::proofs::Wide::there))]
 pub fn live_value<M: Memory>(m: &M, x: Word) -> Option<Oop>
     ensures there { IfSome result (λ o. is_there table (M.view m.now).objects (word x) ≡ true) }

@@ -1,6 +1,6 @@
 -- Worked rows of the primitives on SmallIntegers, and of those that any receiver has, as special sends and as primitives of a
 -- method. The image is that of the rows of sends.
-use Rattle.std.proofs.Common.{◌≡◌, ℕ, ◌+◌, List, [], ◌∷◌, ◌++◌, None, Option, refl}
+use Rattle.std.proofs.Common.{◌≡◌, ℕ, ◌+◌, List, [], ◌∷◌, ◌++◌, Some, None, Option, refl}
 use Rattle.std.specs.Prelude.{map, replicate, pos}
 use Rattle.st_model.specs.declared.dead.Dead.TheVariants as dead
 use Rattle.st_model.specs.Values.{Value, Small, Ref}
@@ -78,17 +78,21 @@ called : Value → Value → State Table
 unfolding state in_sender objects active plain pointers method
 called x y = state 32767 (in_sender (pos 7) 7) (objects 33 None None None (active 5 0 x y) (Small 1 ∷ Small 16383 ∷ []) (32 ∷ 118 ∷ 176 ∷ []))
 
--- a method of this primitive is called with so many arguments
-responds : ℕ → Value → Value → ℕ → Transition (State Table) Outcome
-responds n x y primitive = (respond table (record { method = Ref 36; arguments = n }) (Small 4224) primitive).run (called x y)
+-- this primitive is called with so many arguments
+responds : ℕ → Value → Value → ℕ → Transition (State Table) (Option Outcome)
+responds n x y primitive = (respond table primitive n).run (called x y)
 
-answered : ℕ → Value → Value → Transition (State Table) Outcome
+answered : ℕ → Value → Value → Transition (State Table) (Option Outcome)
 unfolding state in_sender objects active plain pointers method
-answered sp x y = Went outcome.Went (state 32767 (in_sender (pos 7) (5 + sp)) (objects 33 None None None (active 5 0 x y) (Small 1 ∷ Small 16383 ∷ []) (32 ∷ 118 ∷ 176 ∷ [])))
+answered sp x y = Went (Some outcome.Went) (state 32767 (in_sender (pos 7) (5 + sp)) (objects 33 None None None (active 5 0 x y) (Small 1 ∷ Small 16383 ∷ []) (32 ∷ 118 ∷ 176 ∷ [])))
 
 -- something is asked for, with nothing changed
-asked_at : Outcome → Transition (State Table) Outcome
-asked_at o = Went o (called nil (Small 6))
+asked_at : Outcome → Transition (State Table) (Option Outcome)
+asked_at o = Went (Some o) (called nil (Small 6))
+
+-- a primitive failed, with nothing changed
+failed : Value → Value → Transition (State Table) (Option Outcome)
+failed x y = Went None (called x y)
 
 -- by primitive 1 the sum takes the place of receiver and argument
 adds : responds 1 (Small 5) (Small 6) 1 ≡ answered 1 (Small 11) (Small 6)
@@ -98,16 +102,16 @@ adds = refl
 all_numbers : List ℕ
 all_numbers = 1 ∷ 2 ∷ 3 ∷ 4 ∷ 5 ∷ 6 ∷ 7 ∷ 8 ∷ 9 ∷ 10 ∷ 11 ∷ 12 ∷ 13 ∷ 14 ∷ 15 ∷ 16 ∷ 17 ∷ 18 ∷ []
 
--- with a receiver or an argument that is no SmallInteger, the numbers 1 to 18 fail, and the method is activated as by 0
+-- with a receiver or an argument that is no SmallInteger, the numbers 1 to 18 fail
 no_integer : map (responds 1 nil (Small 6)) all_numbers ++ map (responds 1 (Small 6) nil) all_numbers
-    ≡ replicate 18 (responds 1 nil (Small 6) 0) ++ replicate 18 (responds 1 (Small 6) nil 0)
-unfolding all_numbers opened responds called state in_sender objects active plain pointers method
+    ≡ replicate 18 (failed nil (Small 6)) ++ replicate 18 (failed (Small 6) nil)
+unfolding all_numbers opened responds failed called state in_sender objects active plain pointers method
 no_integer = refl
 
 -- with another number of arguments than theirs they fail too, and so do 110, which takes one, and 111, which takes none
 other_count : map (responds 0 (Small 5) (Small 6)) (1 ∷ 18 ∷ 110 ∷ []) ++ map (responds 1 (Small 5) (Small 6)) (111 ∷ [])
-    ≡ replicate 3 (responds 0 (Small 5) (Small 6) 0) ++ replicate 1 (responds 1 (Small 5) (Small 6) 0)
-unfolding opened responds called state in_sender objects active plain pointers method
+    ≡ replicate 4 (failed (Small 5) (Small 6))
+unfolding opened responds failed called state in_sender objects active plain pointers method
 other_count = refl
 
 -- with their own 110 and 111 always succeed, and 89 answers the receiver with any number of arguments
@@ -117,9 +121,9 @@ unfolding opened responds answered called state in_sender objects active plain p
 always = refl
 
 -- the first and the last of each run of numbers that fail always
-failing : map (responds 1 (Small 5) (Small 6)) (19 ∷ 20 ∷ 38 ∷ 39 ∷ 40 ∷ 54 ∷ 55 ∷ 59 ∷ 103 ∷ 104 ∷ 106 ∷ 109 ∷ 117 ∷ 127 ∷ 129 ∷ 255 ∷ [])
-    ≡ replicate 16 (responds 1 (Small 5) (Small 6) 0)
-unfolding opened responds called state in_sender objects active plain pointers method
+failing : map (responds 1 (Small 5) (Small 6)) (0 ∷ 19 ∷ 20 ∷ 38 ∷ 39 ∷ 40 ∷ 54 ∷ 55 ∷ 59 ∷ 103 ∷ 104 ∷ 106 ∷ 109 ∷ 117 ∷ 127 ∷ 129 ∷ 255 ∷ [])
+    ≡ replicate 17 (failed (Small 5) (Small 6))
+unfolding opened responds failed called state in_sender objects active plain pointers method
 failing = refl
 
 -- 97, 113 and 114 ask for something, and the receiver stays; with an argument they fail
@@ -128,8 +132,8 @@ asking : responds 0 nil (Small 6) 97 ∷ responds 0 nil (Small 6) 113 ∷ respon
 unfolding opened responds asked_at called state in_sender objects active plain pointers method
 asking = refl
 
-asking_less : map (responds 1 (Small 5) (Small 6)) (97 ∷ 113 ∷ 114 ∷ []) ≡ replicate 3 (responds 1 (Small 5) (Small 6) 0)
-unfolding opened responds called state in_sender objects active plain pointers method
+asking_less : map (responds 1 (Small 5) (Small 6)) (97 ∷ 113 ∷ 114 ∷ []) ≡ replicate 3 (failed (Small 5) (Small 6))
+unfolding opened responds failed called state in_sender objects active plain pointers method
 asking_less = refl
 
 -- special sends alone, with so many words on the stack

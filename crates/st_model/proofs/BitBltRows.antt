@@ -1,6 +1,6 @@
 -- Worked rows of 96, computed from the definitions: a BitBlt at place 31, its destination at 32 and that Form's words at 33, and from
 -- 34 on other objects.
-use Rattle.std.proofs.Common.{◌≡◌, ℕ, List, [], ◌∷◌, None, Option, refl}
+use Rattle.std.proofs.Common.{◌≡◌, ℕ, List, [], ◌∷◌, Some, None, Option, refl}
 use Rattle.std.specs.Prelude.{◌++◌, replicate}
 use Rattle.st_model.specs.Values.{Value, Small, Ref}
 use Rattle.st_model.specs.Objects.{Object, nil}
@@ -139,10 +139,10 @@ by_halftone : trying 96 0 (Ref 31 ∷ []) (blt nil (Ref 34) 3 (numbers 1 19 1 0 
 unfolding opened trying done state objects words pointers class blt form numbers
 by_halftone = refl
 
--- as a method of this primitive is executed; with an argument it fails, as 0 does
-executed : ((respond table (record { method = nil; arguments = 0 }) (Small 0) 96).run (state 1 (objects None (Ref 31 ∷ []) (blt nil nil 12 (numbers 0 20 1 0 0 20) ∷ a_form)))
-    ≡ Went outcome.Went (state 1 (objects None (Ref 31 ∷ []) (blt nil nil 12 (numbers 0 20 1 0 0 20) ∷ form 33 20 1 ∷ words (0 ∷ 0 ∷ []) ∷ []))))
-    × ((respond table (record { method = nil; arguments = 1 }) (Small 0) 96).run (state 2 (objects None (Ref 31 ∷ nil ∷ []) (blt nil nil 12 (numbers 0 20 1 0 0 20) ∷ a_form)))
-    ≡ (respond table (record { method = nil; arguments = 1 }) (Small 0) 0).run (state 2 (objects None (Ref 31 ∷ nil ∷ []) (blt nil nil 12 (numbers 0 20 1 0 0 20) ∷ a_form))))
+-- called by its number; with an argument it fails, as 0 does
+executed : ((respond table 96 0).run (state 1 (objects None (Ref 31 ∷ []) (blt nil nil 12 (numbers 0 20 1 0 0 20) ∷ a_form)))
+    ≡ Went (Some outcome.Went) (state 1 (objects None (Ref 31 ∷ []) (blt nil nil 12 (numbers 0 20 1 0 0 20) ∷ form 33 20 1 ∷ words (0 ∷ 0 ∷ []) ∷ []))))
+    × ((respond table 96 1).run (state 2 (objects None (Ref 31 ∷ nil ∷ []) (blt nil nil 12 (numbers 0 20 1 0 0 20) ∷ a_form)))
+    ≡ (respond table 0 1).run (state 2 (objects None (Ref 31 ∷ nil ∷ []) (blt nil nil 12 (numbers 0 20 1 0 0 20) ∷ a_form))))
 unfolding opened state objects words pointers class blt form numbers
 executed = (refl, refl)

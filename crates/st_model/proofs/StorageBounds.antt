@@ -16,15 +16,15 @@ use Rattle.st_model.specs.Text.{escaped, said_text}
 use Rattle.st_model.proofs.Opened.{opened}
 use Rattle.st_model.proofs.StorageRows.{pointers, words, bytes, method, large, string, array, class, objects, state, holding, trying, done, made, failed, Fails, stream}
 
--- a method of this primitive is executed with n arguments, where these words are the stack
-executing : ℕ → ℕ → List Value → List (Option Object) → Transition (State Table) Outcome
+-- this primitive is called with n arguments, where these words are the stack
+executing : ℕ → ℕ → List Value → List (Option Object) → Transition (State Table) (Option Outcome)
 unfolding state objects
-executing k n stack others = (respond table (record { method = nil; arguments = n }) (Small 0) k).run (state (length stack) (objects None stack others))
+executing k n stack others = (respond table k n).run (state (length stack) (objects None stack others))
 
 -- what a trial that succeeded is to a step; one that failed is none
-succeeded : Transition (State Table) Bool → Transition (State Table) Outcome
+succeeded : Transition (State Table) Bool → Transition (State Table) (Option Outcome)
 succeeded (Died cause) = Died cause
-succeeded (Went true s) = Went outcome.Went s
+succeeded (Went true s) = Went (Some outcome.Went) s
 succeeded (Went false s) = Died dead.Code
 
 abbrev Executes : ℕ → ℕ → List Value → List (Option Object) → Type 0
@@ -60,8 +60,8 @@ others : Executes 70 0 (Ref 31 ∷ []) (class 16386 ∷ [])
 unfolding opened executing succeeded trying state objects array string pointers class bytes
 others = (refl, refl, refl, refl, refl, refl, refl, refl, refl, refl, refl, refl, refl)
 
--- 128 of a String; with an argument, and of an Array, it fails, and the method is activated as by 0
-says : (executing 128 0 (Ref 31 ∷ []) (string (65 ∷ []) ∷ []) ≡ Went (outcome.Say (Ref 31)) (state 1 (objects None (Ref 31 ∷ []) (string (65 ∷ []) ∷ []))))
+-- 128 of a String; with an argument, and of an Array, it fails, as 0 does
+says : (executing 128 0 (Ref 31 ∷ []) (string (65 ∷ []) ∷ []) ≡ Went (Some (outcome.Say (Ref 31))) (state 1 (objects None (Ref 31 ∷ []) (string (65 ∷ []) ∷ []))))
     × (executing 128 1 (Ref 31 ∷ nil ∷ []) (string (65 ∷ []) ∷ []) ≡ executing 0 1 (Ref 31 ∷ nil ∷ []) (string (65 ∷ []) ∷ []))
     × (executing 128 0 (Ref 31 ∷ []) (array [] ∷ []) ≡ executing 0 0 (Ref 31 ∷ []) (array [] ∷ []))
 unfolding opened executing state objects string array pointers class bytes

@@ -3,10 +3,6 @@
 use Rattle.std.specs.Prelude.{ℕ, suc, ◌+◌, ◌-◌, ◌==◌, List, [], ◌∷◌, Option, Some, None, Bool, true, false, ◌&&◌, nat_lt, nat_le, if◌then◌else◌, slice_get, take, drop, length, pos}
 use Rattle.st_model.specs.declared.deed.Deed.{Deed}
 use Rattle.st_model.specs.declared.deed.Deed.TheVariants.{Nothing, StoreWord, StoreByte, StoreNumber, ReplaceBytes, StoreHeader, StoreLiteral, StoreTime, Hold, SetTimer, RingTimer, SetLowSpace, MoveMouse, CopyBits, TakeWord}
-use Rattle.st_model.specs.declared.outcome.StepEnd.{StepEnd}
-use Rattle.st_model.specs.declared.outcome.StepEnd.TheVariants as ends
-use Rattle.st_model.specs.declared.tried.Tried.{Tried as CodeTried}
-use Rattle.st_model.specs.declared.tried.Tried.TheVariants as trials
 use Rattle.st_model.specs.Values.{Value, Small, Ref, word}
 use Rattle.st_model.specs.Objects.{Object, nil, is_words, is_bytes, is_method, has_bytes, first_unit, with_field, object_with_unit}
 use Rattle.st_model.specs.declared.device.Device.TheVariants as device
@@ -154,21 +150,3 @@ over_both g u s = record s { memory = g s.memory; world = u s.memory s.world }
 -- the state in which a deed is done besides
 abbrev pub with_deed : Deed → State Table → State Table
 with_deed d s = over_both (deed_done d) (world_done d) s
-
--- what the end of a step of the code leaves to be done
-abbrev pub deed_of_end : StepEnd → Deed
-deed_of_end (ends.Went deed) = deed
-deed_of_end (ends.Says w) = Nothing
-deed_of_end ends.Snapshot = Nothing
-deed_of_end ends.Quit = Nothing
-deed_of_end ends.Debugger = Nothing
-
--- whether a primitive of the code succeeded that was tried
-abbrev pub is_done : CodeTried → Bool
-is_done trials.Failed = false
-is_done (trials.Done deed) = true
-
--- and what it leaves to be done
-abbrev pub deed_of_trial : CodeTried → Deed
-deed_of_trial trials.Failed = Nothing
-deed_of_trial (trials.Done deed) = deed

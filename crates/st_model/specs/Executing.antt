@@ -22,29 +22,27 @@ use Rattle.st_model.specs.Input.{input, is_input}
 unfoldable pub goes_on : {H : Type 0} → Step H Unit → Step H Outcome
 goes_on m = m >> answer outcome.Went
 
+-- a primitive that comes to this outcome where it succeeds, and else fails
+unfoldable pub if_done : {H : Type 0} → Outcome → Step H Bool → Step H (Option Outcome)
+if_done o primitive = do
+  succeeded ← primitive
+  if succeeded then answer (Some o) else answer None
+
+-- a primitive that can't fail
+unfoldable pub succeeds : {H : Type 0} → Step H Outcome → Step H (Option Outcome)
+succeeds m = do
+  o ← m
+  answer (Some o)
+
 abbrev pub is_from : ℕ → ℕ → ℕ → Bool
 is_from first last n = nat_le first n && nat_le n last
 
 module _ {H : Type 0} (m : ObjectMemory H) where
-  -- a field of the word at the top takes its place
-  unfoldable pub answer_field : ℕ → Step H Unit
-  answer_field i = do
-    x ← pop m
-    v ← fetch_field m x i
-    push m v
-
-  -- a primitive was tried: where it failed, the method is activated
-  unfoldable pub or_activate : Call → Value → Step H Bool → Step H Outcome
-  or_activate call header primitive = do
-    succeeded ← primitive
-    if succeeded then answer outcome.Went else goes_on (activate m call.method header call.arguments)
-
-  -- 128: the receiver's bytes are to be said, or where it failed the method is activated
-  unfoldable pub say_or_activate : Call → Value → Step H Outcome
-  say_or_activate call header = do
+  -- 128: the receiver's bytes are to be said
+  unfoldable pub says : Step H (Option Outcome)
+  says = do
     r ← top m
-    succeeded ← primitive_say m r
-    if succeeded then answer (outcome.Say r) else goes_on (activate m call.method header call.arguments)
+    if_done (outcome.Say r) (primitive_say m r)
 
   -- 97, 113 and 114: something is asked for, and the receiver stays as the answer
   unfoldable pub asks : Outcome → Step H Outcome
@@ -53,47 +51,68 @@ module _ {H : Type 0} (m : ObjectMemory H) where
     answer_with m 0 r
     answer o
 
-  -- What the primitives do that ask for something. All numbers that no primitive has, always fail, and activate
-  -- the method as 0 does: among them 40 to 54, 103 and 104, which the book has for floating-point and large numbers,
-  -- the scanning of characters and lines. So do 83 and 84 where they may perform no more.
-  unfoldable pub respond_last : Call → Value → ℕ → Step H Outcome
-  respond_last call header primitive =
-      if primitive == 128 && call.arguments == 0 then say_or_activate call header else
-      if primitive == 97 && call.arguments == 0 then asks outcome.Snapshot else
-      if primitive == 113 && call.arguments == 0 then asks outcome.Quit else
-      if primitive == 114 && call.arguments == 0 then asks outcome.Debugger else goes_on (activate m call.method header call.arguments)
+  -- Those that ask for something. All numbers that no primitive has always fail: among them 0, which is none, and 40 to 54, 103
+  -- and 104, which the book has for floating-point and large numbers, the scanning of characters and lines.
+  unfoldable pub respond_last : ℕ → ℕ → Step H (Option Outcome)
+  respond_last primitive n =
+      if primitive == 128 && n == 0 then says else
+      if primitive == 97 && n == 0 then succeeds (asks outcome.Snapshot) else
+      if primitive == 113 && n == 0 then succeeds (asks outcome.Quit) else
+      if primitive == 114 && n == 0 then succeeds (asks outcome.Debugger) else answer None
 
-  -- A method of this primitive is executed; 0 is none. A primitive that is given another number of arguments than its own fails,
-  -- but 81 and 89 take any number.
-  unfoldable pub respond : Call → Value → ℕ → Step H Outcome
-  respond call header primitive =
-      if is_from 1 18 primitive && call.arguments == 1 then or_activate call header (arithmetic m primitive) else
-      if is_from 21 36 primitive && call.arguments == 1 then or_activate call header (large_arithmetic m primitive) else
-      if primitive == 37 && call.arguments == 1 then or_activate call header (shift_large m) else
-      if primitive == 89 then goes_on (flush_cache m call.arguments) else
-      if primitive == 110 && call.arguments == 1 then goes_on (equivalence m) else
-      if primitive == 111 && call.arguments == 0 then goes_on (receiver_class m) else
-      if is_storage primitive then or_activate call header (storage m primitive call.arguments) else
-      if is_block primitive then or_activate call header (blocks m primitive call.arguments) else
-      if is_process primitive then or_activate call header (processes m primitive call.arguments) else
-      if is_input primitive then or_activate call header (input m primitive call.arguments) else respond_last call header primitive
+  -- those on objects, blocks, processes and devices
+  unfoldable pub respond_on_objects : ℕ → ℕ → Step H (Option Outcome)
+  respond_on_objects primitive n =
+      if is_storage primitive then if_done outcome.Went (storage m primitive n) else
+      if is_block primitive then if_done outcome.Went (blocks m primitive n) else
+      if is_process primitive then if_done outcome.Went (processes m primitive n) else
+      if is_input primitive then if_done outcome.Went (input m primitive n) else respond_last primitive n
 
-  unfoldable pub respond_by_extension : (ℕ → Step H Outcome) → Call → Step H Outcome
-  respond_by_extension respond call = method_primitive m call.method >>= respond
+  -- those that any receiver has
+  unfoldable pub respond_always : ℕ → ℕ → Step H (Option Outcome)
+  respond_always primitive n =
+      if primitive == 89 then succeeds (goes_on (flush_cache m n)) else
+      if primitive == 110 && n == 1 then succeeds (goes_on (equivalence m)) else
+      if primitive == 111 && n == 0 then succeeds (goes_on (receiver_class m)) else respond_on_objects primitive n
 
-  -- By the header's flag: 5 answers the receiver, which stays; 6 answers the field that the temporary count names; with 7
-  -- there is a header extension, and the method responds by its primitive; with all others the method is activated.
-  unfoldable pub execute_by : (ℕ → Step H Outcome) → Call → Value → ℕ → Step H Outcome
-  execute_by respond call header flag =
+  -- The primitive of this number with n arguments: how it ends, or none where it fails. One that is given another number of
+  -- arguments than its own fails, but 81 and 89 take any number. 83 and 84 fail here, as of what is performed.
+  unfoldable pub respond : ℕ → ℕ → Step H (Option Outcome)
+  respond primitive n =
+      if is_from 1 18 primitive && n == 1 then if_done outcome.Went (arithmetic m primitive) else
+      if is_from 21 36 primitive && n == 1 then if_done outcome.Went (large_arithmetic m primitive) else
+      if primitive == 37 && n == 1 then if_done outcome.Went (shift_large m) else respond_always primitive n
+
+  -- a field of the word at the top takes its place
+  unfoldable pub answer_field : ℕ → Step H Unit
+  answer_field i = do
+    x ← pop m
+    v ← fetch_field m x i
+    push m v
+
+  -- without a primitive: flag 5 answers the receiver, which stays; 6 answers the field that the temporary count names; with
+  -- all others the method is activated
+  unfoldable pub by_flag : Call → Value → ℕ → Step H Outcome
+  by_flag call header flag =
       if flag == 5 then answer outcome.Went else
-      if flag == 6 then goes_on (answer_field (temporary_count header)) else
-      if flag == 7 then respond_by_extension respond call else goes_on (activate m call.method header call.arguments)
+      if flag == 6 then goes_on (answer_field (temporary_count header)) else goes_on (activate m call.method header call.arguments)
 
-  -- a method is executed that 83 or 84 performs: of its primitives these two fail
-  unfoldable pub execute_performed : Call → Step H Outcome
-  execute_performed call = do
+  -- where the primitive failed, the method is activated
+  unfoldable pub or_activate : Call → Value → Option Outcome → Step H Outcome
+  or_activate call header (Some o) = answer o
+  or_activate call header None = goes_on (activate m call.method header call.arguments)
+
+  unfoldable pub respond_by_extension : (ℕ → ℕ → Step H (Option Outcome)) → Call → Value → Step H Outcome
+  respond_by_extension responds call header = do
+    primitive ← method_primitive m call.method
+    o ← responds primitive call.arguments
+    or_activate call header o
+
+  -- A method is executed by its header's flag: with 7 there is a header extension, and the method responds by its primitive.
+  unfoldable pub execute_by : (ℕ → ℕ → Step H (Option Outcome)) → Call → Step H Outcome
+  execute_by responds call = do
     header ← method_header m call.method
-    execute_by (respond call header) call header (flag_of header)
+    if flag_of header == 7 then respond_by_extension responds call header else by_flag call header (flag_of header)
 
   -- 83 and 84, which perform a selector. The method is sought in the receiver's class.
 
@@ -104,10 +123,10 @@ module _ {H : Type 0} (m : ObjectMemory H) where
     taken ← method_arguments m method
     answer (taken == n)
 
-  -- it is executed with the n arguments at the top, or the message isn't understood
+  -- It is executed with the n arguments at the top, or the message isn't understood. Of its primitives 83 and 84 fail.
   unfoldable pub execute_found : Value → Value → ℕ → Option Value → Step H Outcome
-  execute_found class selector n (Some method) = execute_performed (record { method = method; arguments = n })
-  execute_found class selector n None = not_understood m class selector n >>= execute_performed
+  execute_found class selector n (Some method) = execute_by respond (record { method = method; arguments = n })
+  execute_found class selector n None = not_understood m class selector n >>= execute_by respond
 
   -- the selector leaves, which has n arguments above it
   unfoldable pub drop_selector : ℕ → Step H Unit
@@ -126,25 +145,26 @@ module _ {H : Type 0} (m : ObjectMemory H) where
     transfer m n array 0 c (sp - 1)
     set_sp (sp - 2 + n)
 
-  -- where the method doesn't take n arguments, the performing method is activated
-  unfoldable pub perform_if : Call → Value → Value → Value → ℕ → Step H Unit → Option Value → Bool → Step H Outcome
-  perform_if call header class selector n arrange found true = arrange >> execute_found class selector n found
-  perform_if call header class selector n arrange found false = goes_on (activate m call.method header call.arguments)
+  -- the stack is arranged, and the method executed
+  unfoldable pub perform_found : Value → Value → ℕ → Step H Unit → Option Value → Step H (Option Outcome)
+  perform_found class selector n arrange found = do
+    arrange
+    succeeds (execute_found class selector n found)
 
-  -- the selector is performed with n arguments, once these stand at the top
-  unfoldable pub perform : Call → Value → Value → Value → ℕ → Step H Unit → Step H Outcome
-  perform call header receiver selector n arrange = do
+  -- the selector is performed with n arguments, once these stand at the top; where the method doesn't take as many, this fails
+  unfoldable pub perform : Value → Value → ℕ → Step H Unit → Step H (Option Outcome)
+  perform receiver selector n arrange = do
     class ← class_of m receiver
     found ← find m class selector
     fits ← takes n found
-    perform_if call header class selector n arrange found fits
+    if fits then perform_found class selector n arrange found else answer None
 
-  -- 83: the first argument is performed with the others
-  unfoldable pub primitive_perform : Call → Value → ℕ → Step H Outcome
-  primitive_perform call header n = do
+  -- 83: the first of n + 1 arguments is performed with the others
+  unfoldable pub primitive_perform : ℕ → Step H (Option Outcome)
+  primitive_perform n = do
     r ← under m (n + 1)
     a ← under m n
-    perform call header r a n (drop_selector n)
+    perform r a n (drop_selector n)
 
   -- an Array whose fields the active context has room for, in place of selector and Array
   unfoldable pub spreading : Value → Step H ℕ
@@ -157,34 +177,28 @@ module _ {H : Type 0} (m : ObjectMemory H) where
     check dead.Sp (nat_lt (sp - 2 + n) fields)
     answer n
 
-  unfoldable pub perform_with : Call → Value → Value → Value → Value → Option ℕ → Step H Outcome
-  perform_with call header r a b None = goes_on (activate m call.method header call.arguments)
-  perform_with call header r a b (Some n) = perform call header r a n (spread_array b n)
+  unfoldable pub perform_fields : Value → Value → Value → Option ℕ → Step H (Option Outcome)
+  perform_fields r a b None = answer None
+  perform_fields r a b (Some n) = perform r a n (spread_array b n)
 
   -- 84: the first argument is performed with the fields of the second
-  unfoldable pub primitive_perform_with : Call → Value → Step H Outcome
-  primitive_perform_with call header = do
+  unfoldable pub primitive_perform_with : Step H (Option Outcome)
+  primitive_perform_with = do
     r ← under m 2
     a ← under m 1
     b ← top m
     n ← tried (spreading b)
-    perform_with call header r a b n
+    perform_fields r a b n
 
-  unfoldable pub perform_or_activate : Call → Value → ℕ → Step H Outcome
-  perform_or_activate call header (suc n) = primitive_perform call header n
-  perform_or_activate call header zero = goes_on (activate m call.method header call.arguments)
-
-  -- a method of this primitive is executed, which may be 83 or 84
-  unfoldable pub respond_or_perform : Call → Value → ℕ → Step H Outcome
-  respond_or_perform call header primitive =
-      if primitive == 83 then perform_or_activate call header call.arguments else
-      if primitive == 84 && call.arguments == 2 then primitive_perform_with call header else respond call header primitive
+  -- the primitive of this number, which may be 83 or 84
+  unfoldable pub respond_or_perform : ℕ → ℕ → Step H (Option Outcome)
+  respond_or_perform primitive n =
+      if primitive == 83 && nat_lt 0 n then primitive_perform (n - 1) else
+      if primitive == 84 && n == 2 then primitive_perform_with else respond primitive n
 
   -- the method is executed
   unfoldable pub execute : Call → Step H Outcome
-  execute call = do
-    header ← method_header m call.method
-    execute_by (respond_or_perform call header) call header (flag_of header)
+  execute call = execute_by respond_or_perform call
 
   -- what a step calls is executed
   unfoldable pub executed : Step H Call → Step H Outcome

@@ -3,9 +3,7 @@ use Rattle.std.specs.Prelude.{ℕ}
 use Rattle.st_model.specs.declared.demand.Demand.{Demand}
 use Rattle.st_model.specs.declared.outcome.Outcome.{Outcome as CodeOutcome}
 use Rattle.st_model.specs.declared.outcome.Outcome.TheVariants as outcomes
-use Rattle.st_model.specs.declared.outcome.StepEnd.{StepEnd}
-use Rattle.st_model.specs.declared.outcome.StepEnd.TheVariants as ends
-use Rattle.st_model.specs.Values.{Value, value, word, renamed, IsLive}
+use Rattle.st_model.specs.Values.{Value, value, renamed, IsLive}
 
 -- It went on; or something is asked for besides, which is done after the cycle: that an image is saved, that the
 -- bytes of an object are said, that the run ends, or that it ends for a debugger.
@@ -52,11 +50,3 @@ outcome_of outcomes.Snapshot = Snapshot
 outcome_of (outcomes.Say o) = Say (value o)
 outcome_of outcomes.Quit = Quit
 outcome_of outcomes.Debugger = Debugger
-
--- what the end of a step of the code means, whatever it leaves to be done
-abbrev pub end_of : StepEnd → Outcome
-end_of (ends.Went deed) = Went
-end_of (ends.Says w) = Say (word w)
-end_of ends.Snapshot = Snapshot
-end_of ends.Quit = Quit
-end_of ends.Debugger = Debugger

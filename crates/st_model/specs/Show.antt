@@ -40,6 +40,8 @@ IsKept h n = (p : ℕ) × borne h n ≡ Some p
 abbrev pub IsUsed : Table → ℕ → Type 0
 IsUsed c k = (o : Object) × entry c k ≡ Some o
 
+-- For example, birth 40 may bear 617, the half of pointer 1234. Then entry 617 of the table is the object of birth 40, with each birth
+-- that it refers to written as what that birth bears.
 pub record Shows (c : State Table) (s : State Births) : Type 0 where
   pub objects : (n p : ℕ) (o : Object) → borne s.memory n ≡ Some p → object_born s.memory n ≡ Some o
       → entry c.memory p ≡ Some (renamed_object (pointer_of s.memory) o)

@@ -26,7 +26,6 @@ mod oop;
 mod outcome;
 mod page;
 mod place;
-mod tried;
 mod word;
 
 pub use bytecode::{Bytecode, Constant, Operand, decode, extended_operand};
@@ -43,10 +42,9 @@ pub use integers::{IntAnswer, LargeAnswer};
 pub use kind::Kind;
 pub use limits::{LONGEST_IMAGE, MOST_WORDS};
 pub use oop::Oop;
-pub use outcome::{Outcome, StepEnd};
+pub use outcome::Outcome;
 pub use page::PageObject;
 pub use place::RootPlace;
-pub use tried::Tried;
 pub use word::Word;
 
 /// The pointers of nil, false and true, and the words of nil and SmallInteger, are those of the root page.

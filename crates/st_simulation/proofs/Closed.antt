@@ -5,12 +5,15 @@ use Rattle.std.proofs.lemmas.Bool.Decides.{nat_tests}
 use Rattle.st_model.specs.Objects.{Object, place_of, one, renamed_object, IsLiveObject}
 use Rattle.st_model.specs.declared.page.PageObject.{PageObject}
 use Rattle.st_model.specs.Outcomes.{Outcome}
-use Rattle.st_model.specs.Machine.{ObjectMemory, Head, State, Transition, Died, Went, Step, has_room, used, roots_of}
+use Rattle.st_model.specs.Machine.{ObjectMemory, Head, State, Transition, Died, Went, Step, has_room, used, roots_of, ◌>>◌}
 use Rattle.st_model.specs.Table.{Table, table, bounded_table, entry, changed, exchanged, placed, first_none, filled_first, first_free, total_used}
+use Rattle.st_model.specs.Steps.{look_at_words}
+use Rattle.st_model.specs.Executing.{respond_or_perform}
 use Rattle.st_model.specs.Bytecodes.{step}
 use Rattle.st_model.specs.Show.{IsUsed, IsClosed, renamed_head}
 use Rattle.st_model.specs.inside.Foreseen.{IsSound}
 use Rattle.st_simulation.proofs.Same.{never_beyond, Simulation, StateSame, TransitionSame, Same}
+use Rattle.st_simulation.proofs.ExecutingSame.{tried-same}
 use Rattle.st_simulation.proofs.BytecodesSame.{step-same}
 use Rattle.st_simulation.proofs.ContextsSame.{fetch_scheduled_registers-same}
 use Rattle.st_model.specs.Contexts.{fetch_scheduled_registers}
@@ -157,6 +160,12 @@ module _ (a : Head) (P : Table → Type 0) (on_changed : (t : Table) (n : ℕ) (
 
 pub step_closed : (c d : State Table) (o : Outcome) → IsClosed c → (step bounded_table).run c ≡ Went o d → IsClosed d
 step_closed c d o k e = (step_stays c.head (λ t. Unit {0}) (λ t n o p. tt) (λ t o p g. tt) c d o k tt refl e).0
+
+-- so does a primitive by its number
+pub number_closed : (k n : ℕ) (c d : State Table) (o : Option Outcome) → IsClosed c → (look_at_words bounded_table n >> respond_or_perform bounded_table k n).run c ≡ Went o d → IsClosed d
+number_closed k n c d o h e =
+    let s = closed_simulation true c.head (λ t. Unit {0}) (λ t n o p. tt) (λ t o p g. tt) in
+    (stays_closed true c.head (λ t. Unit {0}) (λ t n o p. tt) (λ t o p g. tt) _ _ (look_at_words bounded_table n >> respond_or_perform bounded_table k n) (tried-same s tt k n) c d o h tt refl e).0
 
 -- so does the fetching of registers
 pub fetched_closed : (c d : State Table) → IsClosed c → (fetch_scheduled_registers table).run c ≡ Went tt d → IsClosed d

@@ -1,5 +1,5 @@
 -- Executing a method, sends, returns and the bytecodes meet no name without an object, as the definitions that they use.
-use Rattle.std.proofs.Common.{◌≡◌, ℕ, ◌<◌, zero, suc, length, Option, Some, None, Bool, true, false, sym, ap, arith, inl, inr}
+use Rattle.std.proofs.Common.{◌≡◌, ℕ, ◌<◌, length, Option, Some, None, Bool, true, false, sym, ap, arith, inl, inr}
 use Rattle.std.specs.Prelude.{ℤ}
 use Rattle.st_model.specs.declared.bytecode.Operand.{Operand}
 use Rattle.st_model.specs.declared.bytecode.Operand.TheVariants.{ReceiverVariable, LiteralConstant}
@@ -17,7 +17,7 @@ use Rattle.st_model.specs.Table.{Table}
 use Rattle.st_model.specs.Show.{Shows, IsKept}
 use Rattle.st_model.specs.Methods.{extension_arguments, arguments_by_extension, arguments_by, method_arguments}
 use Rattle.st_model.specs.Sends.{Call}
-use Rattle.st_model.specs.Executing.{answer_field, or_activate, say_or_activate, asks, respond_last, respond, respond_by_extension, execute_by, execute_performed, takes, execute_found, drop_selector, spread_array, perform_if, perform, primitive_perform, spreading, perform_with, primitive_perform_with, perform_or_activate, respond_or_perform, execute, executed, execute_if_any, executed_if_any}
+use Rattle.st_model.specs.Executing.{if_done, succeeds, says, asks, respond_last, respond_on_objects, respond_always, respond, answer_field, by_flag, or_activate, respond_by_extension, execute_by, takes, execute_found, drop_selector, spread_array, perform_found, perform, primitive_perform, spreading, perform_fields, primitive_perform_with, respond_or_perform, execute, executed, execute_if_any, executed_if_any}
 use Rattle.st_model.specs.Returns.{calls, calls_nothing, cannot_return, return_into, return_to_context, return_to, return_to_sender, return_to_caller, must_be_boolean, jump_on}
 use Rattle.st_model.specs.Bytecodes.{fetch_receiver_variable, fetch_temporary_variable, fetch_literal_constant, fetch_literal_variable, fetch_operand, store_receiver_variable, store_temporary_variable, store_literal_variable, store_operand, constant_value, or_send, arithmetic_by, arithmetic_send, primitive_send, rows, bytecode, step}
 use Rattle.st_model.proofs.Names.{map_all, map_object}
@@ -37,44 +37,44 @@ use Rattle.st_simulation.proofs.InputSure.{input-sure}
 module _ (o : Object) (lives : ℕ → Type 0) where
   pub ruleset primitives_sure = (arithmetic-sure, large_arithmetic-sure, shift_large-sure, equivalence-sure, receiver_class-sure, flush_cache-sure, storage-sure, blocks-sure, processes-sure, input-sure)
 
-  or_activate-sure : (n : ℕ) (c : Call) (v : Value) (p p' : Step Births Bool) → CallThere o lives n c → SureAnswer o lives n p p' → SureAnswer o lives n (or_activate bare c v p) (or_activate (full o) c v p')
-  unfolding or_activate
-  or_activate-sure n c v p p' h0 h1 = search (sures, goes_on-sure, activate-sure) depth 24 fits 4000
+  if_done-sure : (n : ℕ) (a : Outcome) (p p' : Step Births Bool) → SureAnswer o lives n p p' → SureAnswer o lives n (if_done a p) (if_done a p')
+  unfolding if_done
+  if_done-sure n a p p' h = search sures depth 16 fits 4000
 
-  say_or_activate-sure : (n : ℕ) (c : Call) (v : Value) → CallThere o lives n c → SureAnswer o lives n (say_or_activate bare c v) (say_or_activate (full o) c v)
-  unfolding say_or_activate
-  say_or_activate-sure n c v h0 = search (parts, goes_on-sure, activate-sure, primitive_say-sure) depth 24 fits 4000
+  succeeds-sure : (n : ℕ) (p p' : Step Births Outcome) → SureAnswer o lives n p p' → SureAnswer o lives n (succeeds p) (succeeds p')
+  unfolding succeeds
+  succeeds-sure n p p' h = search sures depth 16 fits 4000
+
+  says-sure : (n : ℕ) → SureAnswer o lives n (says bare) (says (full o))
+  unfolding says
+  says-sure n = search (parts, if_done-sure, primitive_say-sure) depth 24 fits 4000
 
   asks-sure : (n : ℕ) (a : Outcome) → SureAnswer o lives n (asks bare a) (asks (full o) a)
   unfolding asks
   asks-sure n a = search (parts, answer_with-sure) depth 24 fits 4000
 
-  respond_last-sure : (n : ℕ) (c : Call) (v : Value) (i : ℕ) → CallThere o lives n c → SureAnswer o lives n (respond_last bare c v i) (respond_last (full o) c v i)
+  respond_last-sure : (n k i : ℕ) → SureAnswer o lives n (respond_last bare k i) (respond_last (full o) k i)
   unfolding respond_last
-  respond_last-sure n c v i h0 = search (sures, goes_on-sure, activate-sure, say_or_activate-sure, asks-sure) depth 24 fits 4000
+  respond_last-sure n k i = search (sures, succeeds-sure, says-sure, asks-sure) depth 24 fits 4000
 
-  respond-sure : (n : ℕ) (c : Call) (v : Value) (i : ℕ) → CallThere o lives n c → SureAnswer o lives n (respond bare c v i) (respond (full o) c v i)
-  unfolding respond
-  respond-sure n c v i h0 = search (sures, goes_on-sure, or_activate-sure, respond_last-sure, primitives_sure) depth 24 fits 4000
+  respond-sure : (n k i : ℕ) → SureAnswer o lives n (respond bare k i) (respond (full o) k i)
+  unfolding respond respond_always respond_on_objects
+  respond-sure n k i = search (sures, goes_on-sure, if_done-sure, succeeds-sure, respond_last-sure, primitives_sure) depth 24 fits 4000
 
-  -- what responds to a primitive does so from here on, and later
-  record Responds (n : ℕ) (f f' : ℕ → Step Births Outcome) : Type 0 where
-    at : (m : ℕ) → Later o lives n m → (k : ℕ) → SureAnswer o lives m (f k) (f' k)
+  by_flag-sure : (n : ℕ) (c : Call) (v : Value) (flag : ℕ) → CallThere o lives n c → SureAnswer o lives n (by_flag bare c v flag) (by_flag (full o) c v flag)
+  unfolding by_flag answer_field
+  by_flag-sure n c v flag h = search (parts, goes_on-sure, activate-sure) depth 24 fits 4000
 
-  responds-sure : (n m : ℕ) (f f' : ℕ → Step Births Outcome) (k : ℕ) → Later o lives n m → Responds n f f' → SureAnswer o lives m (f k) (f' k)
-  responds-sure n m f f' k l h = h.at m l k
+  or_activate-sure : (n : ℕ) (c : Call) (v : Value) (a : Option Outcome) → CallThere o lives n c → SureAnswer o lives n (or_activate bare c v a) (or_activate (full o) c v a)
+  unfolding or_activate
+  or_activate-sure n c v None h = search (goes_on-sure, activate-sure) depth 24 fits 4000
+  or_activate-sure n c v (Some a) h = answer_itself-sure o lives n _
 
-  execute_by-sure : (n : ℕ) (f f' : ℕ → Step Births Outcome) (c : Call) (v : Value) (flag : ℕ) → Responds n f f' → CallThere o lives n c
-      → SureAnswer o lives n (execute_by bare f c v flag) (execute_by (full o) f' c v flag)
-  unfolding execute_by respond_by_extension answer_field
-  execute_by-sure n f f' c v flag h0 h1 = search (headers, goes_on-sure, responds-sure, activate-sure) depth 32 fits 4000
-
-  response_later : (n : ℕ) (c : Call) (v : Value) → CallThere o lives n c → Responds n (respond bare c v) (respond (full o) c v)
-  response_later n c v h = record { at = λ m l k. respond-sure m c v k (later_call o lives n m c l h) }
-
-  execute_performed-sure : (n : ℕ) (c : Call) → CallThere o lives n c → SureAnswer o lives n (execute_performed bare c) (execute_performed (full o) c)
-  unfolding execute_performed
-  execute_performed-sure n c h0 = search (headers, execute_by-sure, response_later) depth 24 fits 4000
+  -- by what responds to a primitive
+  module _ (f f' : ℕ → ℕ → Step Births (Option Outcome)) (responds : (n k i : ℕ) → SureAnswer o lives n (f k i) (f' k i)) where
+    execute_by-sure : (n : ℕ) (c : Call) → CallThere o lives n c → SureAnswer o lives n (execute_by bare f c) (execute_by (full o) f' c)
+    unfolding execute_by respond_by_extension
+    execute_by-sure n c h = search (headers, responds, or_activate-sure, by_flag-sure) depth 32 fits 4000
 
   -- 83 and 84
 
@@ -108,11 +108,14 @@ module _ (o : Object) (lives : ℕ → Type 0) where
   unfolding spreading
   spreading-sure n v h0 = search (parts, check_class-sure) depth 32 fits 4000
 
+  performed-sure : (n : ℕ) (c : Call) → CallThere o lives n c → SureAnswer o lives n (execute_by bare (respond bare) c) (execute_by (full o) (respond (full o)) c)
+  performed-sure n c h = execute_by-sure (respond bare) (respond (full o)) respond-sure n c h
+
   execute_found-sure : (n : ℕ) (c s : Value) (i : ℕ) (a : Option Value) → There o lives n c → There o lives n s → ThereIfAny o lives n a
       → SureAnswer o lives n (execute_found bare c s i a) (execute_found (full o) c s i a)
   unfolding execute_found
-  execute_found-sure n c s i None h0 h1 h2 = search (sures, not_understood-sure, execute_performed-sure) depth 24 fits 4000
-  execute_found-sure n c s i (Some m) h0 h1 h2 = execute_performed-sure n _ (record { method = record { live = h2.live } })
+  execute_found-sure n c s i None h0 h1 h2 = search (sures, not_understood-sure, performed-sure) depth 24 fits 4000
+  execute_found-sure n c s i (Some m) h0 h1 h2 = performed-sure n _ (record { method = record { live = h2.live } })
 
   -- the stack is arranged so from here on, and later
   record Arranges (n : ℕ) (p p' : Step Births Unit) : Type 0 where
@@ -124,19 +127,17 @@ module _ (o : Object) (lives : ℕ → Type 0) where
   arranged-sure : (n : ℕ) (p p' : Step Births Unit) → Arranges n p p' → SureAnswer o lives n p p'
   arranged-sure n p p' h = h.at n (record { is = omega arith })
 
-  perform_if-sure : (n : ℕ) (c : Call) (v e s : Value) (i : ℕ) (p p' : Step Births Unit) (a : Option Value) (fits : Bool)
-      → CallThere o lives n c → There o lives n e → There o lives n s → Arranges n p p' → ThereIfAny o lives n a
-      → SureAnswer o lives n (perform_if bare c v e s i p a fits) (perform_if (full o) c v e s i p' a fits)
-  unfolding perform_if
-  perform_if-sure n c v e s i p p' a true h0 h1 h2 h3 h4 =
+  perform_found-sure : (n : ℕ) (e s : Value) (i : ℕ) (p p' : Step Births Unit) (a : Option Value) → There o lives n e → There o lives n s → Arranges n p p' → ThereIfAny o lives n a
+      → SureAnswer o lives n (perform_found bare e s i p a) (perform_found (full o) e s i p' a)
+  unfolding perform_found
+  perform_found-sure n e s i p p' a h1 h2 h3 h4 =
       then_unit-sure o lives _ n p p' _ _ (arranged-sure n p p' h3)
-      (λ m l. execute_found-sure m e s i a (later_value o lives n m e l h1) (later_value o lives n m s l h2) (later_option o lives n m a l h4))
-  perform_if-sure n c v e s i p p' a false h0 h1 h2 h3 h4 = search (sures, goes_on-sure, activate-sure) depth 24 fits 4000
+      (λ m l. succeeds-sure m _ _ (execute_found-sure m e s i a (later_value o lives n m e l h1) (later_value o lives n m s l h2) (later_option o lives n m a l h4)))
 
-  perform-sure : (n : ℕ) (c : Call) (v r s : Value) (i : ℕ) (p p' : Step Births Unit) → CallThere o lives n c → There o lives n r → There o lives n s → Arranges n p p'
-      → SureAnswer o lives n (perform bare c v r s i p) (perform (full o) c v r s i p')
+  perform-sure : (n : ℕ) (r s : Value) (i : ℕ) (p p' : Step Births Unit) → There o lives n r → There o lives n s → Arranges n p p'
+      → SureAnswer o lives n (perform bare r s i p) (perform (full o) r s i p')
   unfolding perform
-  perform-sure n c v r s i p p' h0 h1 h2 h3 = search (parts, find-sure, takes-sure, later_arranges, perform_if-sure) depth 32 fits 4000
+  perform-sure n r s i p p' h1 h2 h3 = search (parts, find-sure, takes-sure, later_arranges, perform_found-sure) depth 32 fits 4000
 
   selector_dropped : (n i : ℕ) → Arranges n (drop_selector bare i) (drop_selector (full o) i)
   selector_dropped n i = record { at = λ m l. drop_selector-sure m i }
@@ -144,35 +145,27 @@ module _ (o : Object) (lives : ℕ → Type 0) where
   array_spread : (n : ℕ) (v : Value) (i : ℕ) → There o lives n v → Arranges n (spread_array bare v i) (spread_array (full o) v i)
   array_spread n v i h = record { at = λ m l. spread_array-sure m v i (later_value o lives n m v l h) }
 
-  primitive_perform-sure : (n : ℕ) (c : Call) (v : Value) (i : ℕ) → CallThere o lives n c → SureAnswer o lives n (primitive_perform bare c v i) (primitive_perform (full o) c v i)
+  primitive_perform-sure : (n i : ℕ) → SureAnswer o lives n (primitive_perform bare i) (primitive_perform (full o) i)
   unfolding primitive_perform
-  primitive_perform-sure n c v i h0 = search (parts, selector_dropped, perform-sure) depth 32 fits 4000
+  primitive_perform-sure n i = search (parts, selector_dropped, perform-sure) depth 32 fits 4000
 
-  perform_with-sure : (n : ℕ) (c : Call) (v r a b : Value) (i : Option ℕ) → CallThere o lives n c → There o lives n r → There o lives n a → There o lives n b
-      → SureAnswer o lives n (perform_with bare c v r a b i) (perform_with (full o) c v r a b i)
-  unfolding perform_with
-  perform_with-sure n c v r a b None h0 h1 h2 h3 = search (sures, goes_on-sure, activate-sure) depth 24 fits 4000
-  perform_with-sure n c v r a b (Some i) h0 h1 h2 h3 = perform-sure n c v r a i _ _ h0 h1 h2 (array_spread n b i h3)
+  perform_fields-sure : (n : ℕ) (r a b : Value) (i : Option ℕ) → There o lives n r → There o lives n a → There o lives n b
+      → SureAnswer o lives n (perform_fields bare r a b i) (perform_fields (full o) r a b i)
+  unfolding perform_fields
+  perform_fields-sure n r a b None h1 h2 h3 = answer_itself-sure o lives n _
+  perform_fields-sure n r a b (Some i) h1 h2 h3 = perform-sure n r a i _ _ h1 h2 (array_spread n b i h3)
 
-  primitive_perform_with-sure : (n : ℕ) (c : Call) (v : Value) → CallThere o lives n c → SureAnswer o lives n (primitive_perform_with bare c v) (primitive_perform_with (full o) c v)
+  primitive_perform_with-sure : (n : ℕ) → SureAnswer o lives n (primitive_perform_with bare) (primitive_perform_with (full o))
   unfolding primitive_perform_with
-  primitive_perform_with-sure n c v h0 = search (parts, spreading-sure, perform_with-sure) depth 32 fits 4000
+  primitive_perform_with-sure n = search (parts, spreading-sure, perform_fields-sure) depth 32 fits 4000
 
-  perform_or_activate-sure : (n : ℕ) (c : Call) (v : Value) (i : ℕ) → CallThere o lives n c → SureAnswer o lives n (perform_or_activate bare c v i) (perform_or_activate (full o) c v i)
-  unfolding perform_or_activate
-  perform_or_activate-sure n c v zero h0 = search (sures, goes_on-sure, activate-sure) depth 24 fits 4000
-  perform_or_activate-sure n c v (suc i) h0 = primitive_perform-sure n c v i h0
-
-  respond_or_perform-sure : (n : ℕ) (c : Call) (v : Value) (i : ℕ) → CallThere o lives n c → SureAnswer o lives n (respond_or_perform bare c v i) (respond_or_perform (full o) c v i)
+  respond_or_perform-sure : (n k i : ℕ) → SureAnswer o lives n (respond_or_perform bare k i) (respond_or_perform (full o) k i)
   unfolding respond_or_perform
-  respond_or_perform-sure n c v i h0 = search (sures, perform_or_activate-sure, primitive_perform_with-sure, respond-sure) depth 24 fits 4000
-
-  answer_later : (n : ℕ) (c : Call) (v : Value) → CallThere o lives n c → Responds n (respond_or_perform bare c v) (respond_or_perform (full o) c v)
-  answer_later n c v h = record { at = λ m l k. respond_or_perform-sure m c v k (later_call o lives n m c l h) }
+  respond_or_perform-sure n k i = search (sures, primitive_perform-sure, primitive_perform_with-sure, respond-sure) depth 24 fits 4000
 
   execute-sure : (n : ℕ) (c : Call) → CallThere o lives n c → SureAnswer o lives n (execute bare c) (execute (full o) c)
   unfolding execute
-  execute-sure n c h0 = search (headers, execute_by-sure, answer_later) depth 24 fits 4000
+  execute-sure n c h = execute_by-sure (respond_or_perform bare) (respond_or_perform (full o)) respond_or_perform-sure n c h
 
   pub executed-sure : (n : ℕ) (m m' : Step Births Call) → SureCall o lives n m m' → SureAnswer o lives n (executed bare m) (executed (full o) m')
   unfolding executed

@@ -25,6 +25,7 @@ pub mod Bounded
 pub mod Closed
 pub mod Going
 pub mod OnTop
+mod SaidBytes
 pub mod CyclesSame
 pub mod Outside
 pub mod Reclaimed

@@ -5,7 +5,7 @@
 ghost use Rattle.st_model.specs.Table.{bounded_table};
 ghost use Rattle.st_model.specs.Bytecodes.{step};
 ghost use Rattle.st_model.specs.inside.Foreseen.{KeepsClosed};
-ghost use Rattle.st_simulation.specs.inside.Laws.{ApartForetells, BoundedDoes, StepMissesNothing, SwitchMissesNothing, StoreMissesNothing, RunsShow, RunsCount, StartShows, EventShows, SaveShows, KeptAreWords};
+ghost use Rattle.st_simulation.specs.inside.Laws.{ApartForetells, BoundedDoes, StepMissesNothing, SwitchMissesNothing, StoreMissesNothing, RunsShow, RunsCount, StartShows, EventShows, SaveShows, KeptAreWords, SaysBytes, PrimitivesKeepClosed, PrimitivesSayTop};
 
 /// The first law that joins the book's machine to the code's: a step that is foreseen over a table of 32768 places, where
 /// new objects stand apart, ends as the step over the births that the table shows: it dies of the same cause, or goes on with
@@ -20,9 +20,12 @@ pub fn bounded_does_as_births()
     ensures { BoundedDoes }
 {}
 
-/// What the bounded table's step keeps was there: it leaves a table closed in which nothing dangles.
+/// What the bounded table's step keeps was there: it leaves a table closed in which nothing dangles. So does a primitive by its
+/// number, and what this says is the word at the top of the stack.
 pub fn bounded_stays_closed()
-    ensures { KeepsClosed (step bounded_table) }
+    ensures bytecode { KeepsClosed (step bounded_table) }
+    ensures primitive { PrimitivesKeepClosed }
+    ensures says { PrimitivesSayTop }
 {}
 
 /// A step over births that some table shows meets no name without an object: whatever object stood for such a name, it would
@@ -61,4 +64,9 @@ pub fn save_shows_births()
 /// A SmallInteger in a kept object over births has at most 15 bits, as in the table that shows it.
 pub fn kept_are_words()
     ensures { KeptAreWords }
+{}
+
+/// What a cycle says is an object of kind Bytes, so a line `say` has its bytes.
+pub fn what_is_said_is_bytes()
+    ensures { SaysBytes }
 {}

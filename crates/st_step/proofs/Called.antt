@@ -20,7 +20,8 @@ use Rattle.st_frames.specs.inside.Rows.{row_state, registers_in}
 use Rattle.st_frames.specs.declared.frame.Frame.{Frame}
 use Rattle.st_frames.specs.inside.Shown.{shown, registers_of}
 use Rattle.st_input.specs.declared.tried.Tried.{Tried}
-use Rattle.st_step.specs.inside.Trying.{tried_number, is_said_there, names_what_is_there, try_primitive, outcome_if_any, deed_if_any, outcome_of_trial}
+use Rattle.st_step.specs.inside.Trying.{tried_number, is_said_there, names_what_is_there, try_primitive, outcome_of_trial}
+use Rattle.st_step.specs.inside.Responding.{outcome_if_any, deed_if_any}
 use Rattle.st_step.proofs.Failing.{failed_still}
 use Rattle.st_step.proofs.Stepped.{from_row}
 

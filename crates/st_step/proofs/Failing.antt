@@ -18,8 +18,8 @@ use Rattle.st_model.specs.Storage.{primitive_at, primitive_at_put, primitive_siz
 use Rattle.st_model.specs.Blocks.{primitive_block_copy, value_with_words, value_if_any, start_of, primitive_value, passing, value_with_fields, value_with_if_any, primitive_value_with, blocks, Passing}
 use Rattle.st_model.specs.Processes.{primitive_signal, primitive_wait, primitive_resume, primitive_suspend, processes}
 use Rattle.st_model.specs.Input.{primitive_mouse_point, primitive_move_mouse, primitive_link_cursor, primitive_input_semaphore, primitive_sample_interval, primitive_input_word, primitive_second_clock, primitive_millisecond_clock, primitive_timer, primitive_be_cursor, primitive_be_display, primitive_low_space, input}
-use Rattle.st_model.specs.Executing.{takes, spreading}
-use Rattle.st_step.specs.inside.Trying.{went_if, if_done, succeeds, said_if, says, perform_if_fits, performs, performs_first, performs_selector, performs_spread, performs_with, last_number, number_on_objects, number_behind, number_that_responds, by_number, tried_number}
+use Rattle.st_model.specs.Executing.{if_done, succeeds, says, respond_last, respond_on_objects, respond_always, respond, takes, perform_found, perform, primitive_perform, spreading, perform_fields, primitive_perform_with, respond_or_perform}
+use Rattle.st_step.specs.inside.Trying.{tried_number}
 
 -- a step that only reads
 record Reads {A : Type 0} (n : Step Table A) : Type 0 where
@@ -338,50 +338,36 @@ module _ (m : ObjectMemory Table) where
   none_read : Stays (answer {H = Table} {A = Option Outcome} None) None
   none_read = stay_read _ _ (read_answer None)
 
-  went_after : (s t : State Table) (x : Transition (State Table) Bool) → ((u : State Table) → x ≡ Went false u → u ≡ s) → after x (λ b u. (answer (went_if b)).run u) ≡ Went None t → t ≡ s
+  done_after : (o : Outcome) (s t : State Table) (x : Transition (State Table) Bool) → ((u : State Table) → x ≡ Went false u → u ≡ s)
+      → after x (λ b u. (if b then answer (Some o) else answer None).run u) ≡ Went None t → t ≡ s
   unfolding after answer
-  went_after s t (Died k) h e = cc
-  went_after s t (Went true u) h e = cc
-  went_after s t (Went false u) h e = let q : u ≡ t = cc in sym q ∙ h u refl
+  done_after o s t (Died k) h e = cc
+  done_after o s t (Went true u) h e = cc
+  done_after o s t (Went false u) h e = let q : u ≡ t = cc in sym q ∙ h u refl
 
-  if_done_stays : (p : Step Table Bool) → Stays p false → Stays (if_done p) None
+  if_done_stays : (o : Outcome) (p : Step Table Bool) → Stays p false → Stays (if_done o p) None
   unfolding if_done ◌>>=◌
-  if_done_stays p h = record { still = λ s t e. went_after s t (p.run s) (λ u q. h.still s u q) e }
+  if_done_stays o p h = record { still = λ s t e. done_after o s t (p.run s) (λ u q. h.still s u q) e }
 
   say_stays : (r : Value) → Stays (primitive_say m r) false
   unfolding primitive_say
   say_stays r = primitive_stays _ _ _
 
-  said_after : (r : Value) (s t : State Table) (x : Transition (State Table) Bool) → ((u : State Table) → x ≡ Went false u → u ≡ s) → after x (λ b u. (answer (said_if r b)).run u) ≡ Went None t → t ≡ s
-  unfolding after answer
-  said_after r s t (Died k) h e = cc
-  said_after r s t (Went true u) h e = cc
-  said_after r s t (Went false u) h e = let q : u ≡ t = cc in sym q ∙ h u refl
-
-  said_stays : (r : Value) → Stays (primitive_say m r >>= (λ b. answer (said_if r b))) None
-  unfolding ◌>>=◌
-  said_stays r = record { still = λ s t e. said_after r s t ((primitive_say m r).run s) (λ u q. (say_stays r).still s u q) e }
-
   says_stays : Stays (says m) None
   unfolding says
-  says_stays = stay_then _ _ _ read_top said_stays
+  says_stays = stay_then _ _ _ read_top (λ r. if_done_stays _ _ (say_stays r))
 
-  performs_if_stays : (class selector : Value) (n : ℕ) (p : Step Table Unit) (found : Option Value) (fits : Bool) → Stays (perform_if_fits m class selector n p found fits) None
-  unfolding perform_if_fits
-  performs_if_stays class selector n p found true = stay_never _ _ (never_next _ _ _ (succeeds_never _))
-  performs_if_stays class selector n p found false = none_read
+  performs_stays : (r a : Value) (n : ℕ) (p : Step Table Unit) → Stays (perform m r a n p) None
+  unfolding perform perform_found
+  performs_stays r a n p = stay_then _ _ _ (read_class r) (λ class. stay_then _ _ _ (read_find class a) (λ found. stay_then _ _ _ (read_takes n found)
+      (λ fits. stay_if _ _ _ _ (stay_never _ _ (never_next _ _ _ (succeeds_never _))) none_read)))
 
-  performs_stays : (r a : Value) (n : ℕ) (p : Step Table Unit) → Stays (performs m r a n p) None
-  unfolding performs
-  performs_stays r a n p = stay_then _ _ _ (read_class r) (λ class. stay_then _ _ _ (read_find class a) (λ found. stay_then _ _ _ (read_takes n found) (λ fits. performs_if_stays class a n p found fits)))
+  selector_stays : (n : ℕ) → Stays (primitive_perform m n) None
+  unfolding primitive_perform
+  selector_stays n = stay_then _ _ _ (read_under (n + 1)) (λ r. stay_then _ _ _ (read_under n) (λ a. performs_stays r a n _))
 
-  selector_stays : (n : ℕ) → Stays (performs_selector m n) None
-  unfolding performs_selector performs_first
-  selector_stays zero = none_read
-  selector_stays (suc n) = stay_then _ _ _ (read_under (n + 1)) (λ r. stay_then _ _ _ (read_under n) (λ a. performs_stays r a n _))
-
-  spread_after : (r a b : Value) (s t : State Table) (x : Transition (State Table) ℕ) → ((n : ℕ) (u : State Table) → x ≡ Went n u → u ≡ s) → after (or_left s x) (λ n u. (performs_spread m r a b n).run u) ≡ Went None t → t ≡ s
-  unfolding after performs_spread
+  spread_after : (r a b : Value) (s t : State Table) (x : Transition (State Table) ℕ) → ((n : ℕ) (u : State Table) → x ≡ Went n u → u ≡ s) → after (or_left s x) (λ n u. (perform_fields m r a b n).run u) ≡ Went None t → t ≡ s
+  unfolding after perform_fields
   spread_after r a b s t (Died k) h e = none_read.still s t e
   spread_after r a b s t (Went n u) h e = (performs_stays r a n _).still u t e ∙ h n u refl
 
@@ -389,18 +375,18 @@ module _ (m : ObjectMemory Table) where
   unfolding spreading check_class count_fields
   read_spreading b = search (bases, read_class) depth 32 fits 4000
 
-  spread_stays : (r a b : Value) → Stays (tried (spreading m b) >>= (λ n. performs_spread m r a b n)) None
+  spread_stays : (r a b : Value) → Stays (tried (spreading m b) >>= (λ n. perform_fields m r a b n)) None
   unfolding tried ◌>>=◌
   spread_stays r a b = record { still = λ s t e. spread_after r a b s t ((spreading m b).run s) (λ n u q. (read_spreading b).still s u n q) e }
 
-  with_stays : Stays (performs_with m) None
-  unfolding performs_with
+  with_stays : Stays (primitive_perform_with m) None
+  unfolding primitive_perform_with
   with_stays = stay_then _ _ _ (read_under 2) (λ r. stay_then _ _ _ (read_under 1) (λ a. stay_then _ _ _ read_top (λ b. spread_stays r a b)))
 
-  number_stays : (k n : ℕ) → Stays (by_number m k n) None
-  unfolding by_number number_that_responds number_behind number_on_objects last_number
+  number_stays : (k n : ℕ) → Stays (respond_or_perform m k n) None
+  unfolding respond_or_perform respond respond_always respond_on_objects respond_last
   number_stays k n = search (stay_if, if_done_stays, succeeds_stays, none_read, says_stays, selector_stays, with_stays, arithmetic_stays, large_stays, shift_stays, storage_stays, blocks_stays, processes_stays, input_stays) depth 32 fits 8000
 
   pub failed_still : (k n : ℕ) (s t : State Table) → (tried_number m k n).run s ≡ Went None t → t ≡ s
   unfolding tried_number ◌>>◌
-  failed_still k n s t e = (stay_then (look_at_words m n) (λ u. by_number m k n) None (read_words n) (λ u. number_stays k n)).still s t e
+  failed_still k n s t e = (stay_then (look_at_words m n) (λ u. respond_or_perform m k n) None (read_words n) (λ u. number_stays k n)).still s t e

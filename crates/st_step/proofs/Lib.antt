@@ -5,5 +5,4 @@ pub mod Said
 pub mod Performed
 mod Failing
 mod Called
-pub mod Executes
 pub mod NumberChanges

@@ -14,7 +14,8 @@ use Rattle.st_frames.specs.declared.tried.Tried.{Tried}
 use Rattle.st_frames.specs.declared.tried.Tried.TheVariants.{Failed, Done, Leaves}
 use Rattle.st_frames.specs.inside.Rows.{Takes, with_left, is_done, deed_of_trial, tried_changes, storage_changes, response_changes, execution_changes}
 use Rattle.st_frames.proofs.Doing.{rows}
-use Rattle.st_step.specs.inside.Trying.{if_done, says, end_of_trial, outcome_if_any, deed_if_any, number_changes}
+use Rattle.st_model.specs.Executing.{if_done, says}
+use Rattle.st_step.specs.inside.Responding.{end_of_trial, outcome_if_any, deed_if_any, number_changes}
 
 -- one that performs nothing makes no more than one that may
 pub responds_within : {M : Type 0} (o : Ghosts M) (x : Result (Option RowEnd) Dead) (old new : M) → Takes o (number_changes response_changes x) old new → Takes o (number_changes execution_changes x) old new
@@ -24,7 +25,7 @@ responds_within o (Err cause) old new t = record { room = omega (arith, t.room);
 
 -- one that its family tried is done, or failed
 pub tried_ends : (p : Step Table Bool) (t : Tried) (s u : State Table) (q : Words) (x : Option RowEnd) → p.run s ≡ Went (is_done t) (with_left (deed_of_trial q.left) (Ok t) u) → x ≡ end_of_trial t
-    → (if_done p).run s ≡ Went (outcome_if_any q x) (with_left (deed_if_any q) (Ok x) u)
+    → (if_done outcome.Went p).run s ≡ Went (outcome_if_any q x) (with_left (deed_if_any q) (Ok x) u)
 unfolding if_done ◌>>=◌ after answer
 tried_ends p Failed s u q x e f = rw (e, f) refl
 tried_ends p Done s u q x e f = rw (e, f) refl
@@ -44,7 +45,7 @@ takes_tried o n Leaves x old new e l k = subst (λ y. Takes o (number_changes re
 
 -- one that has the receiver's bytes said
 pub says_done : (m : ObjectMemory Table) (v : Value) (b : Bool) (s t : State Table) → b ≡ true → (top m).run s ≡ Went v s → (primitive_say m v).run s ≡ Went b t → (says m).run s ≡ Went (Some (outcome.Say v)) t
-unfolding says ◌>>=◌ after answer
+unfolding says if_done ◌>>=◌ after answer
 says_done m v b s t done receiver said = rw (receiver, said, done) refl
 
 -- a primitive that its family tries

@@ -1,5 +1,5 @@
--- How a selector is performed, by the number of arguments and by the condition on an Array.
-use Rattle.std.proofs.Common.{◌≡◌, ◌≢◌, ◌<◌, ◌≤◌, ◌+◌, ℕ, zero, suc, refl, arith, Option, None}
+-- How a selector is performed with the fields of an Array, by the condition on that.
+use Rattle.std.proofs.Common.{◌≡◌, ◌<◌, ◌≤◌, ◌+◌, ℕ, refl, Option, None}
 use Rattle.std.specs.Prelude.{◌-◌}
 use Rattle.st_model.specs.declared.dead.Dead.{Dead}
 use Rattle.st_model.specs.declared.dead.Dead.TheVariants as dead
@@ -9,36 +9,22 @@ use Rattle.st_model.specs.Outcomes.{Outcome}
 use Rattle.st_model.specs.Machine.{ObjectMemory, Head, State, Transition, Died, Went, answer, after, ◌>>=◌, ◌>>◌}
 use Rattle.st_model.specs.Steps.{count_fields, top, under}
 use Rattle.st_model.specs.Primitives.{check_class}
-use Rattle.st_model.specs.Executing.{spread_array, spreading}
+use Rattle.st_model.specs.Executing.{spread_array, perform, spreading, perform_fields, primitive_perform_with}
 use Rattle.st_model.specs.Table.{Table}
-use Rattle.st_step.specs.inside.Trying.{performs, performs_first, performs_selector, performs_spread, performs_with}
 use Rattle.st_model.proofs.Runs.{check-below, check-not_below, run-tried_went, run-tried_died}
 use Rattle.st_frames.specs.declared.registers.Registers.{Registers as Words}
 use Rattle.st_frames.specs.inside.Rows.{row_state}
-use Rattle.st_frames.proofs.Doing.{rows, row-memory, row-active, row-sp}
-
--- 83 that is tried
-pub performs-none : (m : ObjectMemory Table) (n : ℕ) (s : State Table) → n ≡ 0 → (performs_selector m n).run s ≡ Went None s
-unfolding performs_selector answer
-performs-none m zero s e = refl
-performs-none m (suc n) s e = cc
-
-pub performs-more : (m : ObjectMemory Table) (n : ℕ) (s : State Table) → n ≢ 0 → (performs_selector m n).run s ≡ (performs_first m (n - 1)).run s
-unfolding performs_selector
-performs-more m zero s d = absurd (d refl)
-performs-more m (suc n) s d = let f : suc n - 1 ≡ n = omega arith in rw f refl
-
-pub ruleset selectors = (rows, performs-none, performs-more)
+use Rattle.st_frames.proofs.Doing.{row-memory, row-active, row-sp}
 
 -- 84 that is tried
 module _ (m : ObjectMemory Table) (v w b : Value) (s : State Table)
     (receiver : (under m 2).run s ≡ Went v s) (selector : (under m 1).run s ≡ Went w s) (array : (top m).run s ≡ Went b s) where
-  pub spread-performs : (z : Transition (State Table) (Option Outcome)) (n : ℕ) → (spreading m b).run s ≡ Went n s → (performs m v w n (spread_array m b n)).run s ≡ z → (performs_with m).run s ≡ z
-  unfolding performs_with performs_spread ◌>>=◌ after
+  pub spread-performs : (z : Transition (State Table) (Option Outcome)) (n : ℕ) → (spreading m b).run s ≡ Went n s → (perform m v w n (spread_array m b n)).run s ≡ z → (primitive_perform_with m).run s ≡ z
+  unfolding primitive_perform_with perform_fields ◌>>=◌ after
   spread-performs z n e k = rw (receiver, selector, array, run-tried_went (spreading m b) s s n e) k
 
-  pub spread-fails : (k : Dead) → (spreading m b).run s ≡ Died k → (performs_with m).run s ≡ Went None s
-  unfolding performs_with performs_spread ◌>>=◌ after answer
+  pub spread-fails : (k : Dead) → (spreading m b).run s ≡ Died k → (primitive_perform_with m).run s ≡ Went None s
+  unfolding primitive_perform_with perform_fields ◌>>=◌ after answer
   spread-fails k e = rw (receiver, selector, array, run-tried_died (spreading m b) s k e) refl
 
 -- the fields of an Array that the active context has room for, or hasn't

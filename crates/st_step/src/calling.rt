@@ -2,7 +2,7 @@ ghost use Rattle.std.specs.Prelude.{◌≡◌, true, false, IfOk, IfErr};
 ghost use Rattle.st_model.specs.{declared.dead.Dead.TheVariants.Kind, Steps.are_there};
 ghost use Rattle.st_model.specs.{Table.{table, bounded_table}, inside.Calls.Does};
 ghost use Rattle.st_frames.specs.{inside.Rows.registers_in, inside.Shown.{IsReady, shown}};
-ghost use Rattle.st_step.specs.inside.Trying.{try_primitive, is_said_there, outcome_if_any, outcome_of_trial, IsStill};
+ghost use Rattle.st_step.specs.inside.{Trying.{try_primitive, is_said_there, outcome_of_trial, IsStill}, Responding.outcome_if_any};
 
 use crate::numbers::tried_number;
 use crate::stepping::deed_in;

@@ -4,7 +4,7 @@ ghost use Rattle.st_model.specs.Executing.{execute, execute_if_any};
 ghost use Rattle.st_frames.specs.inside.Rows.{RowEnds, Takes, execution_changes};
 
 use crate::flags::{activated, by_flag};
-use crate::numbers::by_number;
+use crate::numbers::respond_or_perform;
 use st_control::{Called, method_primitive};
 use st_frames::{Registers, RowEnd};
 use st_memory::Objects;
@@ -12,7 +12,7 @@ use st_method::Header;
 use st_model::{Call, Dead};
 
 /// Executes the method that was called.
-#[tactic(auto, using(crate::proofs::Executes::responses), unfolding(st_model::specs::Executing::execute, st_model::specs::Executing::execute_by, st_model::specs::Executing::respond_by_extension, crate::specs::inside::Responding::by_flag, crate::specs::inside::Trying::or_activated))]
+#[tactic(auto, using(st_frames::proofs::Doing::rows), unfolding(st_model::specs::Executing::execute, st_model::specs::Executing::execute_by, st_model::specs::Executing::respond_by_extension, st_model::specs::Executing::or_activate))]
 pub fn execute<O: Objects>(m: &mut O, r: &mut Registers, call: Call) -> Result<RowEnd, Dead>
     requires room { execution_changes ≤ O.room m.old }
     ensures does { RowEnds O.Objects.own (execute O.names (call_of call)) m.old r.old result m.new r.new }
@@ -24,7 +24,7 @@ pub fn execute<O: Objects>(m: &mut O, r: &mut Registers, call: Call) -> Result<R
         return by_flag(m, r, called);
     }
     let primitive = method_primitive(m, r, call.method)?;
-    match by_number(m, r, primitive, call.arguments)? {
+    match respond_or_perform(m, r, primitive, call.arguments)? {
         Some(end) => Ok(end),
         None => activated(m, r, called),
     }

@@ -1,7 +1,6 @@
 ghost use Rattle.std.specs.Prelude.{◌≤◌};
 ghost use Rattle.st_model.specs.{Values.word, Sends.call_of};
-ghost use Rattle.st_model.specs.{Executing.goes_on, Contexts.activate, Methods.flag_of};
-ghost use Rattle.st_step.specs.inside.Responding.{by_flag};
+ghost use Rattle.st_model.specs.{Executing.{goes_on, by_flag}, Contexts.activate, Methods.flag_of};
 ghost use Rattle.st_frames.specs.inside.Rows.{RowEnds, Takes, activation_changes};
 
 use st_control::{Called, activate, answer_field};
@@ -23,7 +22,7 @@ pub fn activated<O: Objects>(m: &mut O, r: &mut Registers, called: Called) -> Re
 }
 
 /// A method that has no header extension is executed by its flag.
-#[tactic(auto, using(st_frames::proofs::Doing::rows), unfolding(crate::specs::inside::Responding::by_flag, st_model::specs::Executing::goes_on))]
+#[tactic(auto, using(st_frames::proofs::Doing::rows), unfolding(st_model::specs::Executing::by_flag, st_model::specs::Executing::goes_on))]
 pub fn by_flag<O: Objects>(m: &mut O, r: &mut Registers, called: Called) -> Result<RowEnd, Dead>
     requires room { activation_changes ≤ O.room m.old }
     ensures does { RowEnds O.Objects.own (by_flag O.names

@@ -6,7 +6,6 @@ mod calling;
 mod execute;
 mod flags;
 mod jump;
-mod laws;
 mod numbers;
 mod perform;
 mod returns;
@@ -15,6 +14,5 @@ mod send;
 mod stepping;
 
 pub use calling::try_primitive;
-pub use laws::execution_tries_by_number;
-pub use rows::{bytecode, step_row};
-pub use stepping::{deed_in, outcome, plan, step};
+pub use rows::bytecode;
+pub use stepping::{outcome, plan, step};

@@ -1,12 +1,13 @@
-ghost use Rattle.std.specs.Prelude.{◌≡◌, ◌<◌, ◌≤◌, ◌==◌, ◌&&◌};
+ghost use Rattle.std.specs.Prelude.{◌≡◌, ◌<◌, ◌≤◌, ◌==◌, ◌&&◌, nat_lt};
 ghost use Rattle.st_model.specs.{declared.deed.Deed.TheVariants.Nothing};
-ghost use Rattle.st_model.specs.{Arithmetic.arithmetic, Executing.{asks, is_from}, Storage.is_storage};
+ghost use Rattle.st_model.specs.{Outcomes.Went, Arithmetic.arithmetic, Storage.is_storage};
 ghost use Rattle.st_model.specs.{Blocks.is_block, Processes.is_process, Input.is_input};
-ghost use Rattle.st_step.specs.inside.Trying.{if_done, succeeds, says, last_number, number_on_objects, number_behind, number_that_responds, by_number, tried_number, end_of_trial, RowResponds, number_changes};
+ghost use Rattle.st_model.specs.Executing.{is_from, if_done, succeeds, says, asks, respond_last, respond_on_objects, respond_always, respond, respond_or_perform};
+ghost use Rattle.st_step.specs.inside.{Trying.tried_number, Responding.{end_of_trial, RowResponds, number_changes}};
 ghost use Rattle.st_frames.specs.declared.registers.Registers.{Registers as Words};
 ghost use Rattle.st_frames.specs.inside.Rows.{Takes, response_changes, execution_changes, deed_in, outcome_in};
 
-use crate::perform::{performs_selector, performs_with};
+use crate::perform::{primitive_perform, primitive_perform_with};
 use st_control::{
     answer_integers, equivalence, flush_cache, integer_answer, large_arithmetic, receiver_class,
     shift_large, try_blocks,
@@ -66,6 +67,13 @@ fn is_with(primitive: u32, number: u32, arguments: u32, count: u32) -> bool
     primitive == number && arguments == count
 }
 
+/// Whether a primitive is 83, with a selector to perform.
+fn performs(primitive: u32, arguments: u32) -> bool
+    ensures { result ≡ (primitive == 83 && nat_lt 0 arguments) }
+{
+    primitive == 83 && 0 < arguments
+}
+
 /// The end of a primitive that its family tried; none where it failed.
 fn end_of_trial(tried: Tried) -> Option<RowEnd>
     ensures { result ≡ end_of_trial tried }
@@ -78,7 +86,7 @@ fn end_of_trial(tried: Tried) -> Option<RowEnd>
 }
 
 /// Tries a primitive on two SmallIntegers.
-#[tactic(auto, using(crate::proofs::Tries::tries), unfolding(crate::specs::inside::Trying::if_done))]
+#[tactic(auto, using(crate::proofs::Tries::tries), unfolding(st_model::specs::Executing::if_done))]
 fn try_arithmetic<O: Objects>(
     m: &mut O,
     r: &mut Registers,
@@ -87,7 +95,7 @@ fn try_arithmetic<O: Objects>(
     requires first { 1 ≤ primitive }
     requires last { primitive ≤ 18 }
     requires room { response_changes ≤ O.room m.old }
-    ensures does { RowResponds O.Objects.own (if_done (arithmetic O.names primitive))
+    ensures does { RowResponds O.Objects.own (if_done Went (arithmetic O.names primitive))
         m.old r.old result m.new r.new }
     ensures takes { Takes O.Objects.own (number_changes response_changes result) m.old m.new }
 {
@@ -101,7 +109,7 @@ fn try_arithmetic<O: Objects>(
 }
 
 /// Says the receiver's bytes (primitive 128), or fails.
-#[tactic(auto, using(st_frames::proofs::Doing::rows), unfolding(crate::specs::inside::Trying::says))]
+#[tactic(auto, using(st_frames::proofs::Doing::rows), unfolding(st_model::specs::Executing::says, st_model::specs::Executing::if_done))]
 fn says<O: Objects>(m: &mut O, r: &mut Registers) -> Result<Option<RowEnd>, Dead>
     requires room { response_changes ≤ O.room m.old }
     ensures does { RowResponds O.Objects.own (says O.names) m.old r.old result m.new r.new }
@@ -117,7 +125,7 @@ fn says<O: Objects>(m: &mut O, r: &mut Registers) -> Result<Option<RowEnd>, Dead
 }
 
 /// Something is asked for (primitives 97, 113 and 114), and the receiver stays as the answer.
-#[tactic(auto, using(st_frames::proofs::Doing::rows), unfolding(crate::specs::inside::Trying::succeeds, st_model::specs::Executing::asks))]
+#[tactic(auto, using(st_frames::proofs::Doing::rows), unfolding(st_model::specs::Executing::succeeds, st_model::specs::Executing::asks))]
 fn asks<O: Objects>(m: &mut O, r: &mut Registers, end: RowEnd) -> Result<Option<RowEnd>, Dead>
     requires asked { (q : Words) → deed_in q end ≡ Nothing }
     requires room { response_changes ≤ O.room m.old }
@@ -131,15 +139,15 @@ fn asks<O: Objects>(m: &mut O, r: &mut Registers, end: RowEnd) -> Result<Option<
 }
 
 /// Tries a primitive that asks for something; a number that no primitive has fails.
-#[tactic(auto, using(st_frames::proofs::Doing::rows), unfolding(crate::specs::inside::Trying::last_number))]
-fn last_number<O: Objects>(
+#[tactic(auto, using(st_frames::proofs::Doing::rows), unfolding(st_model::specs::Executing::respond_last))]
+fn respond_last<O: Objects>(
     m: &mut O,
     r: &mut Registers,
     primitive: u32,
     arguments: u32,
 ) -> Result<Option<RowEnd>, Dead>
     requires room { response_changes ≤ O.room m.old }
-    ensures does { RowResponds O.Objects.own (last_number O.names primitive arguments)
+    ensures does { RowResponds O.Objects.own (respond_last O.names primitive arguments)
         m.old r.old result m.new r.new }
     ensures takes { Takes O.Objects.own (number_changes response_changes result) m.old m.new }
 {
@@ -160,8 +168,8 @@ fn last_number<O: Objects>(
 
 /// Tries a primitive on objects, blocks, processes, devices or clocks, or one that asks for something.
 #[inline(always)]
-#[tactic(auto, using(crate::proofs::NumberChanges::trials), unfolding(crate::specs::inside::Trying::number_on_objects, crate::specs::inside::Trying::if_done))]
-fn number_on_objects<O: Objects>(
+#[tactic(auto, using(crate::proofs::NumberChanges::trials), unfolding(st_model::specs::Executing::respond_on_objects, st_model::specs::Executing::if_done))]
+fn respond_on_objects<O: Objects>(
     m: &mut O,
     r: &mut Registers,
     primitive: u32,
@@ -169,7 +177,7 @@ fn number_on_objects<O: Objects>(
 ) -> Result<Option<RowEnd>, Dead>
     requires few { arguments < 16384 }
     requires room { response_changes ≤ O.room m.old }
-    ensures does { RowResponds O.Objects.own (number_on_objects O.names primitive arguments)
+    ensures does { RowResponds O.Objects.own (respond_on_objects O.names primitive arguments)
         m.old r.old result m.new r.new }
     ensures takes { Takes O.Objects.own (number_changes response_changes result) m.old m.new }
 {
@@ -185,13 +193,13 @@ fn number_on_objects<O: Objects>(
     if is_input(primitive) {
         return Ok(end_of_trial(try_input(m, r, primitive, arguments)?));
     }
-    last_number(m, r, primitive, arguments)
+    respond_last(m, r, primitive, arguments)
 }
 
 /// Tries a primitive that any receiver has, or one of a family.
 #[inline(always)]
-#[tactic(auto, using(st_frames::proofs::Doing::rows), unfolding(crate::specs::inside::Trying::number_behind, crate::specs::inside::Trying::succeeds, st_model::specs::Executing::goes_on))]
-fn number_behind<O: Objects>(
+#[tactic(auto, using(st_frames::proofs::Doing::rows), unfolding(st_model::specs::Executing::respond_always, st_model::specs::Executing::succeeds, st_model::specs::Executing::goes_on))]
+fn respond_always<O: Objects>(
     m: &mut O,
     r: &mut Registers,
     primitive: u32,
@@ -199,7 +207,7 @@ fn number_behind<O: Objects>(
 ) -> Result<Option<RowEnd>, Dead>
     requires few { arguments < 16384 }
     requires room { response_changes ≤ O.room m.old }
-    ensures does { RowResponds O.Objects.own (number_behind O.names primitive arguments)
+    ensures does { RowResponds O.Objects.own (respond_always O.names primitive arguments)
         m.old r.old result m.new r.new }
     ensures takes { Takes O.Objects.own (number_changes response_changes result) m.old m.new }
 {
@@ -215,13 +223,13 @@ fn number_behind<O: Objects>(
         receiver_class(m, r)?;
         return Ok(Some(RowEnd::Went));
     }
-    number_on_objects(m, r, primitive, arguments)
+    respond_on_objects(m, r, primitive, arguments)
 }
 
-/// Tries a primitive that performs nothing.
+/// Tries the primitive of this number; 83 and 84 fail. None says that it failed.
 #[inline(always)]
-#[tactic(auto, using(crate::proofs::NumberChanges::trials), unfolding(crate::specs::inside::Trying::number_that_responds, crate::specs::inside::Trying::if_done))]
-pub fn number_that_responds<O: Objects>(
+#[tactic(auto, using(crate::proofs::NumberChanges::trials), unfolding(st_model::specs::Executing::respond, st_model::specs::Executing::if_done))]
+pub fn respond<O: Objects>(
     m: &mut O,
     r: &mut Registers,
     primitive: u32,
@@ -229,7 +237,7 @@ pub fn number_that_responds<O: Objects>(
 ) -> Result<Option<RowEnd>, Dead>
     requires few { arguments < 16384 }
     requires room { response_changes ≤ O.room m.old }
-    ensures does { RowResponds O.Objects.own (number_that_responds O.names primitive arguments)
+    ensures does { RowResponds O.Objects.own (respond O.names primitive arguments)
         m.old r.old result m.new r.new }
     ensures takes { Takes O.Objects.own (number_changes response_changes result) m.old m.new }
 {
@@ -242,13 +250,13 @@ pub fn number_that_responds<O: Objects>(
     if is_with(primitive, 37, arguments, 1) {
         return Ok(end_of_trial(shift_large(m, r)?));
     }
-    number_behind(m, r, primitive, arguments)
+    respond_always(m, r, primitive, arguments)
 }
 
-/// Tries the primitive of this number.
+/// Tries the primitive of this number, which may be 83 or 84. None says that it failed.
 #[inline(always)]
-#[tactic(auto, using(st_frames::proofs::Doing::rows), unfolding(crate::specs::inside::Trying::by_number))]
-pub fn by_number<O: Objects>(
+#[tactic(auto, using(st_frames::proofs::Doing::rows), unfolding(st_model::specs::Executing::respond_or_perform))]
+pub fn respond_or_perform<O: Objects>(
     m: &mut O,
     r: &mut Registers,
     primitive: u32,
@@ -256,17 +264,17 @@ pub fn by_number<O: Objects>(
 ) -> Result<Option<RowEnd>, Dead>
     requires few { arguments < 16384 }
     requires room { execution_changes ≤ O.room m.old }
-    ensures does { RowResponds O.Objects.own (by_number O.names primitive arguments)
+    ensures does { RowResponds O.Objects.own (respond_or_perform O.names primitive arguments)
         m.old r.old result m.new r.new }
     ensures takes { Takes O.Objects.own (number_changes execution_changes result) m.old m.new }
 {
-    if primitive == 83 {
-        return performs_selector(m, r, arguments);
+    if performs(primitive, arguments) {
+        return primitive_perform(m, r, arguments - 1);
     }
     if is_with(primitive, 84, arguments, 2) {
-        return performs_with(m, r);
+        return primitive_perform_with(m, r);
     }
-    number_that_responds(m, r, primitive, arguments)
+    respond(m, r, primitive, arguments)
 }
 
 /// Looks at receiver and arguments, and tries the primitive of this number. None says that it failed.
@@ -284,5 +292,5 @@ pub fn tried_number<O: Objects>(
     ensures takes { Takes O.Objects.own (number_changes execution_changes result) m.old m.new }
 {
     look_at_words(m, r, arguments)?;
-    by_number(m, r, primitive, arguments)
+    respond_or_perform(m, r, primitive, arguments)
 }

@@ -1,14 +1,13 @@
 ghost use Rattle.std.specs.Prelude.{◌<◌, ◌≤◌, ◌+◌, IfOk};
 ghost use Rattle.st_model.specs.{Values.word, Sends.call_of};
-ghost use Rattle.st_model.specs.Executing.{takes, execute_performed, drop_selector, spread_array, spreading};
+ghost use Rattle.st_model.specs.Executing.{respond, execute_by, takes, drop_selector, spread_array, perform, primitive_perform, spreading, primitive_perform_with};
 ghost use Rattle.st_model.specs.inside.Calls.{itself};
-ghost use Rattle.st_step.specs.inside.Responding.{execute_sent};
-ghost use Rattle.st_step.specs.inside.Trying.{performs_above, performs_selector, performs_fields, performs_with, RowResponds, number_changes};
+ghost use Rattle.st_step.specs.inside.Responding.{execute_sent, RowResponds, number_changes};
 ghost use Rattle.st_lookup.specs.inside.Places.{found_word};
 ghost use Rattle.st_frames.specs.inside.Rows.{RowReads, RowDoes, RowEnds, Takes, send_changes, response_changes, execution_changes};
 
 use crate::flags::{activated, by_flag};
-use crate::numbers::number_that_responds;
+use crate::numbers::respond;
 use st_control::{Called, Sent, find_method, method_primitive, not_understood};
 use st_frames::{Registers, RowEnd, check_class, drop_words, set_stack_pointer, top, under};
 use st_memory::Objects;
@@ -30,10 +29,10 @@ fn takes<O: Objects>(m: &O, r: &Registers, n: u32, found: Option<Word>) -> Resul
 }
 
 /// Executes the method that primitive 83 or 84 performs: of its primitives these two fail.
-#[tactic(auto, using(crate::proofs::Executes::responses), unfolding(st_model::specs::Executing::execute_performed, st_model::specs::Executing::execute_by, st_model::specs::Executing::respond_by_extension, crate::specs::inside::Responding::by_flag, crate::specs::inside::Trying::or_activated))]
+#[tactic(auto, using(st_frames::proofs::Doing::rows), unfolding(st_model::specs::Executing::execute_by, st_model::specs::Executing::respond_by_extension, st_model::specs::Executing::or_activate))]
 fn execute_performed<O: Objects>(m: &mut O, r: &mut Registers, call: Call) -> Result<RowEnd, Dead>
     requires room { response_changes ≤ O.room m.old }
-    ensures does { RowEnds O.Objects.own (execute_performed O.names (call_of call))
+    ensures does { RowEnds O.Objects.own (execute_by O.names (respond O.names) (call_of call))
         m.old r.old result m.new r.new }
     ensures takes { Takes O.Objects.own response_changes m.old m.new }
 {
@@ -43,7 +42,7 @@ fn execute_performed<O: Objects>(m: &mut O, r: &mut Registers, call: Call) -> Re
         return by_flag(m, r, called);
     }
     let primitive = method_primitive(m, r, call.method)?;
-    match number_that_responds(m, r, primitive, call.arguments)? {
+    match respond(m, r, primitive, call.arguments)? {
         Some(end) => Ok(end),
         None => activated(m, r, called),
     }
@@ -127,8 +126,8 @@ fn spread_array<O: Objects>(m: &mut O, r: &mut Registers, array: Word, n: u32) -
 
 /// The selector is performed with the n arguments above it; none says that its method doesn't take as many, so that the
 /// primitive fails.
-#[tactic(auto, using(st_frames::proofs::Doing::rows), unfolding(crate::specs::inside::Trying::performs, crate::specs::inside::Trying::perform_if_fits, crate::specs::inside::Trying::succeeds))]
-fn performs_above<O: Objects>(
+#[tactic(auto, using(st_frames::proofs::Doing::rows), unfolding(st_model::specs::Executing::perform, st_model::specs::Executing::perform_found, st_model::specs::Executing::succeeds))]
+fn perform_above<O: Objects>(
     m: &mut O,
     r: &mut Registers,
     receiver: Word,
@@ -137,7 +136,8 @@ fn performs_above<O: Objects>(
 ) -> Result<Option<RowEnd>, Dead>
     requires few { n < 16384 }
     requires room { execution_changes ≤ O.room m.old }
-    ensures does { RowResponds O.Objects.own (performs_above O.names (word receiver) (word selector) n)
+    ensures does { RowResponds O.Objects.own
+        (perform O.names (word receiver) (word selector) n (drop_selector O.names n))
         m.old r.old result m.new r.new }
     ensures takes { Takes O.Objects.own (number_changes execution_changes result) m.old m.new }
 {
@@ -156,32 +156,27 @@ fn performs_above<O: Objects>(
     Ok(Some(end))
 }
 
-/// Tries primitive 83, as the first of 83 and 84 in its bytecode.
-#[tactic(auto, using(crate::proofs::Performed::selectors), unfolding(crate::specs::inside::Trying::performs_first))]
-pub fn performs_selector<O: Objects>(
+/// Tries primitive 83 with n + 1 arguments: the first is performed with the others.
+#[tactic(auto, using(st_frames::proofs::Doing::rows), unfolding(st_model::specs::Executing::primitive_perform))]
+pub fn primitive_perform<O: Objects>(
     m: &mut O,
     r: &mut Registers,
-    arguments: u32,
+    n: u32,
 ) -> Result<Option<RowEnd>, Dead>
-    requires few { arguments < 16384 }
+    requires few { n < 16383 }
     requires room { execution_changes ≤ O.room m.old }
-    ensures does { RowResponds O.Objects.own (performs_selector O.names arguments)
-        m.old r.old result m.new r.new }
+    ensures does { RowResponds O.Objects.own (primitive_perform O.names n) m.old r.old result m.new r.new }
     ensures takes { Takes O.Objects.own (number_changes execution_changes result) m.old m.new }
 {
-    if arguments == 0 {
-        return Ok(None);
-    }
-    let n = arguments - 1;
     let receiver = under(m, r, n + 1)?;
     let selector = under(m, r, n)?;
-    performs_above(m, r, receiver, selector, n)
+    perform_above(m, r, receiver, selector, n)
 }
 
 /// The selector is performed with the n fields of an Array, which stands above it; none says that its method doesn't take as
 /// many.
-#[tactic(auto, using(st_frames::proofs::Doing::rows), unfolding(crate::specs::inside::Trying::performs, crate::specs::inside::Trying::perform_if_fits, crate::specs::inside::Trying::succeeds))]
-fn performs_fields<O: Objects>(
+#[tactic(auto, using(st_frames::proofs::Doing::rows), unfolding(st_model::specs::Executing::perform, st_model::specs::Executing::perform_found, st_model::specs::Executing::succeeds))]
+fn perform_fields<O: Objects>(
     m: &mut O,
     r: &mut Registers,
     receiver: Word,
@@ -193,7 +188,7 @@ fn performs_fields<O: Objects>(
     requires above { 7 ≤ r.old.sp }
     requires room { execution_changes ≤ O.room m.old }
     ensures does { RowResponds O.Objects.own
-        (performs_fields O.names (word receiver) (word selector) (word array) n)
+        (perform O.names (word receiver) (word selector) n (spread_array O.names (word array) n))
         m.old r.old result m.new r.new }
     ensures takes { Takes O.Objects.own (number_changes execution_changes result) m.old m.new }
 {
@@ -212,18 +207,21 @@ fn performs_fields<O: Objects>(
     Ok(Some(end))
 }
 
-/// Tries primitive 84, as the first of 83 and 84 in its bytecode.
-#[tactic(auto, using(st_frames::proofs::Doing::rows), unfolding(crate::specs::inside::Trying::performs_with))]
-pub fn performs_with<O: Objects>(m: &mut O, r: &mut Registers) -> Result<Option<RowEnd>, Dead>
+/// Tries primitive 84: the first argument is performed with the fields of the second.
+#[tactic(auto, using(st_frames::proofs::Doing::rows), unfolding(st_model::specs::Executing::primitive_perform_with))]
+pub fn primitive_perform_with<O: Objects>(
+    m: &mut O,
+    r: &mut Registers,
+) -> Result<Option<RowEnd>, Dead>
     requires room { execution_changes ≤ O.room m.old }
-    ensures does { RowResponds O.Objects.own (performs_with O.names) m.old r.old result m.new r.new }
+    ensures does { RowResponds O.Objects.own (primitive_perform_with O.names) m.old r.old result m.new r.new }
     ensures takes { Takes O.Objects.own (number_changes execution_changes result) m.old m.new }
 {
     let receiver = under(m, r, 2)?;
     let selector = under(m, r, 1)?;
     let array = top(m, r)?;
     match spreading(m, r, array) {
-        Ok(n) => performs_fields(m, r, receiver, selector, array, n),
+        Ok(n) => perform_fields(m, r, receiver, selector, array, n),
         Err(_) => Ok(None),
     }
 }

@@ -10,6 +10,7 @@ use st_memory::Objects;
 use st_model::{Dead, Word};
 
 /// Returns a word to the sender, and executes what is called.
+#[inline(never)]
 #[tactic(auto, using(st_control::proofs::Returning::returning), unfolding(st_model::specs::Executing::executed_if_any))]
 pub fn return_word<O: Objects>(m: &mut O, r: &mut Registers, x: Word) -> Result<RowEnd, Dead>
     requires room { executed_return_changes ≤ O.room m.old }

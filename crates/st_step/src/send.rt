@@ -15,6 +15,7 @@ use st_memory::Objects;
 use st_model::{Call, Dead, Word};
 
 /// Sends literal i with n arguments.
+#[inline(always)]
 #[tactic(auto, using(st_frames::proofs::Doing::rows), unfolding(st_model::specs::Bytecodes::send_literal))]
 fn send_literal<O: Objects>(m: &mut O, r: &mut Registers, i: u32, n: u32) -> Result<Call, Dead>
     requires few { n < 256 }
@@ -83,6 +84,7 @@ pub fn double_extended_super_send<O: Objects>(m: &mut O, r: &mut Registers) -> R
 }
 
 /// Sends literal i with n arguments, and executes what is called.
+#[inline(never)]
 #[tactic(auto, using(st_frames::proofs::Doing::rows), unfolding(st_model::specs::Executing::executed))]
 pub fn send_literal_selector<O: Objects>(
     m: &mut O,

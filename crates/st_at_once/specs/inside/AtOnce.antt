@@ -11,15 +11,18 @@ use Rattle.st_model.specs.declared.integers.IntAnswer.TheVariants.{Number, Truth
 use Rattle.st_model.specs.Values.{Value, Small, Ref, integer, small_integer}
 use Rattle.st_model.specs.declared.page.PageObject.{PageObject}
 use Rattle.st_model.specs.declared.page.PageObject.TheVariants.{FalseObject, TrueObject}
-use Rattle.st_model.specs.Decoded.{decoded}
-use Rattle.st_model.specs.Machine.{ObjectMemory, Registers, Step, answer, tried, ◌>>=◌, ◌>>◌}
+use Rattle.st_model.specs.Machine.{ObjectMemory, Registers, World, Step, answer, tried, ◌>>=◌, ◌>>◌}
 use Rattle.st_model.specs.Steps.{or_die, under, drop_words, push, next_byte}
 use Rattle.st_model.specs.Integers.{binary}
 use Rattle.st_model.specs.Primitives.{truth}
 use Rattle.st_model.specs.Arithmetic.{integer_under, arithmetic_number, equivalence, receiver_class}
-use Rattle.st_model.specs.Bytecodes.{push_operand, store_and_pop, push_receiver, push_constant, extended_push, extended_store, extended_store_and_pop, pop_stack, duplicate_top, push_active_context, short_unconditional_jump, long_unconditional_jump}
+use Rattle.st_model.specs.Bytecodes.{push_operand, store_and_pop, push_receiver, push_constant, extended_push, extended_store, extended_store_and_pop, pop_stack, duplicate_top, push_active_context, short_unconditional_jump, long_unconditional_jump, bytecode, step}
+use Rattle.st_model.specs.Table.{table}
+use Rattle.st_model.specs.View.{View}
 use Rattle.st_frames.specs.declared.frame.Frame.{Frame}
 use Rattle.st_frames.specs.declared.registers.Registers.{Registers as Words}
+use Rattle.st_frames.specs.inside.Rows.{row_state}
+use Rattle.st_frames.specs.inside.Shown.{shown}
 use Rattle.st_control.specs.inside.AtOnce.{at_once, jump_at_once}
 
 -- the registers name what they named
@@ -101,8 +104,6 @@ module _ {H : Type 0} (m : ObjectMemory H) where
   bytecode_at_once (code.PrimitiveSend k) = primitive_at_once k
   bytecode_at_once b = answer false
 
-  -- the next bytecode, if it is done at once
-  unfoldable pub step_at_once : Step H Bool
-  step_at_once = do
-    b ← next_byte m
-    bytecode_at_once (decoded b)
+-- the next bytecode of what is shown was fetched: it is this one, and its row begins with these registers
+abbrev pub IsFetched : View → Frame → World → Bytecode → Words → Type 0
+IsFetched v f w code r = (step table).run (shown v f w) ≡ (bytecode table code).run (row_state v.objects v.head r)

@@ -3,14 +3,13 @@ use Rattle.std.specs.Prelude.{◌≡◌, ℕ, ◌+◌, ◌≤◌, Bool, true, fa
 use Rattle.st_model.specs.declared.dead.Dead.{Dead}
 use Rattle.st_model.specs.declared.deed.Deed.{Deed}
 use Rattle.st_model.specs.declared.deed.Deed.TheVariants.{Nothing}
-use Rattle.st_model.specs.declared.outcome.StepEnd.{StepEnd}
-use Rattle.st_model.specs.declared.outcome.StepEnd.TheVariants as ends
-use Rattle.st_model.specs.Outcomes.{Outcome, end_of}
+use Rattle.st_model.specs.Outcomes.{Outcome}
+use Rattle.st_model.specs.Outcomes as outcome
 use Rattle.st_model.specs.Values.{word}
 use Rattle.st_model.specs.Machine.{Registers, Head, State, Step}
 use Rattle.st_model.specs.Table.{Table}
 use Rattle.st_model.specs.inside.Calls.{Does}
-use Rattle.st_model.specs.Deeds.{with_deed, deed_of_end}
+use Rattle.st_model.specs.Deeds.{with_deed}
 use Rattle.st_memory.specs.declared.objects.Objects.{Ghosts}
 use Rattle.st_frames.specs.declared.registers.Registers.{Registers as Words}
 use Rattle.st_frames.specs.declared.fetched.Fetched.{Fetched}
@@ -52,6 +51,7 @@ with_left g (Ok b) s = with_deed (g b) s
 with_left g (Err cause) s = s
 
 -- The call is this step but for a deed, which it leaves to be done; and it leaves the world that the registers have beside them.
+-- For example `aString at: 1 put: $x`: the call pops receiver and arguments and pushes $x. The deed stores 120 as byte 0 of the string.
 pub record RowLeaves {M A B : Type 0} (o : Ghosts M) (step : Step Table A) (f : B → A) (g : B → Deed) (m : M) (r : Words)
     (result : Result B Dead) (n : M) (q : Words) : Type 0 where
   pub does : Does step f (state_of o m r) result (with_left g result (state_of o n q))
@@ -73,26 +73,30 @@ deed_of_trial left Leaves = left
 abbrev pub RowTries : {M : Type 0} → Ghosts M → Step Table Bool → M → Words → Result Tried Dead → M → Words → Type 0
 RowTries o step m r result n q = RowLeaves o step is_done (deed_of_trial q.left) m r result n q
 
--- how a step ended whose row left these registers
-abbrev pub end_in : Words → RowEnd → StepEnd
-end_in q rows.Went = ends.Went Nothing
-end_in q rows.Leaves = ends.Went q.left
-end_in q rows.Says = ends.Says q.said
-end_in q rows.Snapshot = ends.Snapshot
-end_in q rows.Quit = ends.Quit
-end_in q rows.Debugger = ends.Debugger
-
+-- the outcome of a step whose row left these registers and ended so
 abbrev pub outcome_in : Words → RowEnd → Outcome
-outcome_in q end = end_of (end_in q end)
+outcome_in q rows.Went = outcome.Went
+outcome_in q rows.Leaves = outcome.Went
+outcome_in q rows.Says = outcome.Say (word q.said)
+outcome_in q rows.Snapshot = outcome.Snapshot
+outcome_in q rows.Quit = outcome.Quit
+outcome_in q rows.Debugger = outcome.Debugger
 
+-- and the deed that it leaves to be done
 abbrev pub deed_in : Words → RowEnd → Deed
-deed_in q end = deed_of_end (end_in q end)
+deed_in q rows.Went = Nothing
+deed_in q rows.Leaves = q.left
+deed_in q rows.Says = Nothing
+deed_in q rows.Snapshot = Nothing
+deed_in q rows.Quit = Nothing
+deed_in q rows.Debugger = Nothing
 
 -- the call is this step but for the deed that it leaves in the registers
 abbrev pub RowEnds : {M : Type 0} → Ghosts M → Step Table Outcome → M → Words → Result RowEnd Dead → M → Words → Type 0
 RowEnds o step m r result n q = RowLeaves o step (outcome_in q) (deed_in q) m r result n q
 
--- the call takes at most so many changes, and leaves what is fixed
+-- The call takes at most so many changes, and leaves what is fixed. For example a push stores one field of the active context, so it
+-- takes 1.
 pub record Takes {M : Type 0} (o : Ghosts M) (most : ℕ) (old new : M) : Type 0 where
   pub room : o.room old ≤ o.room new + most
   pub fixed : o.fixed new ≡ o.fixed old

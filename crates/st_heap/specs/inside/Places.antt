@@ -21,7 +21,7 @@ SamePlaces s s' = (k : ℕ) → place_at s' k ≡ place_at s k
 abbrev pub SameOtherPlaces : Store → Store → ℕ → Type 0
 SameOtherPlaces s s' n = (k : ℕ) → k ≢ n → place_at s' k ≡ place_at s k
 
--- an object's block stands at a place
+-- An object's block stands at a place. For example that of pointer 1234 stands at 5000 if entry 617 of the table has the place 5000.
 abbrev pub Stands : Objects → Value → ℕ → Type 0
 Stands o (Small n) at = ⊥
 Stands o (Ref n) at = place_at o.store n ≡ Some at

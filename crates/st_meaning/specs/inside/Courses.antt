@@ -67,7 +67,7 @@ with_back g = record g { backs = g.backs + 1 }
 -- what went on with something, or came to its end
 abbrev pub Goes : {A : Type 0} → Outcome A → Option A → Going → Type 0
 Goes o (Some x) g = o ≡ went x g
-Goes o None g = o ≡ over g.deeds
+Goes o None g = o ≡ over g
 
 -- where a run is too long, this is so
 abbrev pub IsLong : Type 0 → MeaningFault → Type 0
@@ -126,7 +126,7 @@ NamesShort step = Unit {0}
 -- whether a jump on a boolean jumps; a value that is none is the end
 abbrev pub Tests : Bool → Value → Course → Course → Option Bool → Type 0
 Tests on v old new (Some jumps) = (jump go : Run Value) → on_boolean most on v jump go (going_view old) ≡ (if jumps then jump else go) (going_view new)
-Tests on v old new None = (jump go : Run Value) → on_boolean most on v jump go (going_view old) ≡ over (going_view new).deeds
+Tests on v old new None = (jump go : Run Value) → on_boolean most on v jump go (going_view old) ≡ over (going_view new)
 
 abbrev pub IsLongTest : Bool → Value → Course → Type 0
 IsLongTest on v old = (jump go : Run Value) → on_boolean most on v jump go (going_view old) ≡ long

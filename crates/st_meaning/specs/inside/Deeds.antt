@@ -27,8 +27,8 @@ deeds_view deeds = map deed_view deeds
 
 -- a run that is over, or where the code can't go on, has this list of deeds
 abbrev pub Lists : Outcome Value → List DeedView → Type 0
-Lists (over d) deeds = deeds ≡ d
-Lists (stuck d) deeds = deeds ≡ d
+Lists (over g) deeds = deeds ≡ g.deeds
+Lists (stuck g) deeds = deeds ≡ g.deeds
 Lists _ deeds = ⊥
 
 -- a fault of this run: it is too long; memory may always be wanting

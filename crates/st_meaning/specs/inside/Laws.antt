@@ -7,7 +7,7 @@ use Rattle.st_meaning.specs.inside.Values.{AnswerView}
 use Rattle.st_meaning.specs.inside.Blocks.{OfBlock, EachOfBody, block_trace, block_walk}
 use Rattle.st_meaning.specs.inside.Meanings.{most, Trace, Walk}
 
--- the walk of a method's code is the trace of its tree, whatever its messages answer
+-- The walk of a method's code ends as the trace of its tree, whatever its messages answer: with the same deeds, and as often back.
 abbrev pub MeansItsSource : MethodView → NamesView → Type 0
 MeansItsSource tree names = (answers : List AnswerView) → Walk (parts tree names) answers ≡ Trace tree names answers
 

@@ -1,5 +1,5 @@
 -- The trace of a method's tree, and the walk of its code.
-use Rattle.std.specs.Prelude.{ℕ, ◌+◌, ◌*◌, nat_lt, List, [], length, if◌then◌else◌}
+use Rattle.std.specs.Prelude.{ℕ, ◌+◌, ◌*◌, nat_lt, List, [], length, Option, Some, None, if◌then◌else◌}
 use Rattle.st_scan.specs.Views.{MethodView}
 use Rattle.st_emit.specs.declared.step.Constant.TheVariants.{Nil}
 use Rattle.st_emit.specs.Names.{NamesView}
@@ -53,10 +53,16 @@ Trace tree names answers = trace_of most (length tree.arguments) (body tree name
 abbrev pub Walk : PartsView → List AnswerView → Outcome Value
 Walk parts answers = walk_of most (arity parts.selector) parts.literals parts.bytes answers
 
+-- HOW OFTEN a finished trace or walk jumped back
+abbrev pub jumps_back : Outcome Value → Option ℕ
+jumps_back (over g) = Some g.backs
+jumps_back (stuck g) = Some g.backs
+jumps_back o = None
+
 -- a list of deeds, or too long a one
 abbrev pub IsEnded : Outcome Value → Type 0
 IsEnded (went v g) = ⊥
-IsEnded (over d) = Unit {0}
+IsEnded (over g) = Unit {0}
 IsEnded long = Unit {0}
-IsEnded (stuck d) = ⊥
+IsEnded (stuck g) = ⊥
 IsEnded unfinished = ⊥

@@ -33,13 +33,13 @@ pub record Going : Type 0 where
   pub blocks : ℕ
   pub backs : ℕ
 
--- how a run ends: it goes on with something, it is over with these deeds, it is too long, the code can't go on behind
--- these deeds, or its bound ran out
+-- how a run ends: it goes on with something, it is over after this, it is too long, the code can't go on after this, or
+-- its bound ran out
 pub data Outcome (A : Type 0) : Type 0 where
   went : A → Going → Outcome A
-  over : List DeedView → Outcome A
+  over : Going → Outcome A
   long : Outcome A
-  stuck : List DeedView → Outcome A
+  stuck : Going → Outcome A
   unfinished : Outcome A
 
 abbrev pub Run : Type 0 → Type 0
@@ -50,9 +50,9 @@ gives x = λ g. went x g
 
 abbrev pub then_go : {A B : Type 0} → Outcome A → (A → Run B) → Outcome B
 then_go (went x g) f = f x g
-then_go (over deeds) f = over deeds
+then_go (over g) f = over g
 then_go long f = long
-then_go (stuck deeds) f = stuck deeds
+then_go (stuck g) f = stuck g
 then_go unfinished f = unfinished
 
 infixl 10 ◌>>=◌
@@ -68,7 +68,7 @@ abbrev pub in_order : List Value → List Value
 in_order vs = in_order_before vs []
 
 abbrev pub ends : {A : Type 0} → Run A
-ends = λ g. over g.deeds
+ends = λ g. over g
 
 -- the next answer, if there is one
 abbrev pub take_answer : List AnswerView → Run Value

@@ -71,7 +71,7 @@ abbrev pub GivesAll : Run (List Value) → (old new : Course) → Option (Vec Va
 GivesAll m old new o = Goes (m (going_view old)) (option_map (λ vs. stack_view vs.items) o) (going_view new)
 
 abbrev pub IsOver : Run Value → (old new : Course) → Type 0
-IsOver m old new = m (going_view old) ≡ over (going_view new).deeds
+IsOver m old new = m (going_view old) ≡ over (going_view new)
 
 -- it is too long, or its bound ran out
 abbrev pub Cut : {A : Type 0} → Outcome A → Type 0
@@ -103,7 +103,7 @@ abbrev pub EndsTurn : List Node → (bound : ℕ) → Loop → Statements → St
 EndsTurn xs n kind x a old new Again =
     (k : ℕ) → turns most (suc k) kind (body_in xs n x) (body_in xs n a) (going_view old) ≡ turns most k kind (body_in xs n x) (body_in xs n a) (going_view new)
 EndsTurn xs n kind x a old new Left = (k : ℕ) → turns most (suc k) kind (body_in xs n x) (body_in xs n a) (going_view old) ≡ went nil (going_view new)
-EndsTurn xs n kind x a old new Over = (k : ℕ) → turns most (suc k) kind (body_in xs n x) (body_in xs n a) (going_view old) ≡ over (going_view new).deeds
+EndsTurn xs n kind x a old new Over = (k : ℕ) → turns most (suc k) kind (body_in xs n x) (body_in xs n a) (going_view old) ≡ over (going_view new)
 
 abbrev pub IsTurnCut : List Node → (bound : ℕ) → Loop → Statements → Statements → Course → Type 0
 IsTurnCut xs n kind x a old = (k : ℕ) → Cut (turns most (suc k) kind (body_in xs n x) (body_in xs n a) (going_view old))
@@ -115,7 +115,7 @@ again_in xs n a following = body_in xs n a >>= λ w. jump_back most following
 abbrev pub Repeats : List Node → (bound : ℕ) → Statements → (old new : Course) → TurnEnd → Type 0
 Repeats xs n a old new Again = (f : Run Value) → again_in xs n a f (going_view old) ≡ f (going_view new)
 Repeats xs n a old new Left = ⊥
-Repeats xs n a old new Over = (f : Run Value) → again_in xs n a f (going_view old) ≡ over (going_view new).deeds
+Repeats xs n a old new Over = (f : Run Value) → again_in xs n a f (going_view old) ≡ over (going_view new)
 
 abbrev pub IsRepeatCut : List Node → (bound : ℕ) → Statements → Course → Type 0
 IsRepeatCut xs n a old = (f : Run Value) → Cut (again_in xs n a f (going_view old))

@@ -17,7 +17,7 @@ Next = ℕ → List Value → Run Value
 
 -- nothing that the code can do
 abbrev pub sticks : Run Value
-sticks = λ g. stuck g.deeds
+sticks = λ g. stuck g
 
 abbrev pub selector_of : Option LiteralView → Option (List ℕ)
 selector_of (Some (symbol text)) = Some text

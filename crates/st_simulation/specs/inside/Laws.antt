@@ -1,19 +1,22 @@
 -- The laws that join the book's machine, over births, to the code's, over tables.
-use Rattle.std.specs.Prelude.{◌≡◌, ◌≤◌, ℕ, length, slice_get, Some}
-use Rattle.st_model.specs.Values.{Value}
-use Rattle.st_model.specs.Objects.{Object}
-use Rattle.st_model.specs.Machine.{State, Step}
+use Rattle.std.specs.Prelude.{◌≡◌, ◌≤◌, ℕ, length, slice_get, Some, true}
+use Rattle.st_model.specs.Values.{Value, Ref}
+use Rattle.st_model.specs.Objects.{Object, is_bytes}
+use Rattle.st_model.specs.Outcomes.{With, Say}
+use Rattle.st_model.specs.Machine.{State, Step, Went, ◌>>◌}
 use Rattle.st_model.specs.Formed.{IsWord, IsFormed}
 use Rattle.st_model.specs.Births.{Births, births, births_with, borne, object_born}
 use Rattle.st_model.specs.declared.event.Event.{Event}
 use Rattle.st_model.specs.Table.{Table, entry, table, apart, bounded_table}
 use Rattle.st_model.specs.Contexts.{fetch_scheduled_registers}
+use Rattle.st_model.specs.Steps.{top, look_at_words}
+use Rattle.st_model.specs.Executing.{respond_or_perform}
 use Rattle.st_model.specs.Bytecodes.{step}
-use Rattle.st_model.specs.Cycles.{check_process_switch, run, run_of, finished, finished_of}
+use Rattle.st_model.specs.Cycles.{check_process_switch, cycle, run, run_of, finished, finished_of}
 use Rattle.st_model.specs.Events.{event}
 use Rattle.st_model.specs.Saving.{store_process, settled_after, save}
 use Rattle.st_model.specs.Show.{Shows, IsClosed, raised}
-use Rattle.st_model.specs.inside.Foreseen.{foreseen_cycle, IsSound, EndsShown, ShownAgain, ShownIfTaken, Foretells, DoesWithin}
+use Rattle.st_model.specs.inside.Foreseen.{KeepsClosed, foreseen_cycle, IsSound, EndsShown, ShownAgain, ShownIfTaken, Foretells, DoesWithin}
 
 -- what is foreseen over a table of 32768 places is what the births do
 abbrev pub ApartForetells : Type 0
@@ -72,3 +75,20 @@ SaveShows = (c : State Table) (s : State Births) → Runs c s → ShownAgain (se
 abbrev pub KeptAreWords : Type 0
 KeptAreWords = (c : State Table) (s : State Births) → Shows c s → ((k : ℕ) (o : Object) → entry c.memory k ≡ Some o → IsFormed o)
     → (n p : ℕ) (o : Object) → borne s.memory n ≡ Some p → object_born s.memory n ≡ Some o → (i : ℕ) (x : Value) → slice_get o.fields i ≡ Some x → IsWord x
+
+-- the object of this name is of kind Bytes
+abbrev pub IsOfBytes : Births → Value → Type 0
+IsOfBytes h v = (n : ℕ) × (o : Object) × (v ≡ Ref n) × (object_born h n ≡ Some o) × (is_bytes o.kind ≡ true)
+
+-- what a cycle of the book's machine says is the bytes of such an object
+abbrev pub SaysBytes : Type 0
+SaysBytes = (s t : State Births) (v : Value) → cycle births s ≡ Went (With (Say v)) t → IsOfBytes t.memory v
+
+-- A primitive by its number, once receiver and arguments were looked at, leaves a closed table closed.
+abbrev pub PrimitivesKeepClosed : Type 0
+PrimitivesKeepClosed = (k n : ℕ) → KeepsClosed (look_at_words bounded_table n >> respond_or_perform bounded_table k n)
+
+-- what it says is the word at the top of the stack that it leaves
+abbrev pub PrimitivesSayTop : Type 0
+PrimitivesSayTop = (k n : ℕ) (s t : State Table) (v : Value) → (look_at_words bounded_table n >> respond_or_perform bounded_table k n).run s ≡ Went (Some (Say v)) t
+    → (top bounded_table).run t ≡ Went v t

@@ -23,20 +23,20 @@ returns-in_err-end-clause-step g c =
     let start = c.args.r.now in
     let k = c.in_err-end.field-0.0 in
     let e : c.from_residual.result ≡ Err k = search rules in
-    subst (λ y. GoesCalmly (shown v f start.world.now) c.step_row.new.r.left y (shown (g.M.Memory.view c.step_row.new.m.near.memory.now) f start.world.now)) (sym e)
-    (row_dies v f start.world.now (g.met.M.Memory.whole c.args.roomy.now.near.memory.now) c.requires.ready start c.requires.same refl k c.in_err-end.ensures.does.does)
+    subst (λ y. GoesCalmly (shown v f start.world.now) c.bytecode.new.r.left y (shown (g.M.Memory.view c.bytecode.new.m.near.memory.now) f start.world.now)) (sym e)
+    (row_dies v f start.world.now (g.met.M.Memory.whole c.args.roomy.now.near.memory.now) c.requires.ready c.args.code start c.requires.fetched refl k c.in_err-end.ensures.does.does)
 
 pub returns-in_err-end-clause-same_memory : goal.returns-in_err-end-clause-same_memory
 returns-in_err-end-clause-same_memory g c =
-    same_name (g.M.Memory.view c.args.roomy.now.near.memory.now) (g.M.Memory.view c.step_row.new.m.near.memory.now) c.args.roomy.now.near.memory.ghost_name c.step_row.new.m.near.memory.ghost_name
+    same_name (g.M.Memory.view c.args.roomy.now.near.memory.now) (g.M.Memory.view c.bytecode.new.m.near.memory.now) c.args.roomy.now.near.memory.ghost_name c.bytecode.new.m.near.memory.ghost_name
     c.in_err-end.ensures.takes.fixed
 
 pub hold_moved-requires-clause-there : goal.hold_moved-requires-clause-there
 hold_moved-requires-clause-there g c =
     let row = c.in_ok-end.ensures in
     let start = c.args.r.now in
-    row_there (g.M.Memory.view c.args.roomy.now.near.memory.now) c.args.f.now start.world.now (g.met.M.Memory.whole c.args.roomy.now.near.memory.now) c.requires.ready start c.requires.same refl
-    (g.M.Memory.view c.step_row.new.m.near.memory.now) c.step_row.new.r c.in_ok-end.end (g.met.M.Memory.whole c.step_row.new.m.near.memory.now) (ap (λ (x : View). x.head) row.takes.fixed) row.does.does
+    row_there (g.M.Memory.view c.args.roomy.now.near.memory.now) c.args.f.now start.world.now (g.met.M.Memory.whole c.args.roomy.now.near.memory.now) c.requires.ready c.args.code start c.requires.fetched refl
+    (g.M.Memory.view c.bytecode.new.m.near.memory.now) c.bytecode.new.r c.in_ok-end.end (g.met.M.Memory.whole c.bytecode.new.m.near.memory.now) (ap (λ (x : View). x.head) row.takes.fixed) row.does.does
 
 -- where nothing is left to be done
 
@@ -45,16 +45,16 @@ returns-in-Went-clause-step g c =
     let row = c.in_ok-end.ensures in
     let hold = c.hold_moved.ensures in
     let v = g.M.Memory.view c.args.roomy.now.near.memory.now in
-    let u = g.M.Memory.view c.step_row.new.m.near.memory.now in
+    let u = g.M.Memory.view c.bytecode.new.m.near.memory.now in
     let h = g.M.Memory.view c.hold_moved.new.self.memory.now in
     let k = g.M.Memory.view c.finish_calmly.new.near.memory.now in
     let f = c.args.f.now in
     let q = c.hold_moved.new.f in
     let start = c.args.r.now in
     let w = start.world.now in
-    let r = c.step_row.new.r in
-    let goes = row_goes v f w (g.met.M.Memory.whole c.args.roomy.now.near.memory.now) c.requires.ready start c.requires.same refl u r c.in_ok-end.end
-    (g.met.M.Memory.whole c.step_row.new.m.near.memory.now) (ap (λ (x : View). x.head) row.takes.fixed) row.does.does h q row.does.world hold.same hold.objects hold.head
+    let r = c.bytecode.new.r in
+    let goes = row_goes v f w (g.met.M.Memory.whole c.args.roomy.now.near.memory.now) c.requires.ready c.args.code start c.requires.fetched refl u r c.in_ok-end.end
+    (g.met.M.Memory.whole c.bytecode.new.m.near.memory.now) (ap (λ (x : View). x.head) row.takes.fixed) row.does.does h q row.does.world hold.same hold.objects hold.head
     (subst (λ y. y ≢ rows.Leaves) (sym c.in-Went.is) (λ e. cc)) code_outcome.Went (sym (ap (outcome_in r) c.in-Went.is)) in
     let ready = quick_ready u h f q w (still_ready v u f f w (ap (λ (x : View). x.held) row.takes.fixed) refl c.requires.ready) hold.frame in
     subst (λ y. GoesCalmly (shown v f w) r.left (Ok y) (shown k q w))
@@ -65,7 +65,7 @@ pub returns-in-Went-clause-same_memory : goal.returns-in-Went-clause-same_memory
 returns-in-Went-clause-same_memory g c =
     c.finish_calmly.ensures.same_memory
     ∙ (c.hold_moved.ensures.same_memory
-    ∙ same_name (g.M.Memory.view c.args.roomy.now.near.memory.now) (g.M.Memory.view c.step_row.new.m.near.memory.now) c.args.roomy.now.near.memory.ghost_name c.step_row.new.m.near.memory.ghost_name
+    ∙ same_name (g.M.Memory.view c.args.roomy.now.near.memory.now) (g.M.Memory.view c.bytecode.new.m.near.memory.now) c.args.roomy.now.near.memory.ghost_name c.bytecode.new.m.near.memory.ghost_name
     c.in_ok-end.ensures.takes.fixed)
 
 -- where a deed is left
@@ -80,15 +80,15 @@ returns-in-Leaves-clause-step g c =
     let q = c.hold_moved.new.f in
     let start = c.args.r.now in
     let w = start.world.now in
-    let r = c.step_row.new.r in
+    let r = c.bytecode.new.r in
     subst (λ y. GoesBy (foreseen_step (shown v f w)) (outcome_in r y) (Finishes (with_deed (deed_in r y) (shown h q w)))) c.in-Leaves.is
-    (row_leaves v f w (g.met.M.Memory.whole c.args.roomy.now.near.memory.now) c.requires.ready start c.requires.same refl (g.M.Memory.view c.step_row.new.m.near.memory.now) r c.in_ok-end.end
-    (g.met.M.Memory.whole c.step_row.new.m.near.memory.now) (ap (λ (x : View). x.head) row.takes.fixed) row.does.does h q row.does.world hold.same hold.objects hold.head)
+    (row_leaves v f w (g.met.M.Memory.whole c.args.roomy.now.near.memory.now) c.requires.ready c.args.code start c.requires.fetched refl (g.M.Memory.view c.bytecode.new.m.near.memory.now) r c.in_ok-end.end
+    (g.met.M.Memory.whole c.bytecode.new.m.near.memory.now) (ap (λ (x : View). x.head) row.takes.fixed) row.does.does h q row.does.world hold.same hold.objects hold.head)
 
 pub returns-in-Leaves-clause-same_memory : goal.returns-in-Leaves-clause-same_memory
 returns-in-Leaves-clause-same_memory g c =
     c.hold_moved.ensures.same_memory
-    ∙ same_name (g.M.Memory.view c.args.roomy.now.near.memory.now) (g.M.Memory.view c.step_row.new.m.near.memory.now) c.args.roomy.now.near.memory.ghost_name c.step_row.new.m.near.memory.ghost_name
+    ∙ same_name (g.M.Memory.view c.args.roomy.now.near.memory.now) (g.M.Memory.view c.bytecode.new.m.near.memory.now) c.args.roomy.now.near.memory.ghost_name c.bytecode.new.m.near.memory.ghost_name
     c.in_ok-end.ensures.takes.fixed
 
 -- where it asks for something besides
@@ -102,22 +102,22 @@ outcome_near-requires-clause-ended g c =
     let start = c.args.r.now in
     let w = start.world.now in
     let went =
-    row_ends v f w (g.met.M.Memory.whole c.args.roomy.now.near.memory.now) c.requires.ready start c.requires.same refl (g.M.Memory.view c.step_row.new.m.near.memory.now) c.step_row.new.r c.in_ok-end.end
-    (g.met.M.Memory.whole c.step_row.new.m.near.memory.now) (ap (λ (x : View). x.head) row.takes.fixed) row.does.does (g.M.Memory.view c.hold_moved.new.self.memory.now) c.hold_moved.new.f
+    row_ends v f w (g.met.M.Memory.whole c.args.roomy.now.near.memory.now) c.requires.ready c.args.code start c.requires.fetched refl (g.M.Memory.view c.bytecode.new.m.near.memory.now) c.bytecode.new.r c.in_ok-end.end
+    (g.met.M.Memory.whole c.bytecode.new.m.near.memory.now) (ap (λ (x : View). x.head) row.takes.fixed) row.does.does (g.M.Memory.view c.hold_moved.new.self.memory.now) c.hold_moved.new.f
     row.does.world hold.same hold.objects hold.head c.in_default.not-Leaves in
-    (c.step_row.new.r, (w, shown v f w, went))
+    (c.bytecode.new.r, (w, shown v f w, went))
 
 pub returns-in_default-clause-step : goal.returns-in_default-clause-step
 returns-in_default-clause-step g c =
     let row = c.in_ok-end.ensures in
     let hold = c.hold_moved.ensures in
     let start = c.args.r.now in
-    row_asks (g.M.Memory.view c.args.roomy.now.near.memory.now) c.args.f.now start.world.now (g.met.M.Memory.whole c.args.roomy.now.near.memory.now) c.requires.ready start c.requires.same refl
-    (g.M.Memory.view c.step_row.new.m.near.memory.now) c.step_row.new.r c.in_ok-end.end (g.met.M.Memory.whole c.step_row.new.m.near.memory.now) (ap (λ (x : View). x.head) row.takes.fixed) row.does.does
-    (g.M.Memory.view c.hold_moved.new.self.memory.now) c.hold_moved.new.f row.does.world hold.same hold.objects hold.head c.in_default.not-Leaves c.outcome_near.result (c.outcome_near.ensures c.step_row.new.r)
+    row_asks (g.M.Memory.view c.args.roomy.now.near.memory.now) c.args.f.now start.world.now (g.met.M.Memory.whole c.args.roomy.now.near.memory.now) c.requires.ready c.args.code start c.requires.fetched refl
+    (g.M.Memory.view c.bytecode.new.m.near.memory.now) c.bytecode.new.r c.in_ok-end.end (g.met.M.Memory.whole c.bytecode.new.m.near.memory.now) (ap (λ (x : View). x.head) row.takes.fixed) row.does.does
+    (g.M.Memory.view c.hold_moved.new.self.memory.now) c.hold_moved.new.f row.does.world hold.same hold.objects hold.head c.in_default.not-Leaves c.outcome_near.result (c.outcome_near.ensures c.bytecode.new.r)
 
 pub returns-in_default-clause-same_memory : goal.returns-in_default-clause-same_memory
 returns-in_default-clause-same_memory g c =
     c.hold_moved.ensures.same_memory
-    ∙ same_name (g.M.Memory.view c.args.roomy.now.near.memory.now) (g.M.Memory.view c.step_row.new.m.near.memory.now) c.args.roomy.now.near.memory.ghost_name c.step_row.new.m.near.memory.ghost_name
+    ∙ same_name (g.M.Memory.view c.args.roomy.now.near.memory.now) (g.M.Memory.view c.bytecode.new.m.near.memory.now) c.args.roomy.now.near.memory.ghost_name c.bytecode.new.m.near.memory.ghost_name
     c.in_ok-end.ensures.takes.fixed

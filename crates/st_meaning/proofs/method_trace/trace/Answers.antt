@@ -3,7 +3,7 @@ use Rattle.st_scan.specs.Views.{method_view}
 use Rattle.st_emit.specs.inside.NameViews.{names_view}
 use Rattle.st_emit.proofs.Forms.{names_many}
 use Rattle.st_meaning.specs.declared.arena.Node.{Node}
-use Rattle.st_meaning.specs.inside.Deeds.{answers_view, deeds_view}
+use Rattle.st_meaning.specs.inside.Deeds.{answers_view}
 use Rattle.st_meaning.specs.inside.Meanings.{Trace}
 use Rattle.st_meaning.specs.inside.Courses.{going_view}
 use Rattle.st_meaning.specs.inside.Traced.{IsOver, IsCut, method_in}
@@ -17,7 +17,7 @@ returns-clause-list c =
     let begun = begun_with c.len.result (length (method_view c.args.tree.now).arguments) c.args.answers.now.items c.deref.result.now (going_view c.in_ok-course.course) c.in_ok-course.ensures.begins many c.deref.ensures.value in
     let same = trace_is (method_view c.args.tree.now) (names_view c.args.names.now) (answers_view c.args.answers.now.items) c.in_ok-sketch.sketch c.in_ok-sketch.inside (1000000 + 1) (going_view c.in_ok-course.course) c.in_ok-sketch.ensures refl begun in
     let done = subst (λ (xs : List Node). IsOver (method_in xs (1000000 + 1) c.in_ok-sketch.inside) c.in_ok-course.course c.method.new.course) c.deref-2.ensures.value c.in_ok-method.ensures.over in
-    lists_over (Trace (method_view c.args.tree.now) (names_view c.args.names.now) (answers_view c.args.answers.now.items)) (deeds_view c.method.new.course.deeds.items) (sym same ∙ done)
+    lists_over (Trace (method_view c.args.tree.now) (names_view c.args.names.now) (answers_view c.args.answers.now.items)) (going_view c.method.new.course) (sym same ∙ done)
 
 pub returns-in_err-method-clause-fault : goal.returns-in_err-method-clause-fault
 returns-in_err-method-clause-fault c =

@@ -117,7 +117,7 @@ acts-returns-in-None-clause-goes t c =
     let old = going_view c.loop-one.course in
     let next = going_view c.act.new.course in
     let did = none_over (act_in xs c.args.bound c.one-item.result c.loop-one.value old) _ next c.in-None.is c.in_ok-next.ensures.goes in
-    each_over (act_run most (runs_of most xs) c.args.bound) c.args.acts.now c.loop-one.one-index c.one-item.result c.loop-one.value old next.deeds (acts_in xs c.args.bound c.args.acts.now c.args.begun (going_view c.args.course.now))
+    each_over (act_run most (runs_of most xs) c.args.bound) c.args.acts.now c.loop-one.one-index c.one-item.result c.loop-one.value old next (acts_in xs c.args.bound c.args.acts.now c.args.begun (going_view c.args.course.now))
     c.loop-one-test.true c.one-item.is did c.loop-one.invariant.goes
 
 pub acts-returns-in_err-next-clause-long : goal.acts-returns-in_err-next-clause-long
@@ -207,7 +207,7 @@ sends-returns-in-None-clause-goes t c =
     let next = going_view c.message.new.course in
     let each = λ (m : Message) (v : Value). message_run most (runs_of most xs) c.args.bound c.args.above c.args.receiver m in
     let did = none_over (message_in xs c.args.bound c.args.above c.args.receiver c.one-item.result old) _ next c.in-None.is c.in_ok-answer.ensures.goes in
-    each_over each c.args.messages.now c.loop-one.one-index c.one-item.result c.loop-one.value old next.deeds (messages_in xs c.args.bound c.args.above c.args.receiver c.args.messages.now (going_view c.args.course.now))
+    each_over each c.args.messages.now c.loop-one.one-index c.one-item.result c.loop-one.value old next (messages_in xs c.args.bound c.args.above c.args.receiver c.args.messages.now (going_view c.args.course.now))
     c.loop-one-test.true c.one-item.is did c.loop-one.invariant.goes
 
 pub sends-returns-in_err-answer-clause-long : goal.sends-returns-in_err-answer-clause-long
@@ -258,7 +258,7 @@ message-returns-in-None-clause-goes t c =
     let mid = going_view c.arguments.new.course in
     let m = c.args.message.now in
     let none = none_over (arguments_in xs c.args.bound c.deref.result.now old) _ mid (ap (option_map (λ (vs : Vec Value). stack_view vs.items)) c.in-None.is) c.in_ok-values.ensures.goes in
-    message_over xs c.args.bound c.args.above c.args.receiver m c.deref.result.now mid.deeds old c.deref.ensures.value none
+    message_over xs c.args.bound c.args.above c.args.receiver m c.deref.result.now mid old c.deref.ensures.value none
 
 pub message-returns-in_err-values-clause-long : goal.message-returns-in_err-values-clause-long
 message-returns-in_err-values-clause-long t c =
@@ -367,7 +367,7 @@ body-returns-in-None-clause-goes t c =
     let old = going_view c.args.course.now in
     let mid = going_view c.statements.new.course in
     let ended = none_over (nodes_in c.args.before.now c.args.bound c.deref.result.now old) _ mid c.in-None.is c.in_ok-value.ensures.goes in
-    ended_over c.args.before.now c.args.bound (left most (runs_of most c.args.before.now) c.args.bound) c.args.inside.now c.deref.result.now old c.deref.ensures.value mid.deeds ended
+    ended_over c.args.before.now c.args.bound (left most (runs_of most c.args.before.now) c.args.bound) c.args.inside.now c.deref.result.now old c.deref.ensures.value mid ended
 
 pub body-returns-in_err-value-clause-long : goal.body-returns-in_err-value-clause-long
 body-returns-in_err-value-clause-long t c =

@@ -37,7 +37,7 @@ pub returns-in-None-clause-over : goal.returns-in-None-clause-over
 returns-in-None-clause-over c =
     let old = going_view c.args.course.now in
     let mid = going_view c.statements.new.course in
-    ended_over c.args.nodes.now c.args.bound (method_end most (runs_of most c.args.nodes.now) c.args.bound) c.args.inside.now c.deref.result.now old c.deref.ensures.value mid.deeds
+    ended_over c.args.nodes.now c.args.bound (method_end most (runs_of most c.args.nodes.now) c.args.bound) c.args.inside.now c.deref.result.now old c.deref.ensures.value mid
     (none_over (nodes_in c.args.nodes.now c.args.bound c.deref.result.now old) _ mid c.in-None.is c.in_ok-value.ensures.goes)
 
 pub returns-in_err-value-clause-long : goal.returns-in_err-value-clause-long

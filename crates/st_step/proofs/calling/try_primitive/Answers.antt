@@ -6,7 +6,7 @@ use Rattle.st_model.specs.View.{View}
 use Rattle.st_frames.specs.declared.ending.RowEnd.{RowEnd}
 use Rattle.st_frames.specs.inside.Rows.{row_state}
 use Rattle.st_frames.specs.inside.Shown.{shown}
-use Rattle.st_step.specs.inside.Trying.{deed_if_any}
+use Rattle.st_step.specs.inside.Responding.{deed_if_any}
 use Rattle.st_step.proofs.Stepped.{done_after}
 use Rattle.st_step.proofs.Called.{dies, ends, registers_gone, said_gone, too_many, row_as, view_still, fails}
 use Rattle.st_step.proofs.calling.try_primitive.Goals as goal

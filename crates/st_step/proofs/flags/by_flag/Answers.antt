@@ -1,7 +1,6 @@
 use Rattle.std.proofs.Common.{arith}
 use Rattle.st_frames.proofs.Doing.{rows}
-use Rattle.st_step.specs.inside.Responding.{by_flag}
-use Rattle.st_model.specs.Executing.{goes_on}
+use Rattle.st_model.specs.Executing.{goes_on, by_flag}
 use Rattle.st_step.proofs.flags.by_flag.Goals as goal
 
 pub returns-in-5-clause-does : goal.returns-in-5-clause-does

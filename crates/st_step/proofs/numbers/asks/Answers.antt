@@ -1,7 +1,6 @@
 use Rattle.std.proofs.Common.{arith}
 use Rattle.st_frames.proofs.Doing.{rows}
-use Rattle.st_step.specs.inside.Trying.{succeeds}
-use Rattle.st_model.specs.Executing.{asks}
+use Rattle.st_model.specs.Executing.{succeeds, asks}
 use Rattle.st_step.proofs.numbers.asks.Goals as goal
 
 pub returns-in_err-receiver-clause-does : goal.returns-in_err-receiver-clause-does

@@ -1,6 +1,6 @@
 use Rattle.std.proofs.Common.{arith}
 use Rattle.st_step.proofs.Tries.{tries}
-use Rattle.st_step.specs.inside.Trying.{if_done}
+use Rattle.st_model.specs.Executing.{if_done}
 use Rattle.st_step.proofs.numbers.try_arithmetic.Goals as goal
 
 pub returns-in_err-answer_integers-in-Ok-clause-does : goal.returns-in_err-answer_integers-in-Ok-clause-does

@@ -1,32 +1,32 @@
 use Rattle.std.proofs.Common.{arith}
 use Rattle.st_frames.proofs.Doing.{rows}
-use Rattle.st_step.specs.inside.Trying.{performs, perform_if_fits, succeeds}
-use Rattle.st_step.proofs.perform.performs_above.Goals as goal
+use Rattle.st_model.specs.Executing.{perform, perform_found, succeeds}
+use Rattle.st_step.proofs.perform.perform_fields.Goals as goal
 
 pub returns-in_err-class-clause-does : goal.returns-in_err-class-clause-does
-unfolding performs perform_if_fits succeeds
+unfolding perform perform_found succeeds
 returns-in_err-class-clause-does g c = grind (arith, rows)
 
 pub returns-in_err-found-clause-does : goal.returns-in_err-found-clause-does
-unfolding performs perform_if_fits succeeds
+unfolding perform perform_found succeeds
 returns-in_err-found-clause-does g c = grind (arith, rows)
 
 pub returns-in_err-takes-clause-does : goal.returns-in_err-takes-clause-does
-unfolding performs perform_if_fits succeeds
+unfolding perform perform_found succeeds
 returns-in_err-takes-clause-does g c = grind (arith, rows)
 
 pub returns-then-not-branch-clause-does : goal.returns-then-not-branch-clause-does
-unfolding performs perform_if_fits succeeds
+unfolding perform perform_found succeeds
 returns-then-not-branch-clause-does g c = grind (arith, rows)
 
-pub returns-in_err-drop_selector-clause-does : goal.returns-in_err-drop_selector-clause-does
-unfolding performs perform_if_fits succeeds
-returns-in_err-drop_selector-clause-does g c = grind (arith, rows)
+pub returns-in_err-spread_array-clause-does : goal.returns-in_err-spread_array-clause-does
+unfolding perform perform_found succeeds
+returns-in_err-spread_array-clause-does g c = grind (arith, rows)
 
 pub returns-in_err-end-clause-does : goal.returns-in_err-end-clause-does
-unfolding performs perform_if_fits succeeds
+unfolding perform perform_found succeeds
 returns-in_err-end-clause-does g c = grind (arith, rows)
 
 pub returns-clause-does : goal.returns-clause-does
-unfolding performs perform_if_fits succeeds
+unfolding perform perform_found succeeds
 returns-clause-does g c = grind (arith, rows)

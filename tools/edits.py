@@ -1,0 +1,105 @@
+"""An edit of a crate's code: the text that it leaves, and the parts of the crate that it turns."""
+
+import dataclasses
+import pathlib
+import re
+
+FOLDERS = ("src", "specs", "proofs")
+# What the layout of `rt fmt` shows: a function's first line, and the head of the `impl` or trait that a method stands in.
+FUNCTION = re.compile(r"^( {4})?(?:pub(?:\([a-z]+\))? )?(?:const )?fn (\w+)", re.M)
+TRAIT = re.compile(r"^(?:pub(?:\([a-z]+\))? )?trait (\w+)", re.M)
+IMPL = re.compile(r"^impl(?P<parameters><[^{]*?>)? (?:(?P<of>[\w:]+)(?P<given><[^{]*?>)? for )?(?P<type>[\w:]+)[^{;]*\{", re.M)
+
+
+class Unfit(Exception):
+    """The edit can't be applied: why."""
+
+
+@dataclasses.dataclass
+class Edited:
+    texts: dict  # the files that the edit changes, by their paths in the crate's folder, with their new texts
+    parts: list  # the functions that it turns, as the checker names them; the module if it turns something else
+
+
+def last_word(path):
+    return path.rpartition("::")[2]
+
+
+def owner_of(text, start):
+    """What the name of a method that begins here has before the method's own, or None if that can't be told."""
+    heads = sorted([*TRAIT.finditer(text, 0, start), *IMPL.finditer(text, 0, start)], key=lambda it: it.start())
+    if not heads:
+        return None
+    head = heads[-1]
+    if head.re is TRAIT:
+        return head[1]
+    type_name = last_word(head["type"])
+    if re.search(rf"\b{type_name}\b *[,:>]", head["parameters"] or ""):
+        type_name = "Any"
+    if not head["of"]:
+        return type_name
+    given = [last_word(it) for it in re.findall(r"(?<!')\b[A-Z][\w:]*", re.sub(r"<[^<>]*>", "", (head["given"] or "")[1:-1]))]
+    return type_name + last_word(head["of"]) + "".join(given)
+
+
+def module_of(file):
+    parts = pathlib.PurePath(file).with_suffix("").parts[1:]
+    return [] if parts in (("lib",), ("main",)) else list(parts)
+
+
+def method_around(text, head):
+    """The name of the function that begins so, without its module's, and where its last line ends; or None if that can't be told."""
+    indent, name = head[1] or "", head[2]
+    closes = re.compile(rf"^{indent}\}}$", re.M).search(text, head.end())
+    owner = owner_of(text, head.start()) if indent else ""
+    if owner is None or not closes:
+        return None
+    return "::".join([*([owner] if owner else []), name]), closes.end()
+
+
+def part_around(file, text, start, end):
+    """The function that this part of a file stands in, else the module."""
+    heads = [*FUNCTION.finditer(text, 0, end)]
+    found = method_around(text, heads[-1]) if heads and heads[-1].start() <= start else None
+    if found and end <= found[1]:
+        return "::".join([*module_of(file), found[0]])
+    return "::".join(module_of(file))
+
+
+def replace_once(file, text, old, new):
+    """The text with `new` in place of the one `old`, and the part of the crate around it."""
+    found = text.count(old)
+    if found != 1:
+        raise Unfit(f"an 'old:' text stands {found} times in {file}, and not once")
+    start = text.index(old)
+    return text.replace(old, new), part_around(file, text, start, start + len(old))
+
+
+def read_file(folder, file):
+    if pathlib.PurePath(file).parts[:1] not in [(it,) for it in FOLDERS] or ".." in pathlib.PurePath(file).parts:
+        raise Unfit(f"{file} is no file below src, specs or proofs")
+    try:
+        return (folder / file).read_text()
+    except (OSError, UnicodeDecodeError):
+        raise Unfit(f"{file} can't be read") from None
+
+
+def apply_edit(edit, folder):
+    """What a crate's folder becomes by the text of an edit: lines `file:`, and then pairs of lines `old:` and `new:`."""
+    texts, parts, file, old = {}, [], None, None
+    for line in edit.split("\n"):
+        word, _, rest = line.partition(":")
+        rest = rest.removeprefix(" ")
+        if word == "file":
+            file = rest.strip()
+        elif word == "old":
+            old = rest
+        elif word == "new":
+            if not file or not old:
+                raise Unfit("a 'new:' line has no 'file:' and 'old:' lines before it")
+            texts[file], part = replace_once(file, texts.get(file) or read_file(folder, file), old, rest)
+            parts.append(part)
+            old = None
+    if not texts:
+        raise Unfit("it has no 'old:' and 'new:' pair")
+    return Edited(texts, sorted({*parts}))
