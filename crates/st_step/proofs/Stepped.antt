@@ -17,7 +17,7 @@ use Rattle.st_model.specs.Table.{Table, table, apart, bounded_table, total_used}
 use Rattle.st_model.specs.inside.Calls.{transition_of}
 use Rattle.st_model.specs.Deeds.{deed_done, world_done, with_deed}
 use Rattle.st_model.specs.Bytecodes.{step}
-use Rattle.st_model.specs.Show.{IsUsed}
+use Rattle.st_model.specs.Show.{IsUsed, IsClosed}
 use Rattle.st_model.specs.inside.Foreseen.{Foretells}
 use Rattle.st_model.specs.View.{View, IsWhole}
 use Rattle.st_simulation.proofs.HeapsSame.{same_used}
@@ -115,12 +115,15 @@ carried_out v u h z f q w x start r end d same begun does deed held world object
     let left = ap (λ e. with_deed e (row_state u.objects u.head r)) (sym deed) ∙ done_after u h z q w x r d held (world ∙ begun) objects head done head_done changed in
     from_row (step bounded_table) v f w start _ same begun (does ∙ ap (λ s. Went (outcome_in r end) s) left)
 
-pub there_after : (v : View) (f : Frame) (world : World) (t : Table) (a : Head) (r : Words) (o : Outcome) (d : Deed) → IsWhole v → IsReady v f world
-    → (step bounded_table).run (shown v f world) ≡ Went o (with_deed d (row_state t a r)) → are_there table t (registers_in r) ≡ true
+-- in a state in which nothing dangles the registers are there
+pub there_in : (t : Table) (a : Head) (r : Words) (d : Deed) → IsClosed (with_deed d (row_state t a r)) → are_there table t (registers_in r) ≡ true
 unfolding row_state
-there_after v f world t a r o d w ready e =
-    let closed = step_closed (shown v f world) (with_deed d (row_state t a r)) o (is_closed v f world w ready) e in
+there_in t a r d closed =
     let before : (x : Word) → IsLive (IsUsed (deed_done d t)) (word x) → IsNarrow x → is_there table t (word x) ≡ true = λ x l n. sym (deed_leaves_there d t (word x)) ∙ word_there (deed_done d t) x l n in
     all_four (is_there table t (word r.active)) (is_there table t (word r.home)) (is_there table t (word r.method)) (is_there table t (word r.receiver))
     (before r.active closed.roots.0 r.active_narrow) (before r.home closed.roots.1.0 r.home_narrow)
     (before r.method closed.roots.1.1.0 r.method_narrow) (before r.receiver closed.roots.1.1.1.0 r.receiver_narrow)
+
+pub there_after : (v : View) (f : Frame) (world : World) (t : Table) (a : Head) (r : Words) (o : Outcome) (d : Deed) → IsWhole v → IsReady v f world
+    → (step bounded_table).run (shown v f world) ≡ Went o (with_deed d (row_state t a r)) → are_there table t (registers_in r) ≡ true
+there_after v f world t a r o d w ready e = there_in t a r d (step_closed (shown v f world) (with_deed d (row_state t a r)) o (is_closed v f world w ready) e)

@@ -1,46 +1,31 @@
-ghost use Rattle.std.specs.Prelude.{◌≡◌, true, false, IfOk, IfErr};
-ghost use Rattle.st_model.specs.{declared.dead.Dead.TheVariants.Kind, Steps.are_there};
-ghost use Rattle.st_model.specs.{Table.{table, bounded_table}, inside.Calls.Does};
-ghost use Rattle.st_frames.specs.{inside.Rows.registers_in, inside.Shown.{IsReady, shown}};
-ghost use Rattle.st_step.specs.inside.{Trying.{try_primitive, is_said_there, outcome_of_trial, IsStill}, Responding.outcome_if_any};
+ghost use Rattle.std.specs.Prelude.{◌≡◌, ◌≢◌, Some, IfOk};
+ghost use Rattle.st_model.specs.{Table.bounded_table, inside.Calls.Does};
+ghost use Rattle.st_frames.specs.declared.registers.Registers.{Registers as Words};
+ghost use Rattle.st_frames.specs.{inside.Rows.outcome_in, inside.Shown.{IsFrame, IsReady, shown}};
+ghost use Rattle.st_input.specs.declared.tried.Tried.TheVariants.{Failed};
+ghost use Rattle.st_step.specs.inside.Trying.{tried_number, outcome_of_trial, IsStill, SaysTop};
 
 use crate::numbers::tried_number;
-use crate::stepping::deed_in;
-use st_frames::{Frame, Registers, RowEnd, World, hold, load};
+use crate::stepping::{deed_in, say_top};
+use st_frames::{Frame, RowEnd, World, hold, load};
 use st_input::{Tried, carry_out};
-use st_memory::{Memory, live_value};
+use st_memory::Memory;
 use st_model::{Dead, Outcome};
 
-/// Whether the registers name what is there.
-fn are_there<M: Memory>(m: &M, r: &Registers) -> bool
-    ensures { result ≡ are_there table (M.view m.now).objects (registers_in r.now) }
+/// What a primitive came to that didn't fail, whose row ended so.
+fn trial<M: Memory>(m: &M, f: &Frame, end: RowEnd) -> Tried
+    requires frame { IsFrame (M.view m.now) f.now }
+    requires top { (q : Words) × SaysTop (M.view m.now) f.now q end }
+    ensures outcome { (q : Words) → SaysTop (M.view m.now) f.now q end
+        → outcome_of_trial result ≡ Some (outcome_in q end) }
+    ensures succeeded { result ≢ Failed }
 {
-    live_value(m, r.active).is_some()
-        && live_value(m, r.home).is_some()
-        && live_value(m, r.method).is_some()
-        && live_value(m, r.receiver).is_some()
-}
-
-/// What is to be said of a primitive that was tried, whose row left these registers. An error where what is to be said isn't
-/// there.
-fn trial_of<M: Memory>(m: &M, r: &Registers, row: Option<RowEnd>) -> Result<Tried, Dead>
-    ensures same { IfOk result (λ t. outcome_of_trial t ≡ outcome_if_any r.now row) }
-    ensures there { IfOk result
-        (λ t. is_said_there table (M.view m.now).objects (outcome_if_any r.now row) ≡ true) }
-    ensures gone { IfErr result
-        (λ k. is_said_there table (M.view m.now).objects (outcome_if_any r.now row) ≡ false) }
-    ensures cause { IfErr result (λ k. k ≡ Kind) }
-{
-    match row {
-        None => Ok(Tried::Failed),
-        Some(RowEnd::Went) | Some(RowEnd::Leaves) => Ok(Tried::Done),
-        Some(RowEnd::Snapshot) => Ok(Tried::Outcome(Outcome::Snapshot)),
-        Some(RowEnd::Quit) => Ok(Tried::Outcome(Outcome::Quit)),
-        Some(RowEnd::Debugger) => Ok(Tried::Outcome(Outcome::Debugger)),
-        Some(RowEnd::Says) => match live_value(m, r.said) {
-            Some(said) => Ok(Tried::Outcome(Outcome::Say(said))),
-            None => Err(Dead::Kind),
-        },
+    match end {
+        RowEnd::Went | RowEnd::Leaves => Tried::Done,
+        RowEnd::Says => Tried::Outcome(say_top(m, f)),
+        RowEnd::Snapshot => Tried::Outcome(Outcome::Snapshot),
+        RowEnd::Quit => Tried::Outcome(Outcome::Quit),
+        RowEnd::Debugger => Tried::Outcome(Outcome::Debugger),
     }
 }
 
@@ -56,7 +41,7 @@ pub fn try_primitive<M: Memory>(
     args: u32,
 ) -> Result<Tried, Dead>
     requires ready { IsReady (M.view m.old) f.old w.old }
-    ensures does { Does (try_primitive bounded_table n args) outcome_of_trial
+    ensures does { Does (tried_number bounded_table n args) outcome_of_trial
         (shown (M.view m.old) f.old w.old) result (shown (M.view m.new) f.new w.new) }
     ensures still { IsStill (M.view m.old) f.old w.old result (M.view m.new) f.new w.new }
     ensures ready { IfOk result (λ t. IsReady (M.view m.new) f.new w.new) }
@@ -66,17 +51,13 @@ pub fn try_primitive<M: Memory>(
     }
     let mut r = load(m, f, w);
     let row = tried_number(m, &mut r, u32::from(n), args)?;
-    if !are_there(m, &r) {
-        return Err(Dead::Kind);
-    }
-    let tried = trial_of(m, &r, row)?;
     match row {
-        None => Ok(tried),
+        None => Ok(Tried::Failed),
         Some(end) => {
             *f = hold(m, &r);
             let deed = deed_in(&r, end);
             carry_out(m, w, deed);
-            Ok(tried)
+            Ok(trial(m, f, end))
         }
     }
 }

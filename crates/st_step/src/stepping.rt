@@ -41,7 +41,7 @@ pub fn deed_in(r: &Registers, end: RowEnd) -> Deed
 }
 
 /// What is to be said of the word at the top of the stack: the bytes of the object.
-fn say_top<M: Memory>(m: &M, f: &Frame) -> Outcome
+pub fn say_top<M: Memory>(m: &M, f: &Frame) -> Outcome
     requires frame { IsFrame (M.view m.now) f.now }
     requires top { HasTop (M.view m.now) f.now }
     ensures { TopSaid (M.view m.now) f.now result }
