@@ -11,11 +11,10 @@ use Rattle.st_grammar.proofs.Faulty.{tree_determined}
 use Rattle.st_grammar.proofs.Syntaxes.{means_tree}
 use Rattle.st_chunk.specs.Texts.{mark, doubled}
 use Rattle.st_chunk.specs.Groups.{header_text}
-use Rattle.st_chunk.specs.Definitions.{Definition, IsDefinition, header_for, line_feed, method_part, entry, entries, definitions_in}
+use Rattle.st_chunk.specs.Definitions.{Definition, IsDefinition, header_for, line_feed, method_part, entry, definitions_in}
 use Rattle.st_chunk.proofs.Entries.{read_back}
-use Rattle.st_changes.specs.declared.span.Span.{Span}
 use Rattle.st_changes.specs.inside.IndexStates.{IndexState, HasName, updated}
-use Rattle.st_changes.specs.Last.{HasSelector, FindsSelector, IsOf, IsNowhere, IsLast, Answers, text_place, span_of}
+use Rattle.st_changes.specs.Last.{HasSelector, FindsSelector, IsOf, IsNowhere, IsLast, Answers, text_place}
 use Rattle.st_changes.specs.inside.Prepared.{IsPrepared, IsReady}
 use Rattle.st_changes.proofs.ListTexts.{more_of, all_more}
 
@@ -40,31 +39,27 @@ entry_parts d =
     let l2 = length-append (doubled d.text) (codes "! !" ++ line_feed ∷ []) in
     omega (arith, l1, l2)
 
-pub span_at : (ds : List Definition) (d : Definition) (end : ℕ) → end ≡ length (entries ds) + length (entry d) → (span_of d end).at ≡ length (entries ds) + text_place d
-span_at ds d end is = omega (arith, is, entry_parts d)
-
 -- ONE MORE
 
 -- one of another class, side or selector
-on_other : (o : Option Span) (ds : List Definition) (d : Definition) (c : List ℕ) (m : Bool) (s : List ℕ) → (IsOf c m s d → ⊥)
+on_other : (o : Option ℕ) (ds : List Definition) (d : Definition) (c : List ℕ) (m : Bool) (s : List ℕ) → (IsOf c m s d → ⊥)
     → MatchOption o (IsNowhere ds c m s) (IsLast ds c m s) → MatchOption o (IsNowhere (ds ++ d ∷ []) c m s) (IsLast (ds ++ d ∷ []) c m s)
 on_other None ds d c m s other none = more_of (λ e. IsOf c m s e → ⊥) ds d none other
-on_other (Some span) ds d c m s other last = record {
+on_other (Some n) ds d c m s other last = record {
   before = last.before;
   last = last.last;
   behind = last.behind ++ d ∷ [];
   is = ap (λ (x : List Definition). x ++ d ∷ []) last.is ∙ append_assoc last.before (last.last ∷ last.behind) (d ∷ []);
   of = last.of;
   none = more_of (λ e. IsOf c m s e → ⊥) last.behind d last.none other;
-  at = last.at;
-  long = last.long;
+  place = last.place;
 }
 
-module _ (ds : List Definition) (d : Definition) (f : List ℕ → Bool → List ℕ → Option Span) (answers : Answers ds f) where
+module _ (ds : List Definition) (d : Definition) (f : List ℕ → Bool → List ℕ → Option ℕ) (answers : Answers ds f) where
   pub without : FindsSelector d.text None → Answers (ds ++ d ∷ []) f
   without none c m s = on_other (f c m s) ds d c m s (λ of. none s of.named) (answers c m s)
 
-  module _ (selector : List ℕ) (has : HasSelector d.text selector) (end : ℕ) (ends : end ≡ length (entries ds) + length (entry d)) where
+  module _ (selector : List ℕ) (has : HasSelector d.text selector) (n : ℕ) (place : n ≡ length ds) where
     same_of : (c : List ℕ) (m : Bool) (s : List ℕ) → ((bytes_eq c d.class && beq m d.meta) && bytes_eq s selector) ≡ true → IsOf c m s d
     same_of c m s is =
         let parts = and_parts (bytes_eq c d.class && beq m d.meta) (bytes_eq s selector) is in
@@ -80,20 +75,20 @@ module _ (ds : List Definition) (d : Definition) (f : List ℕ → Bool → List
         (Decides-and _ _ (Decides-and _ _ (bytes_decides c d.class) (booleans_Decides m d.meta)) (bytes_decides s selector)).1
         ((sym of.class_is, sym of.side), one_selector d.text s selector of.named has)
 
-    pub with_selector : Answers (ds ++ d ∷ []) (updated f d.class d.meta selector (span_of d end))
+    pub with_selector : Answers (ds ++ d ∷ []) (updated f d.class d.meta selector n)
     with_selector c m s = by ((bytes_eq c d.class && beq m d.meta) && bytes_eq s selector) refl
       where
         by : (t : Bool) → ((bytes_eq c d.class && beq m d.meta) && bytes_eq s selector) ≡ t
-            → MatchOption (if t then Some (span_of d end) else f c m s) (IsNowhere (ds ++ d ∷ []) c m s) (IsLast (ds ++ d ∷ []) c m s)
-        by true is = record { before = ds; last = d; behind = []; is = refl; of = same_of c m s is; none = none_of (λ e. IsOf c m s e → ⊥); at = span_at ds d end ends; long = refl }
+            → MatchOption (if t then Some n else f c m s) (IsNowhere (ds ++ d ∷ []) c m s) (IsLast (ds ++ d ∷ []) c m s)
+        by true is = record { before = ds; last = d; behind = []; is = refl; of = same_of c m s is; none = none_of (λ e. IsOf c m s e → ⊥); place = place }
         by false is = on_other (f c m s) ds d c m s (λ of. true≢false (sym (test_of c m s of) ∙ is)) (answers c m s)
 
 -- one that finds the same
-pub answers_same : (ds : List Definition) (f g : List ℕ → Bool → List ℕ → Option Span) → ((c : List ℕ) (m : Bool) (s : List ℕ) → g c m s ≡ f c m s) → Answers ds f → Answers ds g
-answers_same ds f g same answers c m s = subst (λ (o : Option Span). MatchOption o (IsNowhere ds c m s) (IsLast ds c m s)) (sym (same c m s)) (answers c m s)
+pub answers_same : (ds : List Definition) (f g : List ℕ → Bool → List ℕ → Option ℕ) → ((c : List ℕ) (m : Bool) (s : List ℕ) → g c m s ≡ f c m s) → Answers ds f → Answers ds g
+answers_same ds f g same answers c m s = subst (λ (o : Option ℕ). MatchOption o (IsNowhere ds c m s) (IsLast ds c m s)) (sym (same c m s)) (answers c m s)
 
-pub answers_none : (f : List ℕ → Bool → List ℕ → Option Span) → ((c : List ℕ) (m : Bool) (s : List ℕ) → f c m s ≡ None) → Answers [] f
-answers_none f none c m s = subst (λ (o : Option Span). MatchOption o (IsNowhere [] c m s) (IsLast [] c m s)) (sym (none c m s)) (none_of (λ e. IsOf c m s e → ⊥))
+pub answers_none : (f : List ℕ → Bool → List ℕ → Option ℕ) → ((c : List ℕ) (m : Bool) (s : List ℕ) → f c m s ≡ None) → Answers [] f
+answers_none f none c m s = subst (λ (o : Option ℕ). MatchOption o (IsNowhere [] c m s) (IsLast [] c m s)) (sym (none c m s)) (none_of (λ e. IsOf c m s e → ⊥))
 
 -- WHAT IS PREPARED
 

@@ -9,7 +9,6 @@ use Rattle.std.specs.Cmp.Lexicographic.{bytes_decides}
 use Rattle.std.proofs.lemmas.Bool.{and_parts, eqb-true}
 use Rattle.std.proofs.lemmas.Bool.Decides.{Decides-eqb, Decides-and, same_from_decides}
 use Rattle.std.proofs.lemmas.List.Quantifiers.{position-Some}
-use Rattle.st_changes.specs.declared.span.Span.{Span}
 use Rattle.st_changes.specs.inside.IndexStates.{IndexState, number, same_key, found, updated, IsBounded}
 
 -- two names of one number are one
@@ -35,16 +34,16 @@ side_decides : (m n : Bool) → Decides (beq m n) (n ≡ m)
 side_decides m n = (λ e. sym ((booleans_Decides m n).0 e), λ e. (booleans_Decides m n).1 (sym e))
 
 pub looked : (x : IndexState) (c : List ℕ) (m : Bool) (s : List ℕ) (a b : Option ℕ) → number x.names c ≡ a → number x.names s ≡ b
-    → found x c m s ≡ option_and_then (λ i. option_and_then (λ j. lookup (same_key (i, m, j)) x.spans) b) a
-looked x c m s a b ec es = λ t. option_and_then (λ i. option_and_then (λ j. lookup (same_key (i, m, j)) x.spans) (es t)) (ec t)
+    → found x c m s ≡ option_and_then (λ i. option_and_then (λ j. lookup (same_key (i, m, j)) x.last) b) a
+looked x c m s a b ec es = λ t. option_and_then (λ i. option_and_then (λ j. lookup (same_key (i, m, j)) x.last) (es t)) (ec t)
 
 no_other : (x y : Bool) → y ≡ false → x && y ≡ false
 no_other true y e = e
 no_other false y e = refl
 
-module _ (names : List (Vec ℕ Global)) (spans after : List ((ℕ × Bool × ℕ) × Span)) (room left : ℕ) (class : List ℕ) (meta : Bool) (selector : List ℕ) (span : Span) (i j : ℕ)
+module _ (names : List (Vec ℕ Global)) (last after : List ((ℕ × Bool × ℕ) × ℕ)) (room left : ℕ) (class : List ℕ) (meta : Bool) (selector : List ℕ) (n : ℕ) (i j : ℕ)
     (is_class : number names class ≡ Some i) (is_selector : number names selector ≡ Some j)
-    (updates : (q : ℕ × Bool × ℕ) → lookup (same_key q) after ≡ cond (same_key (i, meta, j) q) (Some span) (lookup (same_key q) spans)) where
+    (updates : (q : ℕ × Bool × ℕ) → lookup (same_key q) after ≡ cond (same_key (i, meta, j) q) (Some n) (lookup (same_key q) last)) where
   test_same : (c : List ℕ) (m : Bool) (s : List ℕ) (k l : ℕ) → number names c ≡ Some k → number names s ≡ Some l
       → same_key (i, meta, j) (k, m, l) ≡ ((bytes_eq c class && beq m meta) && bytes_eq s selector)
   test_same c m s k l ec es =
@@ -60,29 +59,29 @@ module _ (names : List (Vec ℕ Global)) (spans after : List ((ℕ × Bool × �
       by false f = refl
 
   abbrev before : IndexState
-  before = record { names = names; spans = spans; room = room }
+  before = record { names = names; last = last; room = room }
 
   abbrev behind : IndexState
-  behind = record { names = names; spans = after; room = left }
+  behind = record { names = names; last = after; room = left }
 
-  pub noted : (c : List ℕ) (m : Bool) (s : List ℕ) → found behind c m s ≡ updated (found before) class meta selector span c m s
+  pub noted : (c : List ℕ) (m : Bool) (s : List ℕ) → found behind c m s ≡ updated (found before) class meta selector n c m s
   noted c m s = by (number names c) (number names s) refl refl
     where
-      by : (x y : Option ℕ) → number names c ≡ x → number names s ≡ y → found behind c m s ≡ updated (found before) class meta selector span c m s
+      by : (x y : Option ℕ) → number names c ≡ x → number names s ≡ y → found behind c m s ≡ updated (found before) class meta selector n c m s
       by None y ec es =
           let apart = apart_name c class i ec is_class in
           looked behind c m s None y ec es
-          ∙ sym (λ t. cond ((apart t && beq m meta) && bytes_eq s selector) (Some span) (looked before c m s None y ec es t))
+          ∙ sym (λ t. cond ((apart t && beq m meta) && bytes_eq s selector) (Some n) (looked before c m s None y ec es t))
       by (Some k) None ec es =
           let apart = apart_name s selector j es is_selector in
           looked behind c m s (Some k) None ec es
-          ∙ sym (λ t. cond (no_other (bytes_eq c class && beq m meta) (bytes_eq s selector) apart t) (Some span) (looked before c m s (Some k) None ec es t))
+          ∙ sym (λ t. cond (no_other (bytes_eq c class && beq m meta) (bytes_eq s selector) apart t) (Some n) (looked before c m s (Some k) None ec es t))
       by (Some k) (Some l) ec es =
           looked behind c m s (Some k) (Some l) ec es
           ∙ updates (k, m, l)
-          ∙ (λ t. cond (test_same c m s k l ec es t) (Some span) (sym (looked before c m s (Some k) (Some l) ec es) t))
+          ∙ (λ t. cond (test_same c m s k l ec es t) (Some n) (sym (looked before c m s (Some k) (Some l) ec es) t))
 
-  pub bounded : i < length names → j < length names → IsBounded names spans → IsBounded names after
+  pub bounded : i < length names → j < length names → IsBounded names last → IsBounded names after
   bounded below_i below_j old k m l v e = by (same_key (i, meta, j) (k, m, l)) refl
     where
       by : (t : Bool) → same_key (i, meta, j) (k, m, l) ≡ t → (k < length names) × (l < length names)
@@ -90,4 +89,4 @@ module _ (names : List (Vec ℕ Global)) (spans after : List ((ℕ × Bool × �
           let parts = and_parts (nat_eq i k && beq meta m) (nat_eq j l) is in
           let first = and_parts (nat_eq i k) (beq meta m) parts.0 in
           (subst (λ (n : ℕ). n < length names) (eqb-true i k first.0) below_i, subst (λ (n : ℕ). n < length names) (eqb-true j l parts.1) below_j)
-      by false is = old k m l v (sym (updates (k, m, l) ∙ ap (λ t. cond t (Some span) (lookup (same_key (k, m, l)) spans)) is) ∙ e)
+      by false is = old k m l v (sym (updates (k, m, l) ∙ ap (λ t. cond t (Some n) (lookup (same_key (k, m, l)) last)) is) ∙ e)

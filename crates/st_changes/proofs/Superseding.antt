@@ -5,13 +5,12 @@ use Rattle.std.proofs.Math.ListN.{length-map}
 use Rattle.std.proofs.lemmas.List.{map-append, take-append-drop, drop-take, append-nil}
 use Rattle.std.proofs.lemmas.Bool.Decides.{nat_tests}
 use Rattle.st_chunk.specs.Definitions.{Definition, entry, entries}
-use Rattle.st_changes.specs.declared.span.Span.{Span}
 use Rattle.st_changes.specs.declared.definition.Definition as declared
 use Rattle.st_changes.specs.inside.Views.{definition_of, definitions_of}
-use Rattle.st_changes.specs.Last.{HasSelector, IsOf, IsNowhere, IsLast, text_place, span_of}
+use Rattle.st_changes.specs.Last.{HasSelector, IsOf, IsNowhere, IsLast}
 use Rattle.st_changes.specs.Condensing.{IsSuperseded, IsNewest, Tells, Stays, kept_by}
 use Rattle.st_changes.specs.Condensing as stays
-use Rattle.st_changes.proofs.Lasts.{one_selector, entry_parts, span_at}
+use Rattle.st_changes.proofs.Lasts.{one_selector, entry_parts}
 use Rattle.st_changes.proofs.ListTexts.{entries_append, item_more, item_within}
 
 -- PLACES IN A LIST
@@ -52,45 +51,39 @@ member P ds es d all = subst P (found ds es d) (all (length ds) d (omega (arith,
     found [] es d = refl
     found (x ∷ ds) es d = found ds es d
 
--- A TEST BY THE LAST PLACE
+-- A TEST BY THE LAST NUMBER
 
-module _ (before behind : List Definition) (d : Definition) (selector : List ℕ) (has : HasSelector d.text selector) (end : ℕ) (ends : end ≡ length (entries before) + length (entry d)) where
+module _ (before behind : List Definition) (d : Definition) (selector : List ℕ) (has : HasSelector d.text selector) where
   abbrev itself : IsOf d.class d.meta selector d
   itself = record { class_is = refl; side = refl; named = has }
 
-  at_itself : (span : Span) (l : IsLast (before ++ d ∷ behind) d.class d.meta selector span) → IsSame before l.before d l.last behind l.behind → (span.at ≡ (span_of d end).at) × IsNewest d behind
-  at_itself span l s = (
-    l.at ∙ (λ t. length (entries (sym s.front t)) + text_place (sym s.is t)) ∙ sym (span_at before d end ends),
+  at_itself : (n : ℕ) (l : IsLast (before ++ d ∷ behind) d.class d.meta selector n) → IsSame before l.before d l.last behind l.behind → (n ≡ length before) × IsNewest d behind
+  at_itself n l s = (
+    l.place ∙ ap length (sym s.front),
     λ other named. subst (λ x. IsNowhere behind d.class d.meta x) (one_selector d.text selector other has named) (subst (λ x. IsNowhere x d.class d.meta selector) (sym s.back) l.none),
   )
 
-  at_later : (span : Span) (l : IsLast (before ++ d ∷ behind) d.class d.meta selector span) → IsBehind before l.before d l.last behind l.behind → (span.at ≢ (span_of d end).at) × IsSuperseded d behind
-  at_later span l s = (
-    λ e.
-        let a = l.at in
-        let p = span_at before d end ends in
-        let f = ap (λ x. length (entries x)) s.front ∙ ap length (entries_append before (d ∷ s.between)) ∙ length-append (entries before) (entries (d ∷ s.between)) in
-        let g = length-append (entry d) (entries s.between) in
-        let h = entry_parts d in
-        absurd (omega (arith, e, a, p, f, g, h)),
+  at_later : (n : ℕ) (l : IsLast (before ++ d ∷ behind) d.class d.meta selector n) → IsBehind before l.before d l.last behind l.behind → (n ≢ length before) × IsSuperseded d behind
+  at_later n l s = (
+    λ e. absurd (omega (arith, e, l.place, ap length s.front, length-append before (d ∷ s.between))),
     record { selector = selector; named = has; between = s.between; later = l.last; after = l.behind; is = s.back; of = l.of },
   )
 
-  not_earlier : (span : Span) (l : IsLast (before ++ d ∷ behind) d.class d.meta selector span) → IsBehind l.before before l.last d l.behind behind → ⊥
-  not_earlier span l s = member (λ e. IsOf d.class d.meta selector e → ⊥) s.between behind d (subst (λ x. IsNowhere x d.class d.meta selector) s.back l.none) itself
+  not_earlier : (n : ℕ) (l : IsLast (before ++ d ∷ behind) d.class d.meta selector n) → IsBehind l.before before l.last d l.behind behind → ⊥
+  not_earlier n l s = member (λ e. IsOf d.class d.meta selector e → ⊥) s.between behind d (subst (λ x. IsNowhere x d.class d.meta selector) s.back l.none) itself
 
-  pub tested : (span : Span) → IsLast (before ++ d ∷ behind) d.class d.meta selector span → (is : Bool) → (is ≡ true → span.at ≢ (span_of d end).at) → (is ≡ false → span.at ≡ (span_of d end).at) → Tells is d behind
-  tested span l is apart same = elim (places before l.before d l.last behind l.behind l.is) [
-    | inl s ↦ by_newest is (at_itself span l s) apart
-    | inr (inl s) ↦ by_later is (at_later span l s) same
-    | inr (inr s) ↦ absurd (not_earlier span l s)
+  pub tested : (n : ℕ) → IsLast (before ++ d ∷ behind) d.class d.meta selector n → (is : Bool) → (is ≡ true → n ≢ length before) → (is ≡ false → n ≡ length before) → Tells is d behind
+  tested n l is apart same = elim (places before l.before d l.last behind l.behind l.is) [
+    | inl s ↦ by_newest is (at_itself n l s) apart
+    | inr (inl s) ↦ by_later is (at_later n l s) same
+    | inr (inr s) ↦ absurd (not_earlier n l s)
   ]
     where
-      by_newest : (is : Bool) → (span.at ≡ (span_of d end).at) × IsNewest d behind → (is ≡ true → span.at ≢ (span_of d end).at) → Tells is d behind
+      by_newest : (is : Bool) → (n ≡ length before) × IsNewest d behind → (is ≡ true → n ≢ length before) → Tells is d behind
       by_newest true h apart = absurd (apart refl h.0)
       by_newest false h apart = h.1
 
-      by_later : (is : Bool) → (span.at ≢ (span_of d end).at) × IsSuperseded d behind → (is ≡ false → span.at ≡ (span_of d end).at) → Tells is d behind
+      by_later : (is : Bool) → (n ≢ length before) × IsSuperseded d behind → (is ≡ false → n ≡ length before) → Tells is d behind
       by_later true h same = h.1
       by_later false h same = absurd (h.0 (same refl))
 
@@ -172,6 +165,14 @@ module _ (listed : List declared.Definition) (i : ℕ) (x : declared.Definition)
   pub all_is : definitions_of listed ≡ definitions_of (take i listed) ++ definition_of x ∷ definitions_of (drop (i + 1) listed)
   unfolding behind_is
   all_is = ap definitions_of (sym (take-append-drop i listed)) ∙ (map-append definition_of (take i listed) (drop i listed) ∙ ap (λ (ds : List Definition). definitions_of (take i listed) ++ ds) behind_is)
+
+  -- the entries are those before this one, it, and those behind it
+  pub item_parts : length (entries (definitions_of listed)) ≡ length (entries (definitions_of (take i listed))) + length (entry (definition_of x)) + length (entries (definitions_of (drop (i + 1) listed)))
+  item_parts =
+      let front : List Definition = definitions_of (take i listed) in
+      let back : List Definition = definitions_of (drop (i + 1) listed) in
+      let whole = ap (λ (ds : List Definition). length (entries ds)) all_is ∙ ap length (entries_append front (definition_of x ∷ back)) in
+      omega (arith, whole, length-append (entries front) (entries (definition_of x ∷ back)), length-append (entry (definition_of x)) (entries back))
 
 pub taken_on : {X : Type 0} (xs : List X) (i j : ℕ) → i ≤ j → take j xs ≡ take i xs ++ take (j - i) (drop i xs)
 taken_on xs i j later =

@@ -1,101 +1,38 @@
--- The definition whose entry has a place, and the text of the last one of a class, a side and a selector.
-use Rattle.std.proofs.Common.{◌≡◌, ℕ, zero, suc, ◌+◌, ◌<◌, ◌≤◌, Bool, List, [], ◌∷◌, ◌++◌, length, take, drop, get_or, refl, sym, ap, ◌∙◌, subst, arith, length-append}
+-- The last definition of a class, a side and a selector, by its number, and its text.
+use Rattle.std.proofs.Common.{◌≡◌, ℕ, zero, suc, ◌+◌, ◌<◌, Bool, List, [], ◌∷◌, ◌++◌, length, take, get_or, refl, sym, ap, ◌∙◌, subst, arith, length-append}
 use Rattle.std.specs.Prelude.{Option, Some, None, MatchOption, All}
-use Rattle.std.proofs.lemmas.List.{map-append, take-append-drop, take_all}
-use Rattle.st_chunk.specs.Definitions.{Definition, entry, entries}
-use Rattle.st_changes.specs.declared.span.Span.{Span}
+use Rattle.std.proofs.Math.ListN.{get_or-map, length-map}
+use Rattle.std.proofs.Math.Seq.{take-append_seam}
+use Rattle.std.proofs.lemmas.List.{get_or-append-add, take-map}
+use Rattle.st_chunk.specs.Definitions.{Definition}
 use Rattle.st_changes.specs.declared.definition.Definition as declared
 use Rattle.st_changes.specs.inside.Views.{definition_of, definitions_of}
-use Rattle.st_changes.specs.Lists.{IsAt}
 use Rattle.st_changes.specs.Last.{IsOf, IsNowhere, IsLast, IsLastText}
-use Rattle.st_changes.proofs.Lasts.{entry_parts}
-use Rattle.st_changes.proofs.ListTexts.{entries_append, item_more}
 
--- ENTRIES
+-- THE DEFINITION OF A NUMBER
 
--- the entry of a definition of a list ends within those of the list
-entry_within : (ds before behind : List Definition) (d : Definition) → ds ≡ before ++ d ∷ behind → length (entries before) + length (entry d) ≤ length (entries ds)
-entry_within ds before behind d is =
-    let all = ap (λ (x : List Definition). length (entries x)) is ∙ ap length (entries_append before (d ∷ behind)) in
-    let l1 = length-append (entries before) (entries (d ∷ behind)) in
-    let l2 = length-append (entry d) (entries behind) in
-    omega (arith, all, l1, l2)
+module _ (listed : List declared.Definition) (n : ℕ) (class : List ℕ) (meta : Bool) (selector : List ℕ) (last : IsLast (definitions_of listed) class meta selector n) where
+  pub last_within : n < length listed
+  last_within = omega (arith, last.place, length-map listed definition_of, ap length last.is, length-append last.before (last.last ∷ last.behind))
 
--- behind all of them is no entry
-pub past_all : (listed : List declared.Definition) (i place : ℕ) (d : Definition) → length listed ≤ i → length (entries (definitions_of (take i listed))) ≤ place → IsAt (definitions_of listed) place d → ⊥
-past_all listed i place d past behind at =
-    let within = entry_within (definitions_of listed) at.before at.behind d at.is in
-    let all = ap (λ (x : List declared.Definition). length (entries (definitions_of x))) (take_all i listed past) in
-    omega (arith, within, all, behind, at.below)
+  pub last_before : definitions_of (take n listed) ≡ last.before
+  last_before = sym (take-map definition_of n listed) ∙ (λ t. take (last.place t) (last.is t)) ∙ take-append_seam last.before (last.last ∷ last.behind)
 
-module _ (listed : List declared.Definition) (i : ℕ) (x : declared.Definition) (less : i < length listed) (is : x ≡ get_or listed i x) (place : ℕ) where
-  pub item_at : length (entries (definitions_of (take i listed))) ≤ place → place < length (entries (definitions_of (take i listed))) + length (entry (definition_of x))
-      → IsAt (definitions_of listed) place (definition_of x)
-  item_at from below =
-      let front : List Definition = definitions_of (take (i + 1) listed) in
-      let back : List Definition = definitions_of (drop (i + 1) listed) in
-      let e : definitions_of listed ≡ front ++ back = ap definitions_of (sym (take-append-drop (i + 1) listed)) ∙ map-append definition_of (take (i + 1) listed) (drop (i + 1) listed) in
-      record {
-        before = definitions_of (take i listed);
-        behind = back;
-        is = e ∙ ap (λ (ds : List Definition). ds ++ back) (item_more listed i x less is) ∙ append_one (definitions_of (take i listed)) back;
-        from = from;
-        below = below;
-      }
-    where
-      append_one : (a b : List Definition) → (a ++ definition_of x ∷ []) ++ b ≡ a ++ definition_of x ∷ b
-      append_one [] b = refl
-      append_one (y ∷ a) b = ap (λ (t : List Definition). y ∷ t) (append_one a b)
+  pub last_is : (x : declared.Definition) → x ≡ get_or listed n x → definition_of x ≡ last.last
+  last_is x is =
+      let d = definition_of x in
+      let at : n ≡ length last.before + 0 = omega (arith, last.place) in
+      ap definition_of is ∙ sym (get_or-map definition_of listed n x) ∙ (λ t. get_or (last.is t) (at t) d) ∙ get_or-append-add last.before (last.last ∷ last.behind) 0 d
 
--- ONE DEFINITION
-
--- a place is within one entry alone
-one_split : (a b us vs : List Definition) (x y : Definition) (at place : ℕ) → a ++ x ∷ us ≡ b ++ y ∷ vs
-    → at + length (entries a) ≤ place → place < at + length (entries a) + length (entry x) → at + length (entries b) ≤ place → place < at + length (entries b) + length (entry y) → x ≡ y
-one_split [] [] us vs x y at place e f1 t1 f2 t2 = cc
-one_split [] (z ∷ b) us vs x y at place e f1 t1 f2 t2 =
-    let same : x ≡ z = cc in
-    let l = length-append (entry z) (entries b) in
-    let n = ap (λ (d : Definition). length (entry d)) same in
-    absurd (omega (arith, l, n, t1, f2))
-one_split (z ∷ a) [] us vs x y at place e f1 t1 f2 t2 =
-    let same : z ≡ y = cc in
-    let l = length-append (entry z) (entries a) in
-    let n = ap (λ (d : Definition). length (entry d)) same in
-    absurd (omega (arith, l, n, t2, f1))
-one_split (z ∷ a) (w ∷ b) us vs x y at place e f1 t1 f2 t2 =
-    let same : z ≡ w = cc in
-    let rest : a ++ x ∷ us ≡ b ++ y ∷ vs = cc in
-    let la = length-append (entry z) (entries a) in
-    let lb = length-append (entry w) (entries b) in
-    let n = ap (λ (d : Definition). length (entry d)) same in
-    one_split a b us vs x y (at + length (entry z)) place rest (omega (arith, la, f1)) (omega (arith, la, t1)) (omega (arith, lb, n, f2)) (omega (arith, lb, n, t2))
-
-one_at : (ds : List Definition) (place : ℕ) (d e : Definition) → IsAt ds place d → IsAt ds place e → d ≡ e
-one_at ds place d e x y = one_split x.before y.before x.behind y.behind d e 0 place (sym x.is ∙ y.is) (omega (arith, x.from)) (omega (arith, x.below)) (omega (arith, y.from)) (omega (arith, y.below))
-
--- THE LAST TEXT
-
-module _ (ds : List Definition) (class : List ℕ) (meta : Bool) (selector : List ℕ) (span : Span) (last : IsLast ds class meta selector span) where
-  -- the place of a text is within the entry
-  pub last_at : IsAt ds span.at last.last
-  last_at = record {
-    before = last.before;
-    behind = last.behind;
-    is = last.is;
-    from = omega (arith, last.at);
-    below = let p = entry_parts last.last in omega (arith, last.at, p);
-  }
-
-  pub last_text_is : (d : Definition) (text : List ℕ) → IsAt ds span.at d → text ≡ d.text → IsLastText ds class meta selector text
-  last_text_is d text at is = record {
+  pub last_text_is : (x : declared.Definition) (text : List ℕ) → x ≡ get_or listed n x → text ≡ (definition_of x).text → IsLastText (definitions_of listed) class meta selector text
+  last_text_is x text is same = record {
     before = last.before;
     last = last.last;
     behind = last.behind;
     is = last.is;
     of = last.of;
     none = last.none;
-    text_is = is ∙ ap (λ (e : Definition). e.text) (one_at ds span.at d last.last at last_at);
+    text_is = same ∙ ap (λ (d : Definition). d.text) (last_is x is);
   }
 
 -- ONE TEXT

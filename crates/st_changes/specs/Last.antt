@@ -1,5 +1,5 @@
 -- The last definition of a class, a side of it and a selector, and where its text stands in the changes file.
-use Rattle.std.specs.Prelude.{◌≡◌, ℕ, ◌+◌, ◌-◌, Bool, List, ◌∷◌, ◌++◌, length, Option, Some, None, Ok, MatchOption, All, Vec}
+use Rattle.std.specs.Prelude.{◌≡◌, ℕ, ◌+◌, Bool, List, ◌∷◌, ◌++◌, length, Option, Some, None, Ok, MatchOption, All, Vec}
 use Rattle.std.specs.Global.{Global}
 use Rattle.std.specs.Option.{option_map}
 use Rattle.std.specs.List.{AllZip}
@@ -46,17 +46,22 @@ IsNowhere ds class meta selector = All (λ d. IsOf class meta selector d → ⊥
 abbrev pub text_place : Definition → ℕ
 text_place d = length (doubled (header_text (header_for d))) + 3
 
--- The bytes are those of the text, each `!` doubled, of the last of these definitions that is of this class, this side of
--- it and this selector.
-pub record IsLast (ds : List Definition) (class : List ℕ) (meta : Bool) (selector : List ℕ) (span : Span) : Type 0 where
+-- the number, from 0, of the last of these definitions that is of this class, this side of it and this selector
+pub record IsLast (ds : List Definition) (class : List ℕ) (meta : Bool) (selector : List ℕ) (number : ℕ) : Type 0 where
   pub before : List Definition
   pub last : Definition
   pub behind : List Definition
   pub is : ds ≡ before ++ last ∷ behind
   pub of : IsOf class meta selector last
   pub none : IsNowhere behind class meta selector
-  pub at : span.at ≡ length (entries before) + text_place last
-  pub long : span.length ≡ length (doubled last.text)
+  pub place : number ≡ length before
+
+-- the bytes are those of that definition's text, each `!` doubled
+pub record IsLastSpan (ds : List Definition) (class : List ℕ) (meta : Bool) (selector : List ℕ) (span : Span) : Type 0 where
+  pub number : ℕ
+  pub last : IsLast ds class meta selector number
+  pub at : span.at ≡ length (entries last.before) + text_place last.last
+  pub long : span.length ≡ length (doubled last.last.text)
 
 -- the text is that of the last of these definitions that is of this class, this side of it and this selector
 pub record IsLastText (ds : List Definition) (class : List ℕ) (meta : Bool) (selector text : List ℕ) : Type 0 where
@@ -68,10 +73,6 @@ pub record IsLastText (ds : List Definition) (class : List ℕ) (meta : Bool) (s
   pub none : IsNowhere behind class meta selector
   pub text_is : text ≡ last.text
 
--- this finds the last of these definitions
-abbrev pub Answers : List Definition → (List ℕ → Bool → List ℕ → Option Span) → Type 0
+-- this finds the number of the last of these definitions
+abbrev pub Answers : List Definition → (List ℕ → Bool → List ℕ → Option ℕ) → Type 0
 Answers ds f = (class : List ℕ) (meta : Bool) (selector : List ℕ) → MatchOption (f class meta selector) (IsNowhere ds class meta selector) (IsLast ds class meta selector)
-
--- where a definition's text stands if its entry ends at this place
-abbrev pub span_of : Definition → ℕ → Span
-span_of d end = let n = length (doubled d.text) in record { at = end - 4 - n; length = n }

@@ -1,5 +1,5 @@
 -- What a changes file lists, and where it is damaged.
-use Rattle.std.specs.Prelude.{◌≡◌, ◌⊎◌, ℕ, ◌+◌, ◌<◌, ◌≤◌, List, ◌∷◌, ◌++◌, length, take, All, ⊤}
+use Rattle.std.specs.Prelude.{◌≡◌, ◌⊎◌, ℕ, ◌+◌, ◌<◌, ◌≤◌, List, ◌++◌, length, take, All, ⊤}
 use Rattle.st_host.specs.Files.{Files, bytes_of}
 use Rattle.st_store.specs.Names.{changes_file}
 use Rattle.st_store.specs.Stored.{StoreState}
@@ -7,7 +7,7 @@ use Rattle.st_store.specs.declared.root.Root.{Root}
 use Rattle.st_store.specs.declared.fault.StorePlace.TheVariants.{Changes}
 use Rattle.st_store.specs.declared.fault.StoreFault.{StoreFault}
 use Rattle.st_store.specs.declared.fault.StoreFault.TheVariants.{NotAStore, Disk, OutOfMemory}
-use Rattle.st_chunk.specs.Definitions.{Definition, IsDefinition, entry, entries}
+use Rattle.st_chunk.specs.Definitions.{Definition, IsDefinition, entries}
 use Rattle.st_changes.specs.Entries.{BeginsWith}
 
 -- the bytes of the changes file up to the length of the store's root
@@ -19,14 +19,6 @@ pub record StandsAt (ds : List Definition) (base : ℕ) : Type 0 where
   pub count : ℕ
   pub within : count ≤ length ds
   pub is : base ≡ length (entries (take count ds))
-
--- the place is within the entry of this one of these definitions
-pub record IsAt (ds : List Definition) (place : ℕ) (d : Definition) : Type 0 where
-  pub before : List Definition
-  pub behind : List Definition
-  pub is : ds ≡ before ++ d ∷ behind
-  pub from : length (entries before) ≤ place
-  pub below : place < length (entries before) + length (entry d)
 
 -- The bytes are the entries of these definitions and nothing else, and the base stands at one of them or at the end.
 pub record Lists (bytes : List ℕ) (base : ℕ) (ds : List Definition) : Type 0 where

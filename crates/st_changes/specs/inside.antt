@@ -3,7 +3,6 @@ pub mod Views
 pub mod Readying
 pub mod States
 pub mod IndexStates
-pub mod Indexing
 pub mod Writing
 pub mod FoundEntries
 pub mod Prepared

@@ -75,7 +75,7 @@ impl Changes {
         let root = store.root();
         let length = root.length + entry.len() as u64;
         let store = store.commit(host, Root { length, ..root })?;
-        note(&mut self.index, &definition, &selector, length);
+        note(&mut self.index, &definition, &selector, self.listed.len());
         self.listed.push_reserved(definition);
         self.length = length;
         Ok(store)

@@ -1,6 +1,6 @@
 // The list of the definitions that a changes file keeps.
 use crate::Definition;
-use crate::counting::{count_before, definition_at};
+use crate::counting::{count_before, text_span};
 use crate::index::Index;
 use crate::noting::prepare;
 use crate::selector::find_selector;
@@ -65,7 +65,7 @@ impl Changes {
     ghost use Rattle.st_changes.specs.inside.States.{FitsBehind};
     ghost use Rattle.st_changes.specs.Lists.{StandsAt};
     ghost use Rattle.std.specs.Option.{option_map};
-    ghost use Rattle.st_changes.specs.Last.{FindsSelector, IsNowhere, IsLast, IsLastText};
+    ghost use Rattle.st_changes.specs.Last.{FindsSelector, IsNowhere, IsLast, IsLastSpan, IsLastText};
 
     /// The definitions, in order.
     pub fn definitions(&self) -> &[Definition]
@@ -93,13 +93,23 @@ impl Changes {
         self.length <= LIMIT && entry <= LIMIT - self.length
     }
 
-    /// The place in the changes file of the text of the last definition of this class, this side of it (the class side, or
-    /// the instance side) and this selector; none where there is none. Of the text each `!` is doubled there.
-    pub fn last(&self, class: &[u8], meta: bool, selector: &[u8]) -> Option<Span>
+    /// The number, from 0, of the last definition of this class, this side of it (the class side, or the instance side) and this
+    /// selector; none if there is none.
+    fn last_number(&self, class: &[u8], meta: bool, selector: &[u8]) -> Option<usize>
         ensures { MatchOption result (IsNowhere self.now.listed class.now meta selector.now)
             (IsLast self.now.listed class.now meta selector.now) }
     {
         self.index.find(class, meta, selector)
+    }
+
+    /// The place in the changes file of the text of the last definition of this class, this side of it and this
+    /// selector; none if there is none. Of the text each `!` is doubled there.
+    pub fn last(&self, class: &[u8], meta: bool, selector: &[u8]) -> Option<Span>
+        ensures { MatchOption result (IsNowhere self.now.listed class.now meta selector.now)
+            (IsLastSpan self.now.listed class.now meta selector.now) }
+    {
+        let number = self.last_number(class, meta, selector)?;
+        Some(text_span(&self.listed, number, self.length))
     }
 
     /// The text of that definition, as it was defined.
@@ -108,8 +118,9 @@ impl Changes {
             (IsNowhere self.now.listed class.now meta selector.now)
             (IsLastText self.now.listed class.now meta selector.now) }
     {
-        let span = self.last(class, meta, selector)?;
-        Some(&definition_at(&self.listed, span.at).text)
+        let number = self.last_number(class, meta, selector)?;
+        let listed = self.definitions();
+        Some(&listed[number].text)
     }
 
     /// Takes the memory that `append` needs for this definition. After an error what was ready before is so still.

@@ -8,37 +8,34 @@ ghost use Rattle.st_store.specs.Faults.{RestsUnlessGate};
 ghost use Rattle.st_changes.specs.{inside.Writing.{Extends, CondenseHasCause}, Lists.StandsAt, inside.IndexStates.found};
 ghost use Rattle.st_changes.specs.{inside.Views.{definition_of, definitions_of}, Last.Answers};
 ghost use Rattle.st_changes.specs.Condensing.{Tells, Stays, kept_by, turned, Condenses, condensed};
-ghost use Rattle.st_chunk.specs.Definitions.{Definition as Defined, IsDefinition, entry, entries};
+ghost use Rattle.st_chunk.specs.Definitions.{Definition as Defined, IsDefinition, entries};
 
 use crate::Definition;
 use crate::changes::Changes;
 use crate::index::Index;
-use crate::noting::text_span;
 use crate::selector::find_selector;
-use crate::writing::{entry_length, entry_text};
+use crate::writing::entry_text;
 use st_host::{FileFault, Host, HostFault, Piece, cut_file};
 use st_store::{Root, Store};
 use std::alloc::{AllocError, Global};
 
-/// Whether behind a definition, whose entry ends at this place, there is another one of its class, side and selector.
+/// Whether after a definition, the one of this number, there is another one of its class, side and selector.
 fn is_superseded(
     alloc: Global,
     index: &Index,
     definition: &Definition,
-    end: u64,
+    number: usize,
 ) -> Result<bool, AllocError>
-    requires good { IsDefinition (definition_of definition.now) }
-    requires fits { length (entry (definition_of definition.now)) ≤ end }
+    requires { IsDefinition (definition_of definition.now) }
     ensures { IfOk result (λ yes. (before behind : List Defined)
         → Answers (before ++ definition_of definition.now ∷ behind) (found index.now)
-        → end ≡ length (entries before) + length (entry (definition_of definition.now))
-        → Tells yes (definition_of definition.now) behind) }
+        → number ≡ length before → Tells yes (definition_of definition.now) behind) }
 {
     let Some(selector) = find_selector(alloc, &definition.text)? else {
         return Ok(false);
     };
     match index.find(&definition.class, definition.meta, &selector) {
-        Some(span) => Ok(span.at != text_span(definition, end).at),
+        Some(last) => Ok(last != number),
         None => Ok(false),
     }
 }
@@ -52,7 +49,6 @@ fn mark_staying(
 ) -> Result<Vec<bool>, AllocError>
     requires good { All IsDefinition (definitions_of listed.now) }
     requires within { count ≤ length listed.now }
-    requires fits { length (entries (definitions_of listed.now)) < 2 ^ 64 }
     requires answers { Answers (definitions_of listed.now) (found index.now) }
     ensures many { IfOk result (λ marks. length marks.items ≡ count) }
     ensures stays { IfOk result (λ marks. Stays (definitions_of (drop count listed.now))
@@ -60,11 +56,8 @@ fn mark_staying(
         (kept_by marks.items (definitions_of (take count listed.now)))) }
 {
     let mut marks = Vec::new(alloc);
-    let mut end = 0;
     for i in 0..count {
-        let definition = &listed[i];
-        end += entry_length(definition);
-        let superseded = is_superseded(alloc, index, definition, end)?;
+        let superseded = is_superseded(alloc, index, &listed[i], i)?;
         marks.push(!superseded)?;
     }
     Ok(marks)

@@ -1,11 +1,12 @@
-// Definitions by places of their changes file: how many stand before one, and the one whose entry has it.
-ghost use Rattle.std.specs.Prelude.{◌≡◌, ◌≤◌, All, length, take};
-ghost use Rattle.st_chunk.specs.Definitions.{Definition as Defined, IsDefinition, entries};
-ghost use Rattle.st_changes.specs.inside.Views.{definition_of, definitions_of};
-ghost use Rattle.st_changes.specs.Lists.{StandsAt, IsAt};
+// Definitions and places of their changes file.
+ghost use Rattle.std.specs.Prelude.{◌≡◌, ◌≤◌, ◌<◌, ◌^◌, ℕ, Bool, List, All, length, take};
+ghost use Rattle.st_chunk.specs.Definitions.{IsDefinition, entries};
+ghost use Rattle.st_changes.specs.inside.Views.{definitions_of};
+ghost use Rattle.st_changes.specs.{Lists.StandsAt, Last.{IsLast, IsLastSpan}};
 
 use crate::Definition;
-use crate::writing::entry_length;
+use crate::span::Span;
+use crate::writing::{doubled_length, entry_length};
 
 /// How many of these definitions stand before a place, which is the first byte of one's entry, or their end.
 pub(crate) fn count_before(listed: &[Definition], place: u64) -> usize
@@ -24,19 +25,32 @@ pub(crate) fn count_before(listed: &[Definition], place: u64) -> usize
     listed.len()
 }
 
-/// The one of these definitions whose entry has this place.
-pub(crate) fn definition_at(listed: &[Definition], place: u64) -> &Definition
+/// How many bytes the entries of these definitions have.
+fn entries_length(listed: &[Definition]) -> u64
     requires good { All IsDefinition (definitions_of listed.now) }
-    requires there { (d : Defined) × IsAt (definitions_of listed.now) place d }
-    ensures { IsAt (definitions_of listed.now) place (definition_of result.now) }
+    requires fits { length (entries (definitions_of listed.now)) < 2 ^ 64 }
+    ensures { result ≡ length (entries (definitions_of listed.now)) }
 {
-    let mut left = place;
+    let mut end = 0;
     for definition in listed {
-        let length = entry_length(definition);
-        if left < length {
-            return definition;
-        }
-        left -= length;
+        end += entry_length(definition);
     }
-    unreachable!()
+    end
+}
+
+/// The place in a changes file, which has these entries up to this end, of the text of the definition of this number.
+pub(crate) fn text_span(listed: &[Definition], number: usize, end: u64) -> Span
+    requires good { All IsDefinition (definitions_of listed.now) }
+    requires within { number < length listed.now }
+    requires ends { end ≡ length (entries (definitions_of listed.now)) }
+    ensures { (c : List ℕ) (m : Bool) (s : List ℕ) → IsLast (definitions_of listed.now) c m s number
+        → IsLastSpan (definitions_of listed.now) c m s result }
+{
+    let definition = &listed[number];
+    let length = doubled_length(&definition.text, b'!') as u64;
+    let after = entries_length(&listed[number + 1..]);
+    Span {
+        at: end - after - length - 4,
+        length,
+    }
 }

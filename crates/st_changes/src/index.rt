@@ -1,19 +1,18 @@
-// An index of spans.
+// An index of definitions by their numbers.
 ghost use Rattle.std.specs.Prelude.{◌≡◌, ◌≤◌, ℕ, Bool, List, OnOk, Some, None};
 ghost use Rattle.st_changes.specs.inside.IndexStates.{found, HasName, updated};
 
-use crate::Span;
 use indexmap::{IndexMap, IndexSet};
 use std::alloc::{AllocError, Global};
 use std::marker::Model;
 
-/// Of each class, side of it and selector the span that was noted last. Look-ups take no memory.
+/// Of each class, side of it and selector the number of the definition that was noted last. Look-ups take no memory.
 #[derive(Drop)]
 pub struct Index {
     // The names of classes and selectors. A name's place is its number.
     names: IndexSet<Vec<u8>>,
     // By a class's number, whether it is the class side, and a selector's number.
-    spans: IndexMap<(usize, bool, usize), Span>,
+    last: IndexMap<(usize, bool, usize), usize>,
 }
 
 impl Model for Index {
@@ -22,9 +21,9 @@ impl Model for Index {
 
     ghost Value = { IndexState };
 
-    ghost view = { λ x. record { names = x.names.keys; spans = x.spans.entries; room = spare x.spans } };
+    ghost view = { λ x. record { names = x.names.keys; last = x.last.entries; room = spare x.last } };
 
-    ghost invariant = { λ x. IsBounded x.names.keys x.spans.entries };
+    ghost invariant = { λ x. IsBounded x.names.keys x.last.entries };
 }
 
 impl Index {
@@ -34,17 +33,17 @@ impl Index {
     {
         Index {
             names: IndexSet::new(alloc),
-            spans: IndexMap::new(alloc),
+            last: IndexMap::new(alloc),
         }
     }
 
-    /// The span that was noted last of a class, a side of it and a selector.
-    pub fn find(&self, class: &[u8], meta: bool, selector: &[u8]) -> Option<Span>
+    /// The number that was noted last of a class, a side of it and a selector.
+    pub fn find(&self, class: &[u8], meta: bool, selector: &[u8]) -> Option<usize>
         ensures { result ≡ found self.now class.now meta selector.now }
     {
         let class = self.names.get_index_of(class)?;
         let selector = self.names.get_index_of(selector)?;
-        self.spans.get(&(class, meta, selector)).copied()
+        self.last.get(&(class, meta, selector)).copied()
     }
 
     /// Gives a name its number, if it has none yet.
@@ -79,17 +78,17 @@ impl Index {
     {
         self.add_name(alloc, class)?;
         self.add_name(alloc, selector)?;
-        self.spans.reserve(1)?;
+        self.last.reserve(1)?;
         Ok(())
     }
 
-    /// Notes a span of a class, a side of it and a selector, in place of an earlier one. It takes no memory.
-    pub fn note(&mut self, class: &[u8], meta: bool, selector: &[u8], span: Span)
+    /// Notes the number of a definition of a class, a side of it and a selector, in place of an earlier one. It takes no memory.
+    pub fn note(&mut self, class: &[u8], meta: bool, selector: &[u8], number: usize)
         requires class { HasName self.old class.now }
         requires selector { HasName self.old selector.now }
         requires ready { 1 ≤ self.old.room }
         ensures { (c : List ℕ) (m : Bool) (s : List ℕ) → found self.new c m s
-            ≡ updated (found self.old) class.now meta selector.now span c m s }
+            ≡ updated (found self.old) class.now meta selector.now number c m s }
     {
         let (Some(class), Some(selector)) = (
             self.names.get_index_of(class),
@@ -97,7 +96,7 @@ impl Index {
         ) else {
             unreachable!()
         };
-        let Ok(_) = self.spans.insert((class, meta, selector), span) else {
+        let Ok(_) = self.last.insert((class, meta, selector), number) else {
             unreachable!()
         };
     }

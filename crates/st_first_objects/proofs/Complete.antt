@@ -5,7 +5,7 @@ use Rattle.std.specs.List.{position}
 use Rattle.std.proofs.Math.Seq.{drop-length}
 use Rattle.std.proofs.lemmas.Bool.{ne_eqb, both_ways}
 use Rattle.std.proofs.lemmas.List.Quantifiers.{position-Some}
-use Rattle.st_kernel_text.specs.Parts.{Part}
+use Rattle.st_kernel_text.specs.Texts.{Account}
 use Rattle.st_model.specs.Limits.{most_words}
 use Rattle.st_model.specs.Values.{Value, Ref, value_of, AllLive}
 use Rattle.st_model.specs.declared.oop.Oop.{Oop}
@@ -29,13 +29,13 @@ use Rattle.st_first_objects.proofs.Places.{place_within}
 
 -- THE PAGE COMES FIRST
 
-pub page_begins : (ps : List Part) → Begins (want_all empty page) (order ps)
-page_begins ps =
+pub page_begins : (text : Account) → Begins (want_all empty page) (order text)
+page_begins text =
     let a = want_all empty page in
     let b = want_all a characters in
     let c = want_all b tables in
-    let d = want_parts ps c 0 ps in
-    further a d (last_things d) (further a c d (further a b c (all_begins a characters) (all_begins b tables)) (parts_begin ps c 0 ps)) (last_begin d)
+    let d = want_parts text.names c 0 text.parts in
+    further a d (last_things d) (further a c d (further a b c (all_begins a characters) (all_begins b tables)) (parts_begin text.names c 0 text.parts)) (last_begin d)
 
 pub got_before : (xs ys : List Thing) (i : ℕ) (x : Thing) → slice_get xs i ≡ Some x → slice_get (xs ++ ys) i ≡ Some x
 got_before [] ys i x e = cc
@@ -50,13 +50,13 @@ twenty_paged : length (want_all empty page).things ≡ 20
 unfolding want page
 twenty_paged = refl
 
-pub first_methods : (ps : List Part) → slice_get (order ps).things 12 ≡ Some (class (codes "CompiledMethod"))
-first_methods ps =
-    let b = page_begins ps in
+pub first_methods : (text : Account) → slice_get (order text).things 12 ≡ Some (class (codes "CompiledMethod"))
+first_methods text =
+    let b = page_begins text in
     ap (λ ts. slice_get ts 12) b.is ∙ got_before (want_all empty page).things b.rest 12 _ methods_paged
 
-pub first_many : (ps : List Part) → 20 ≤ length (order ps).things
-first_many ps = let l = fewer (want_all empty page) (order ps) (page_begins ps) in let e = twenty_paged in omega arith
+pub first_many : (text : Account) → 20 ≤ length (order text).things
+first_many text = let l = fewer (want_all empty page) (order text) (page_begins text) in let e = twenty_paged in omega arith
 
 -- THE HEAD
 

@@ -5,6 +5,8 @@ use Rattle.st_first_objects.specs.declared.unmade.Unmade.{Unmade}
 use Rattle.st_first_objects.specs.declared.unmade.Unmade.TheVariants.{NoRoom, OutOfMemory}
 use Rattle.st_first_objects.specs.inside.Ordered.{Becomes, IsOrder}
 use Rattle.st_kernel_text.specs.Parts.{Part}
+use Rattle.st_kernel_text.specs.Known.{Names}
+use Rattle.st_kernel_text.specs.Texts.{Account}
 use Rattle.st_first_objects.specs.declared.thing.What.TheVariants as what
 use Rattle.st_first_objects.specs.Things.{Thing, numbered, is}
 use Rattle.st_first_objects.specs.Orders.{Order, is_made, put, with_symbol, want, want_all, wanted_by, want_parts, order, last_things, first_things, empty, selectors, selector_symbols, scheduling, lists}
@@ -58,11 +60,11 @@ pub all_begins : (o : Order) (ts : List Thing) → Begins o (want_all o ts)
 all_begins o [] = itself o
 all_begins o (t ∷ ts) = further o (want o t) (want_all (want o t) ts) (want_begins o t) (all_begins (want o t) ts)
 
-pub parts_begin : (all : List Part) (o : Order) (number : ℕ) (ps : List Part) → Begins o (want_parts all o number ps)
-parts_begin all o number [] = itself o
-parts_begin all o number (p ∷ ps) =
-    let next = want_all o (wanted_by all number p) in
-    further o next (want_parts all next (suc number) ps) (all_begins o (wanted_by all number p)) (parts_begin all next (suc number) ps)
+pub parts_begin : (names : Names) (o : Order) (number : ℕ) (ps : List Part) → Begins o (want_parts names o number ps)
+parts_begin names o number [] = itself o
+parts_begin names o number (p ∷ ps) =
+    let next = want_all o (wanted_by names number p) in
+    further o next (want_parts names next (suc number) ps) (all_begins o (wanted_by names number p)) (parts_begin names next (suc number) ps)
 
 pub last_begin : (o : Order) → Begins o (last_things o)
 last_begin o =
@@ -83,12 +85,13 @@ pub no_memory : (whole now : Order) (r : Result Unit Unmade) → IsErrAnd r (λ 
 no_memory whole now (Ok done) e = absurd e
 no_memory whole now (Err u) e = subst (λ (x : Unmade). Becomes whole now (Err x)) (sym e) tt
 
-passed : (ps : List Part) (o now : Order) (u : Unmade) → Becomes (want_parts ps o 0 ps) now (Err u) → IsOrder (last_things (want_parts ps o 0 ps)) (Err u)
-passed ps o now NoRoom e = let l = fewer (want_parts ps o 0 ps) (last_things (want_parts ps o 0 ps)) (last_begin (want_parts ps o 0 ps)) in omega arith
-passed ps o now OutOfMemory e = tt
+passed : (a : Account) (o now : Order) (u : Unmade) → Becomes (want_parts a.names o 0 a.parts) now (Err u) → IsOrder (last_things (want_parts a.names o 0 a.parts)) (Err u)
+passed a o now NoRoom e =
+    let whole = want_parts a.names o 0 a.parts in
+    let l = fewer whole (last_things whole) (last_begin whole) in
+    omega arith
+passed a o now OutOfMemory e = tt
 
-pub passed_on : (ps pools : List Part) (o now : Order) (u : Unmade) → pools ≡ ps → o ≡ first_things empty
-    → Becomes (want_parts pools o 0 ps) now (Err u) → IsOrder (order ps) (Err u)
-passed_on ps pools o now u same begun e =
-    passed ps (first_things empty) now u
-    (subst (λ (whole : Order). Becomes whole now (Err u)) (λ i. want_parts (same i) (begun i) 0 ps) e)
+pub passed_on : (a : Account) (o now : Order) (u : Unmade) → o ≡ first_things empty → Becomes (want_parts a.names o 0 a.parts) now (Err u) → IsOrder (order a) (Err u)
+passed_on a o now u begun e =
+    passed a (first_things empty) now u (subst (λ (start : Order). Becomes (want_parts a.names start 0 a.parts) now (Err u)) begun e)

@@ -1,5 +1,4 @@
 pub mod Same
-pub mod Found
 pub mod Wanting
 pub mod Counts
 pub mod Lists

@@ -6,9 +6,9 @@ use Rattle.st_kernel_text.specs.Parts.{Part, pool}
 use Rattle.st_first_objects.specs.declared.thing.What.{What}
 use Rattle.st_first_objects.specs.declared.thing.What.TheVariants as what
 use Rattle.st_first_objects.specs.Things.{Thing, only, named, numbered, within, is, symbol, class as class_thing}
-use Rattle.st_first_objects.specs.Classes.{Declared, declared, is_nil}
+use Rattle.st_first_objects.specs.Classes.{Declared, is_nil}
 use Rattle.st_first_objects.specs.Orders.{selectors, characters, lists}
-use Rattle.st_first_objects.specs.Plans.{Plan}
+use Rattle.st_first_objects.specs.Plans.{Plan, declared}
 
 -- nil, a SmallInteger, or another of the first objects: nil where that isn't made
 pub data Field : Type 0 where
@@ -59,7 +59,7 @@ instance name shape.Words fields = of_class name NoWords
 instance name shape.Bytes fields = of_bytes name []
 
 abbrev pub instance_of : Plan → (class : List ℕ) → Content
-instance_of p name = instance name (declared p.classes name).shape (declared p.classes name).fields
+instance_of p name = instance name (declared p name).shape (declared p name).fields
 
 -- CLASSES
 
@@ -150,14 +150,14 @@ content_of p what.Character name number = of_fields (codes "Character") (Number 
 content_of p what.Symbols name number = association Empty (To (numbered what.SymbolTable p.order.places))
 content_of p what.SymbolTable name number = array (padded number (members p (is what.Symbol)))
 content_of p what.Globals name number = array (members p (is what.Global))
-content_of p what.Class name number = class_content name (declared p.classes name)
-content_of p what.Metaclass name number = of_fields (codes "Metaclass") (metaclass_fields name (declared p.classes name))
+content_of p what.Class name number = class_content name (declared p name)
+content_of p what.Metaclass name number = of_fields (codes "Metaclass") (metaclass_fields name (declared p name))
 content_of p what.Dictionary name number = dictionary (named what.Methods name)
 content_of p what.Methods name number = array eight
 content_of p what.MetaDictionary name number = dictionary (named what.MetaMethods name)
 content_of p what.MetaMethods name number = array eight
 content_of p what.Symbol name number = of_bytes (codes "Symbol") name
-content_of p what.Names name number = array (names_fields (declared p.classes name))
+content_of p what.Names name number = array (names_fields (declared p name))
 content_of p what.Variable name number = of_bytes (codes "String") name
 content_of p what.Pool name number = array (members p (is_shared_of p name))
 content_of p what.Shared name number = association (To (symbol name)) Empty

@@ -6,7 +6,7 @@ use Rattle.st_model.specs.Objects.{words_of}
 use Rattle.st_model.specs.Machine.{Head}
 use Rattle.st_model.specs.Table.{Table}
 use Rattle.st_model.specs.View.{View, with_object, empty_view}
-use Rattle.st_kernel_text.specs.Parts.{Part}
+use Rattle.st_kernel_text.specs.Texts.{Account}
 use Rattle.st_first_objects.specs.declared.thing.What.TheVariants as what
 use Rattle.st_first_objects.specs.Things.{Thing, only}
 use Rattle.st_first_objects.specs.Plans.{Plan, plan}
@@ -30,8 +30,8 @@ unfoldable pub view_of : Plan → View
 view_of p = record (empty_view (head_in p.order.things)) { objects = with_things p 0 p.order.things (replicate 32768 None) }
 
 -- each thing's object at its pointer, and nothing held
-abbrev pub first_view : List Part → View
-first_view ps = view_of (plan ps)
+abbrev pub first_view : Account → View
+first_view a = view_of (plan a)
 
 -- beside so many words the objects of these things have room, each of at most 65,535 words
 abbrev pub fit_beside : Plan → (words : ℕ) → List Thing → Bool
@@ -39,5 +39,5 @@ fit_beside p words [] = true
 fit_beside p words (x ∷ xs) =
     nat_le (words_of (object p x)) 65535 && (nat_le (words + words_of (object p x)) most_words && fit_beside p (words + words_of (object p x)) xs)
 
-abbrev pub has_room : List Part → Bool
-has_room ps = nat_le (length (plan ps).order.things) 32767 && fit_beside (plan ps) 0 (plan ps).order.things
+abbrev pub has_room : Account → Bool
+has_room a = nat_le (length (plan a).order.things) 32767 && fit_beside (plan a) 0 (plan a).order.things

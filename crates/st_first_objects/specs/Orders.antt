@@ -3,6 +3,8 @@ use Rattle.std.specs.Prelude.{ℕ, ◌+◌, ◌*◌, zero, suc, nat_eq, ◌&&◌
 use Rattle.std.specs.List.{list_any}
 use Rattle.st_emit.specs.Selectors.{special_sends}
 use Rattle.st_kernel_text.specs.Parts.{Class, Pool, Part, class, pool, global}
+use Rattle.st_kernel_text.specs.Known.{Names}
+use Rattle.st_kernel_text.specs.Texts.{Account}
 use Rattle.st_first_objects.specs.declared.thing.What.{What}
 use Rattle.st_first_objects.specs.declared.thing.What.TheVariants as what
 use Rattle.st_first_objects.specs.Things.{Thing, only, named, numbered, within, is, same, symbol, class as class_thing}
@@ -90,19 +92,19 @@ shared_things number [] = []
 shared_things number (name ∷ names) = symbol name ∷ within what.Shared number name ∷ shared_things number names
 
 -- so is a pool Array, at the first part that may give the class class variables
-abbrev pub pool_things : List Part → Pool → List Thing
-pool_things all p = if has_pool all p.class then named what.Pool p.class ∷ [] else []
+abbrev pub pool_things : Names → Pool → List Thing
+pool_things names p = if has_pool names p.class then named what.Pool p.class ∷ [] else []
 
 -- what the part of this number makes, where it isn't there
-abbrev pub wanted_by : (all : List Part) → (number : ℕ) → Part → List Thing
-wanted_by all number (class c) = class_things c.name ++ names_things number c ++ named what.Global c.name ∷ []
-wanted_by all number (pool p) = pool_things all p ++ shared_things number p.variables
-wanted_by all number (global name) = symbol name ∷ named what.Global name ∷ []
-wanted_by all number _ = []
+abbrev pub wanted_by : Names → (number : ℕ) → Part → List Thing
+wanted_by names number (class c) = class_things c.name ++ names_things number c ++ named what.Global c.name ∷ []
+wanted_by names number (pool p) = pool_things names p ++ shared_things number p.variables
+wanted_by names number (global name) = symbol name ∷ named what.Global name ∷ []
+wanted_by names number _ = []
 
-abbrev pub want_parts : (all : List Part) → Order → (number : ℕ) → List Part → Order
-want_parts all o number [] = o
-want_parts all o number (p ∷ ps) = want_parts all (want_all o (wanted_by all number p)) (suc number) ps
+abbrev pub want_parts : Names → Order → (number : ℕ) → List Part → Order
+want_parts names o number [] = o
+want_parts names o number (p ∷ ps) = want_parts names (want_all o (wanted_by names number p)) (suc number) ps
 
 -- BEHIND ALL PARTS
 
@@ -127,5 +129,5 @@ first_things o = want_all (want_all (want_all o page) characters) tables
 abbrev pub last_things : Order → Order
 last_things o = want_all (want_all (want_all o (selector_symbols selectors)) scheduling) lists
 
-abbrev pub order : List Part → Order
-order ps = last_things (want_parts ps (first_things empty) 0 ps)
+abbrev pub order : Account → Order
+order a = last_things (want_parts a.names (first_things empty) 0 a.parts)

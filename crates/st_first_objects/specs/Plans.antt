@@ -1,13 +1,19 @@
 -- All that the contents of the first objects follow from.
-use Rattle.std.specs.Prelude.{List}
+use Rattle.std.specs.Prelude.{ℕ, List}
 use Rattle.st_kernel_text.specs.Parts.{Part}
-use Rattle.st_first_objects.specs.Classes.{Classes, classes}
+use Rattle.st_kernel_text.specs.Known.{Names}
+use Rattle.st_kernel_text.specs.Texts.{Account}
+use Rattle.st_first_objects.specs.Classes.{Declared, declared_in}
 use Rattle.st_first_objects.specs.Orders.{Order, order}
 
 pub record Plan : Type 0 where
   pub parts : List Part
-  pub classes : Classes
+  -- the names that these parts declare
+  pub names : Names
   pub order : Order
 
-abbrev pub plan : List Part → Plan
-plan ps = record { parts = ps; classes = classes ps; order = order ps }
+abbrev pub plan : Account → Plan
+plan a = record { parts = a.parts; names = a.names; order = order a }
+
+abbrev pub declared : Plan → List ℕ → Declared
+declared p name = declared_in p.parts p.names name

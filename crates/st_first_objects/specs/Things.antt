@@ -1,6 +1,6 @@
 -- What the first objects are. Each is named by what it is, and, where there are several of that, by a name or a number.
 use denote.Enum.Bare.{sameb}
-use Rattle.std.specs.Prelude.{ℕ, ◌&&◌, nat_eq, bytes_eq, Bool, true, false, List, []}
+use Rattle.std.specs.Prelude.{ℕ, ◌&&◌, nat_eq, bytes_eq, Bool, List, []}
 use Rattle.st_first_objects.specs.contracts.thing.What.{the_type}
 use Rattle.st_first_objects.specs.declared.thing.What.{What}
 use Rattle.st_first_objects.specs.declared.thing.What.TheVariants as what
@@ -36,40 +36,3 @@ is w t = sameb the_type t.what w
 
 abbrev pub same : Thing → Thing → Bool
 same a b = sameb the_type a.what b.what && (bytes_eq a.name b.name && nat_eq a.number b.number)
-
--- it is an object that a class has
-abbrev pub is_of_class : What → Bool
-is_of_class what.Class = true
-is_of_class what.Metaclass = true
-is_of_class what.Dictionary = true
-is_of_class what.MetaDictionary = true
-is_of_class what.Methods = true
-is_of_class what.MetaMethods = true
-is_of_class what.Names = true
-is_of_class what.Pool = true
-is_of_class _ = false
-
--- it is named by a number, by a name alone, or by a part
-abbrev pub is_other : What → Bool
-is_other what.Character = true
-is_other what.SymbolTable = true
-is_other what.Symbol = true
-is_other what.Variable = true
-is_other what.Shared = true
-is_other what.Global = true
-is_other what.List = true
-is_other _ = false
-
--- there is one of it
-abbrev pub is_single : What → Bool
-is_single what.Nil = true
-is_single what.False = true
-is_single what.True = true
-is_single what.SchedulerAssociation = true
-is_single what.Selectors = true
-is_single what.Characters = true
-is_single what.Symbols = true
-is_single what.Globals = true
-is_single what.Scheduler = true
-is_single what.Lists = true
-is_single _ = false

@@ -1,7 +1,7 @@
 // The memory of the first objects.
 ghost use Rattle.std.specs.Prelude.{◌≡◌, ◌≤◌, false, true, OnOk, IfOk, IfErr};
 ghost use Rattle.st_model.specs.Limits.{most_words};
-ghost use Rattle.st_kernel_text.specs.inside.Views.{parts_of};
+ghost use Rattle.st_kernel_text.specs.inside.Views.{account_of};
 ghost use Rattle.st_first_objects.specs.declared.unmade.Unmade.TheVariants.{NoRoom};
 ghost use Rattle.st_first_objects.specs.First.{first_view, has_room};
 ghost use Rattle.st_first_objects.specs.inside.Placing.{IsBegun, PlacesAll, HasWords};
@@ -10,7 +10,7 @@ use crate::placing::{place_content, pointer, pointer_at};
 use crate::plan::Plan;
 use crate::thing::{Thing, What};
 use crate::unmade::Unmade;
-use st_kernel_text::Part;
+use st_kernel_text::Kernel;
 use st_memory::Loader;
 use st_model::{Demand, MOST_WORDS};
 use std::alloc::Global;
@@ -49,13 +49,13 @@ fn place_all<L: Loader>(alloc: Global, loader: &mut L, plan: &Plan<'_>) -> Resul
     Ok(())
 }
 
-/// A memory of the first objects of a text that has these parts.
-pub fn make_first<L: Loader>(alloc: Global, parts: &[Part]) -> Result<L::Done, Unmade>
-    ensures made { IfOk result (λ done. L.Done.view done ≡ first_view (parts_of parts.now)) }
-    ensures room { OnOk result (has_room (parts_of parts.now) ≡ true) }
-    ensures refused { IfErr result (λ unmade. unmade ≡ NoRoom → has_room (parts_of parts.now) ≡ false) }
+/// A memory of the first objects of a text, as far as it was read.
+pub fn make_first<L: Loader>(alloc: Global, kernel: &Kernel) -> Result<L::Done, Unmade>
+    ensures made { IfOk result (λ done. L.Done.view done ≡ first_view (account_of kernel.now)) }
+    ensures room { OnOk result (has_room (account_of kernel.now) ≡ true) }
+    ensures refused { IfErr result (λ unmade. unmade ≡ NoRoom → has_room (account_of kernel.now) ≡ false) }
 {
-    let plan = match Plan::of(alloc, parts) {
+    let plan = match Plan::of(alloc, kernel) {
         Ok(plan) => plan,
         Err(unmade) => return Err(unmade),
     };

@@ -1,14 +1,13 @@
 //! The objects of a kernel text before its first method: what its declarations make, each in its place.
 #![tactic(auto)]
 
-mod building;
-mod classes;
+mod class;
 mod content;
 mod first;
 mod order;
+mod ordering;
 mod placing;
 mod plan;
-mod pools;
 mod thing;
 mod unmade;
 mod wanted;

@@ -1,30 +1,29 @@
 // What is in each of the first objects.
 ghost use Rattle.std.specs.Prelude.{◌≡◌, replicate, map, slice_get, IfOk, ◌<◌, length, Some, IfSome};
-ghost use Rattle.std.specs.{List.position, Prelude.true};
-ghost use Rattle.st_kernel_text.specs.{inside.Views.{part_of, parts_of}, inside.Lists.texts_of};
+ghost use Rattle.std.specs.List.{position};
+ghost use Rattle.st_kernel_text.specs.{inside.Views.{part_of, account_of}, inside.Lists.texts_of};
 ghost use Rattle.st_first_objects.specs.declared.thing.What.TheVariants.{Variable, Symbol};
 ghost use Rattle.st_first_objects.specs.Things.{within, is};
 ghost use Rattle.st_first_objects.specs.Orders.{numbered_from, selectors, characters, lists, order};
-ghost use Rattle.st_first_objects.specs.{Things.same, inside.Ordered.IsPlan, Plans.plan};
+ghost use Rattle.st_first_objects.specs.{Things.same, inside.Ordered.IsPlan, Plans.{plan, declared}};
 ghost use Rattle.st_first_objects.specs.Contents.{all_of, array, members, is_shared_of, sharing, instance, instance_of, specification, superclass, meta_superclass};
 ghost use Rattle.st_first_objects.specs.Contents.{class_content, metaclass_fields, selector_fields, names_fields, padded, content};
-ghost use Rattle.st_first_objects.specs.Things.{is_single, is_of_class, is_other};
 ghost use Rattle.st_first_objects.specs.inside.Views.{thing_of, declared_of, field_of, fields_of, content_of};
 ghost use Rattle.st_emit.specs.Selectors.{sends_now};
 
-use crate::building::order;
-use crate::classes::{Classes, Declared, is_nil};
+use crate::class::{Declared, is_nil};
 use crate::content::{Body, Content, Field, PLACES, empty_fields};
 use crate::order::Order;
+use crate::ordering::order;
 use crate::thing::{Thing, What};
 use crate::unmade::Unmade;
 use st_emit::SPECIAL_SENDS;
-use st_kernel_text::{Part, Shape, Text};
+use st_kernel_text::{Declarations, Kernel, Part, Shape, Text};
 use std::alloc::{AllocError, Global};
 use std::marker::Model;
 
 /// The specification of a class whose instances have this shape and so many fields.
-fn specification(shape: Shape, fields: u16) -> usize
+fn specification(shape: Shape, fields: u8) -> usize
     ensures { result ≡ specification shape fields }
 {
     let fields = usize::from(fields);
@@ -195,11 +194,11 @@ fn metaclass_fields<'a>(
     Ok(fields)
 }
 
-/// A kernel text's parts, its classes, and the order of its things.
+/// A kernel text's parts, the names that they declare, and the order of its things.
 #[derive(Drop)]
 pub(crate) struct Plan<'a> {
     parts: &'a [Part],
-    classes: Classes<'a>,
+    names: &'a Declarations,
     order: Order<'a>,
 }
 
@@ -209,10 +208,29 @@ impl<'a> Model for Plan<'a> {
 
     ghost Value = { Plan };
 
-    ghost view = { λ p. record { parts = parts_of p.parts.now; classes = p.classes; order = p.order } };
+    ghost view = { λ p. record { parts = parts_of p.parts.now; names = p.names.now; order = p.order } };
 }
 
 impl<'a> Plan<'a> {
+    /// The class of this name.
+    fn declared(&self, name: &[u8]) -> Declared<'a>
+        ensures { declared_of result ≡ declared self.now name.now }
+    {
+        let Some(layout) = self.names.layout(name) else {
+            return Declared::undeclared();
+        };
+        match self.parts.get(layout.number) {
+            Some(Part::Class(class)) => Declared {
+                number: layout.number,
+                above: &class.above,
+                shape: layout.shape,
+                variables: &class.variables,
+                fields: layout.fields,
+            },
+            _ => Declared::undeclared(),
+        }
+    }
+
     /// The class to which the part of this number gives class variables.
     fn sharing(&self, number: usize) -> &'a [u8]
         ensures { result.now ≡ sharing (slice_get self.now.parts number) }
@@ -277,20 +295,19 @@ impl<'a> Plan<'a> {
     fn instance(&self, alloc: Global, class: &'a [u8]) -> Result<Content<'a>, AllocError>
         ensures { IfOk result (λ c. content_of c ≡ instance_of self.now class.now) }
     {
-        instance(alloc, class, self.classes.declared(class))
+        instance(alloc, class, self.declared(class))
     }
 }
 
 impl<'a> Plan<'a> {
     /// That of a text.
-    pub(crate) fn of(alloc: Global, parts: &'a [Part]) -> Result<Plan<'a>, Unmade>
-        ensures { IsPlan (plan (parts_of parts.now)) result }
+    pub(crate) fn of(alloc: Global, kernel: &'a Kernel) -> Result<Plan<'a>, Unmade>
+        ensures { IsPlan (plan (account_of kernel.now)) result }
     {
-        let classes = Classes::of(alloc, parts)?;
-        match order(alloc, parts) {
+        match order(alloc, kernel) {
             Ok(order) => Ok(Plan {
-                parts,
-                classes,
+                parts: &kernel.parts,
+                names: &kernel.names,
                 order,
             }),
             Err(unmade) => Err(unmade),
@@ -322,11 +339,11 @@ impl<'a> Plan<'a> {
 }
 
 impl<'a> Plan<'a> {
-    /// What is in the Arrays and associations that a text has once.
-    fn single(&self, alloc: Global, thing: Thing<'a>) -> Result<Content<'a>, AllocError>
-        requires { is_single thing.what ≡ true }
+    /// What is in an object.
+    pub(crate) fn content(&self, alloc: Global, thing: Thing<'a>) -> Result<Content<'a>, AllocError>
         ensures { IfOk result (λ c. content_of c ≡ content self.now (thing_of thing.entry)) }
     {
+        let name = thing.name;
         match thing.what {
             What::Nil => self.instance(alloc, b"UndefinedObject"),
             What::False => self.instance(alloc, b"False"),
@@ -337,60 +354,36 @@ impl<'a> Plan<'a> {
             }
             What::Selectors => special_selectors(alloc),
             What::Characters => characters(alloc),
+            What::Character => {
+                let fields = vec![in alloc; Field::Number(thing.number)]?;
+                Ok(Content::of_fields(b"Character", fields))
+            }
             What::Symbols => {
                 let table = Thing::numbered(What::SymbolTable, self.order.places());
                 Content::association(alloc, Field::Empty, Field::To(table))
             }
+            What::SymbolTable => Ok(Content::array(self.table(alloc, thing.number)?)),
             What::Globals => Ok(Content::array(self.members(alloc, What::Global)?)),
-            What::Scheduler => {
-                let lists = Field::To(Thing::only(What::Lists));
-                let fields = vec![in alloc; lists, Field::Empty]?;
-                Ok(Content::of_fields(b"ProcessorScheduler", fields))
-            }
-            _ => lists(alloc),
-        }
-    }
-
-    /// What is in an object that a class has.
-    fn of_class(&self, alloc: Global, thing: Thing<'a>) -> Result<Content<'a>, AllocError>
-        requires { is_of_class thing.what ≡ true }
-        ensures { IfOk result (λ c. content_of c ≡ content self.now (thing_of thing.entry)) }
-    {
-        let name = thing.name;
-        match thing.what {
-            What::Class => class(alloc, name, self.classes.declared(name)),
+            What::Class => class(alloc, name, self.declared(name)),
             What::Metaclass => {
-                let fields = metaclass_fields(alloc, name, self.classes.declared(name))?;
+                let fields = metaclass_fields(alloc, name, self.declared(name))?;
                 Ok(Content::of_fields(b"Metaclass", fields))
             }
             What::Dictionary => Content::dictionary(alloc, Thing::named(What::Methods, name)),
             What::MetaDictionary => {
                 Content::dictionary(alloc, Thing::named(What::MetaMethods, name))
             }
+            What::Methods | What::MetaMethods => {
+                Ok(Content::array(empty_fields(alloc, PLACES)?))
+            }
+            What::Symbol => Ok(Content::of_bytes(b"Symbol", name)),
             What::Names => {
-                let declared = self.classes.declared(name);
+                let declared = self.declared(name);
                 let fields = variable_fields(alloc, declared.number, declared.variables)?;
                 Ok(Content::array(fields))
             }
-            What::Pool => Ok(Content::array(self.shared(alloc, name)?)),
-            _ => Ok(Content::array(empty_fields(alloc, PLACES)?)),
-        }
-    }
-
-    /// What is in any other object.
-    fn other(&self, alloc: Global, thing: Thing<'a>) -> Result<Content<'a>, AllocError>
-        requires { is_other thing.what ≡ true }
-        ensures { IfOk result (λ c. content_of c ≡ content self.now (thing_of thing.entry)) }
-    {
-        let name = thing.name;
-        match thing.what {
-            What::Character => {
-                let fields = vec![in alloc; Field::Number(thing.number)]?;
-                Ok(Content::of_fields(b"Character", fields))
-            }
-            What::SymbolTable => Ok(Content::array(self.table(alloc, thing.number)?)),
-            What::Symbol => Ok(Content::of_bytes(b"Symbol", name)),
             What::Variable => Ok(Content::of_bytes(b"String", name)),
+            What::Pool => Ok(Content::array(self.shared(alloc, name)?)),
             What::Shared => {
                 Content::association(alloc, Field::To(Thing::symbol(name)), Field::Empty)
             }
@@ -398,31 +391,13 @@ impl<'a> Plan<'a> {
                 let value = Field::To(Thing::class(name));
                 Content::association(alloc, Field::To(Thing::symbol(name)), value)
             }
-            _ => Ok(Content::of_fields(b"LinkedList", empty_fields(alloc, 2)?)),
-        }
-    }
-
-    /// What is in an object.
-    pub(crate) fn content(&self, alloc: Global, thing: Thing<'a>) -> Result<Content<'a>, AllocError>
-        ensures { IfOk result (λ c. content_of c ≡ content self.now (thing_of thing.entry)) }
-    {
-        match thing.what {
-            What::Class
-            | What::Metaclass
-            | What::Dictionary
-            | What::MetaDictionary
-            | What::Methods
-            | What::MetaMethods
-            | What::Names
-            | What::Pool => self.of_class(alloc, thing),
-            What::Character
-            | What::SymbolTable
-            | What::Symbol
-            | What::Variable
-            | What::Shared
-            | What::Global
-            | What::List => self.other(alloc, thing),
-            _ => self.single(alloc, thing),
+            What::Scheduler => {
+                let lists = Field::To(Thing::only(What::Lists));
+                let fields = vec![in alloc; lists, Field::Empty]?;
+                Ok(Content::of_fields(b"ProcessorScheduler", fields))
+            }
+            What::Lists => lists(alloc),
+            What::List => Ok(Content::of_fields(b"LinkedList", empty_fields(alloc, 2)?)),
         }
     }
 }

@@ -2,13 +2,13 @@
 ghost use Rattle.std.specs.Prelude.{◌≡◌, ◌++◌, ℕ, List, IfOk, OnOk, map};
 ghost use Rattle.st_kernel_text.specs.{Parts.Part, inside.Lists.texts_of, inside.Views.{class_of, pool_of, part_of}};
 ghost use Rattle.st_first_objects.specs.{declared.thing.What.TheVariants.Variable, Things.within};
+ghost use Rattle.st_first_objects.specs.Classes.{has_pool};
 ghost use Rattle.st_first_objects.specs.Orders.{want_all, class_things, names_things, shared_things, pool_things, wanted_by};
 ghost use Rattle.st_first_objects.specs.inside.Views.{thing_of, things_of};
 
 use crate::order::Order;
-use crate::pools::Pools;
 use crate::thing::{Thing, What};
-use st_kernel_text::{Class, Part, Pool, Text};
+use st_kernel_text::{Class, Declarations, Part, Pool, Text};
 use std::alloc::AllocError;
 
 /// A class, its metaclass, their dictionaries and its name are wanted.
@@ -68,11 +68,25 @@ fn want_shared<'a>(
     Ok(())
 }
 
-/// The Array of a class's class variables is wanted, where it has some.
-fn want_pool<'a>(order: &mut Order<'a>, pools: &Pools<'a>, pool: &'a Pool) -> Result<(), AllocError>
-    ensures { OnOk result (order.new ≡ want_all order.old (pool_things pools.now (pool_of pool.now))) }
+/// Whether the class of this name has class variables.
+fn has_pool(names: &Declarations, name: &[u8]) -> bool
+    ensures { result ≡ has_pool names.now name.now }
 {
-    if pools.has(&pool.class) {
+    match names.layout(name) {
+        Some(layout) => layout.shares,
+        None => false,
+    }
+}
+
+/// The Array of a class's class variables is wanted, where it has some.
+fn want_pool<'a>(
+    order: &mut Order<'a>,
+    names: &Declarations,
+    pool: &'a Pool,
+) -> Result<(), AllocError>
+    ensures { OnOk result (order.new ≡ want_all order.old (pool_things names.now (pool_of pool.now))) }
+{
+    if has_pool(names, &pool.class) {
         order.want(Thing::named(What::Pool, &pool.class))?;
     }
     Ok(())
@@ -81,11 +95,11 @@ fn want_pool<'a>(order: &mut Order<'a>, pools: &Pools<'a>, pool: &'a Pool) -> Re
 /// What a part makes is wanted.
 pub(crate) fn want_part<'a>(
     order: &mut Order<'a>,
-    pools: &Pools<'a>,
+    names: &Declarations,
     number: usize,
     part: &'a Part,
 ) -> Result<(), AllocError>
-    ensures { OnOk result (order.new ≡ want_all order.old (wanted_by pools.now number (part_of part.now))) }
+    ensures { OnOk result (order.new ≡ want_all order.old (wanted_by names.now number (part_of part.now))) }
 {
     match part {
         Part::Class(class) => {
@@ -94,7 +108,7 @@ pub(crate) fn want_part<'a>(
             order.want(Thing::named(What::Global, &class.name))
         }
         Part::Pool(pool) => {
-            want_pool(order, pools, pool)?;
+            want_pool(order, names, pool)?;
             want_shared(order, number, &pool.variables)
         }
         Part::Global(name) => {

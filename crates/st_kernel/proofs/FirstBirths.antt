@@ -19,7 +19,7 @@ use Rattle.st_model.proofs.BirthLemmas.{pointer_of-borne, borne_before, object_t
 use Rattle.st_model.proofs.Raised.{raised_shown}
 use Rattle.st_frames.proofs.Closed.{closed_idle}
 use Rattle.st_simulation.proofs.Same.{IsLiveOption, length-renamed}
-use Rattle.st_kernel_text.specs.Parts.{Part}
+use Rattle.st_kernel_text.specs.Texts.{Account}
 use Rattle.st_first_objects.specs.declared.thing.What.{What}
 use Rattle.st_first_objects.specs.declared.thing.What.TheVariants as what
 use Rattle.st_first_objects.specs.Things.{Thing, only, same, class as class_thing, symbol}
@@ -95,25 +95,25 @@ module _ (p : Plan) (begun : View) (is : IsBegun p begun) where
     all_placed = place_all (length p.order.things) 0 0 begun (omega arith) (begins p begun is) (λ k o e. absurd (none_there 32768 k o (ap (λ t. entry t k) (sym is.objects) ∙ e)))
 
 -- what is known of the first objects
-pub record Placed (ps : List Part) : Type 0 where
-  pub complete : IsComplete (first_view ps)
-  pub at : AreAt (plan ps) (first_view ps).objects
-  pub places : length (first_view ps).objects ≡ 32768
-  pub live : (j : ℕ) → j < length (plan ps).order.things → is_some (entry (first_view ps).objects (place j)) ≡ true
-  pub head : (first_view ps).head ≡ head_in (plan ps).order.things
+pub record Placed (text : Account) : Type 0 where
+  pub complete : IsComplete (first_view text)
+  pub at : AreAt (plan text) (first_view text).objects
+  pub places : length (first_view text).objects ≡ 32768
+  pub live : (j : ℕ) → j < length (plan text).order.things → is_some (entry (first_view text).objects (place j)) ≡ true
+  pub head : (first_view text).head ≡ head_in (plan text).order.things
 
-pub placed : (ps : List Part) → has_room ps ≡ true → Placed ps
+pub placed : (text : Account) → has_room text ≡ true → Placed text
 unfolding empty_view
-placed ps room =
-    let p = plan ps in
+placed text room =
+    let p = plan text in
     let r = and_parts (nat_le (length p.order.things) 32767) _ room in
     let begun = empty_view (head_in p.order.things) in
-    let is : IsBegun p begun = record { objects = refl; entries = refl; words = refl; few = at_most _ _ r.0; methods = first_methods ps } in
+    let is : IsBegun p begun = record { objects = refl; entries = refl; words = refl; few = at_most _ _ r.0; methods = first_methods text } in
     let d = all_placed p begun is r.1 in
     let u = d.2 in
-    let e : d.0 ≡ first_view ps = made p begun d.0 d.1 u (first_many ps) refl in
+    let e : d.0 ≡ first_view text = made p begun d.0 d.1 u (first_many text) refl in
     let first : (IsComplete d.0 × AreAt p d.0.objects) × ((length d.0.objects ≡ 32768) × ((j : ℕ) → j < length p.order.things → is_some (entry d.0.objects (place j)) ≡ true)) × (d.0.head ≡ head_in p.order.things) =
-    ((complete p begun d.0 d.1 u (first_many ps) refl, d.3), (u.places, u.live), u.head) in
+    ((complete p begun d.0 d.1 u (first_many text) refl, d.3), (u.places, u.live), u.head) in
     let w = subst (λ (v : View). (IsComplete v × AreAt p v.objects) × ((length v.objects ≡ 32768) × ((j : ℕ) → j < length p.order.things → is_some (entry v.objects (place j)) ≡ true)) × (v.head ≡ head_in p.order.things)) e first in
     record { complete = w.0.0; at = w.0.1; places = w.1.0; live = w.1.1; head = w.2 }
 
@@ -153,9 +153,9 @@ place_3 : 4 ≡ place 3
 unfolding place
 place_3 = refl
 
-module _ (ps : List Part) (first : Placed ps) where
+module _ (text : Account) (first : Placed text) where
   abbrev p : Plan
-  p = plan ps
+  p = plan text
 
   abbrev things : List Thing
   things = p.order.things
@@ -165,13 +165,13 @@ module _ (ps : List Part) (first : Placed ps) where
   ordinary_place t h = by_position (position (same t) things) refl
     where
       by_position : (o : Option ℕ) → position (same t) things ≡ o → IsOrdinaryPlace p (place_at o)
-      by_position None e = record { turn = 0; thing = only what.Nil; at_place = place_0; is_thing = paged ps 0 (only what.Nil) nil_paged; ordinary = refl }
+      by_position None e = record { turn = 0; thing = only what.Nil; at_place = place_0; is_thing = paged text 0 (only what.Nil) nil_paged; ordinary = refl }
       by_position (Some i) e =
           let a = at_position t things i e in
           record { turn = i; thing = a.0; at_place = refl; is_thing = a.1; ordinary = same_ordinary t a.0 a.2 h }
 
   abbrev c : State Table
-  c = idle_state (first_view ps)
+  c = idle_state (first_view text)
 
   abbrev s : State Births
   s = raised c
@@ -180,7 +180,7 @@ module _ (ps : List Part) (first : Placed ps) where
   h = s.memory
 
   closed : IsClosed c
-  closed = closed_idle (first_view ps) first.complete
+  closed = closed_idle (first_view text) first.complete
 
   shows : Shows c s
   shows = raised_shown c closed
@@ -199,7 +199,7 @@ module _ (ps : List Part) (first : Placed ps) where
   fields_among (Ref n ∷ vs) (g ∷ fs) t l e = (kept_among n l.0 (by_field g t.0 (head_same _ _ _ _ e)), fields_among vs fs t.1 l.1 (tail_same _ _ _ _ e))
     where
       by_field : (g : Field) → ToOrdinary g → Ref (f n) ≡ value_in things g → IsOrdinaryPlace p (f n)
-      by_field Empty u q = let r : 1 ≡ f n = cc in subst (IsOrdinaryPlace p) r (record { turn = 0; thing = only what.Nil; at_place = place_0; is_thing = paged ps 0 (only what.Nil) nil_paged; ordinary = refl })
+      by_field Empty u q = let r : 1 ≡ f n = cc in subst (IsOrdinaryPlace p) r (record { turn = 0; thing = only what.Nil; at_place = place_0; is_thing = paged text 0 (only what.Nil) nil_paged; ordinary = refl })
       by_field (Number m) u q = cc
       by_field (To x) u q = let r : place_in things x ≡ f n = cc in subst (IsOrdinaryPlace p) r (ordinary_place x u)
 
@@ -237,26 +237,26 @@ module _ (ps : List Part) (first : Placed ps) where
 
   page_place : (q : PageObject) → IsOther q → IsOrdinaryPlace p (place_of q)
   unfolding want page place
-  page_place NilObject o = record { turn = 0; thing = only what.Nil; at_place = refl; is_thing = paged ps 0 _ refl; ordinary = refl }
-  page_place FalseObject o = record { turn = 1; thing = only what.False; at_place = refl; is_thing = paged ps 1 _ refl; ordinary = refl }
-  page_place TrueObject o = record { turn = 2; thing = only what.True; at_place = refl; is_thing = paged ps 2 _ refl; ordinary = refl }
+  page_place NilObject o = record { turn = 0; thing = only what.Nil; at_place = refl; is_thing = paged text 0 _ refl; ordinary = refl }
+  page_place FalseObject o = record { turn = 1; thing = only what.False; at_place = refl; is_thing = paged text 1 _ refl; ordinary = refl }
+  page_place TrueObject o = record { turn = 2; thing = only what.True; at_place = refl; is_thing = paged text 2 _ refl; ordinary = refl }
   page_place SchedulerAssociation o = absurd o
-  page_place SmallIntegerClass o = record { turn = 4; thing = class_thing (codes "SmallInteger"); at_place = refl; is_thing = paged ps 4 _ refl; ordinary = refl }
-  page_place StringClass o = record { turn = 5; thing = class_thing (codes "String"); at_place = refl; is_thing = paged ps 5 _ refl; ordinary = refl }
-  page_place ArrayClass o = record { turn = 6; thing = class_thing (codes "Array"); at_place = refl; is_thing = paged ps 6 _ refl; ordinary = refl }
-  page_place MethodContextClass o = record { turn = 7; thing = class_thing (codes "MethodContext"); at_place = refl; is_thing = paged ps 7 _ refl; ordinary = refl }
-  page_place BlockContextClass o = record { turn = 8; thing = class_thing (codes "BlockContext"); at_place = refl; is_thing = paged ps 8 _ refl; ordinary = refl }
-  page_place PointClass o = record { turn = 9; thing = class_thing (codes "Point"); at_place = refl; is_thing = paged ps 9 _ refl; ordinary = refl }
-  page_place LargeClass o = record { turn = 10; thing = class_thing (codes "LargePositiveInteger"); at_place = refl; is_thing = paged ps 10 _ refl; ordinary = refl }
-  page_place MessageClass o = record { turn = 11; thing = class_thing (codes "Message"); at_place = refl; is_thing = paged ps 11 _ refl; ordinary = refl }
-  page_place MethodClass o = record { turn = 12; thing = class_thing (codes "CompiledMethod"); at_place = refl; is_thing = paged ps 12 _ refl; ordinary = refl }
-  page_place CharacterClass o = record { turn = 13; thing = class_thing (codes "Character"); at_place = refl; is_thing = paged ps 13 _ refl; ordinary = refl }
-  page_place NotUnderstood o = record { turn = 14; thing = symbol (codes "doesNotUnderstand:"); at_place = refl; is_thing = paged ps 14 _ refl; ordinary = refl }
-  page_place CannotReturn o = record { turn = 15; thing = symbol (codes "cannotReturn:"); at_place = refl; is_thing = paged ps 15 _ refl; ordinary = refl }
-  page_place Selectors o = record { turn = 16; thing = only what.Selectors; at_place = refl; is_thing = paged ps 16 _ refl; ordinary = refl }
-  page_place Characters o = record { turn = 17; thing = only what.Characters; at_place = refl; is_thing = paged ps 17 _ refl; ordinary = refl }
-  page_place MustBeBoolean o = record { turn = 18; thing = symbol (codes "mustBeBoolean"); at_place = refl; is_thing = paged ps 18 _ refl; ordinary = refl }
-  page_place SymbolClass o = record { turn = 19; thing = class_thing (codes "Symbol"); at_place = refl; is_thing = paged ps 19 _ refl; ordinary = refl }
+  page_place SmallIntegerClass o = record { turn = 4; thing = class_thing (codes "SmallInteger"); at_place = refl; is_thing = paged text 4 _ refl; ordinary = refl }
+  page_place StringClass o = record { turn = 5; thing = class_thing (codes "String"); at_place = refl; is_thing = paged text 5 _ refl; ordinary = refl }
+  page_place ArrayClass o = record { turn = 6; thing = class_thing (codes "Array"); at_place = refl; is_thing = paged text 6 _ refl; ordinary = refl }
+  page_place MethodContextClass o = record { turn = 7; thing = class_thing (codes "MethodContext"); at_place = refl; is_thing = paged text 7 _ refl; ordinary = refl }
+  page_place BlockContextClass o = record { turn = 8; thing = class_thing (codes "BlockContext"); at_place = refl; is_thing = paged text 8 _ refl; ordinary = refl }
+  page_place PointClass o = record { turn = 9; thing = class_thing (codes "Point"); at_place = refl; is_thing = paged text 9 _ refl; ordinary = refl }
+  page_place LargeClass o = record { turn = 10; thing = class_thing (codes "LargePositiveInteger"); at_place = refl; is_thing = paged text 10 _ refl; ordinary = refl }
+  page_place MessageClass o = record { turn = 11; thing = class_thing (codes "Message"); at_place = refl; is_thing = paged text 11 _ refl; ordinary = refl }
+  page_place MethodClass o = record { turn = 12; thing = class_thing (codes "CompiledMethod"); at_place = refl; is_thing = paged text 12 _ refl; ordinary = refl }
+  page_place CharacterClass o = record { turn = 13; thing = class_thing (codes "Character"); at_place = refl; is_thing = paged text 13 _ refl; ordinary = refl }
+  page_place NotUnderstood o = record { turn = 14; thing = symbol (codes "doesNotUnderstand:"); at_place = refl; is_thing = paged text 14 _ refl; ordinary = refl }
+  page_place CannotReturn o = record { turn = 15; thing = symbol (codes "cannotReturn:"); at_place = refl; is_thing = paged text 15 _ refl; ordinary = refl }
+  page_place Selectors o = record { turn = 16; thing = only what.Selectors; at_place = refl; is_thing = paged text 16 _ refl; ordinary = refl }
+  page_place Characters o = record { turn = 17; thing = only what.Characters; at_place = refl; is_thing = paged text 17 _ refl; ordinary = refl }
+  page_place MustBeBoolean o = record { turn = 18; thing = symbol (codes "mustBeBoolean"); at_place = refl; is_thing = paged text 18 _ refl; ordinary = refl }
+  page_place SymbolClass o = record { turn = 19; thing = class_thing (codes "Symbol"); at_place = refl; is_thing = paged text 19 _ refl; ordinary = refl }
 
   first_leads : Leads (Among p h) h
   first_leads = record { objects = λ n o k e. birth_among n o k e; page = λ q o. (place_of q, shows.page q, page_place q o) }
@@ -278,7 +278,7 @@ module _ (ps : List Part) (first : Placed ps) where
   one_is : renamed_object f A ≡ object p (only what.SchedulerAssociation)
   one_is =
       let a = first.at 4 (renamed_object f A) (shows.objects one 4 A one_borne one_there.1) in
-      a.is_object ∙ ap (object p) (one_thing a.turn 3 a.thing (only what.SchedulerAssociation) (sym a.at_place ∙ place_3) a.is_thing (paged ps 3 _ association_paged))
+      a.is_object ∙ ap (object p) (one_thing a.turn 3 a.thing (only what.SchedulerAssociation) (sym a.at_place ∙ place_3) a.is_thing (paged text 3 _ association_paged))
 
   abbrev pS : ℕ
   pS = place_in things (only what.Scheduler)
@@ -325,7 +325,7 @@ module _ (ps : List Part) (first : Placed ps) where
   turn = position_or_len (same (only what.Scheduler)) things
 
   turn_is : position (same (only what.Scheduler)) things ≡ Some turn
-  turn_is = position_of (only what.Scheduler) things (scheduler_made ps)
+  turn_is = position_of (only what.Scheduler) things (scheduler_made text)
 
   pS_is : pS ≡ place turn
   unfolding place_in
@@ -377,7 +377,7 @@ module _ (ps : List Part) (first : Placed ps) where
       let b = m.1 in
       let w = m.2 in
       let q : k ≡ 4 = same_some k 4 (sym b ∙ (ap (borne h) e ∙ one_borne)) in
-      let r = one_thing w.turn 3 w.thing (only what.SchedulerAssociation) (sym w.at_place ∙ (q ∙ place_3)) w.is_thing (paged ps 3 _ association_paged) in
+      let r = one_thing w.turn 3 w.thing (only what.SchedulerAssociation) (sym w.at_place ∙ (q ∙ place_3)) w.is_thing (paged text 3 _ association_paged) in
       let o : is_ordinary what.SchedulerAssociation ≡ true = subst IsOrdinary r w.ordinary in
       cc
 
@@ -393,7 +393,7 @@ module _ (ps : List Part) (first : Placed ps) where
   two_births : one ≢ other
   two_births e =
       let q : 4 ≡ pS = same_some 4 pS (sym one_borne ∙ (ap (borne h) e ∙ other_borne)) in
-      let r = one_thing 3 turn (only what.SchedulerAssociation) y (sym place_3 ∙ (q ∙ pS_is)) (paged ps 3 _ association_paged) y_there in
+      let r = one_thing 3 turn (only what.SchedulerAssociation) y (sym place_3 ∙ (q ∙ pS_is)) (paged text 3 _ association_paged) y_there in
       let o : same (only what.Scheduler) (only what.SchedulerAssociation) ≡ true = ap (same (only what.Scheduler)) r ∙ y_same in
       cc
 

@@ -8,14 +8,14 @@ use Rattle.std.proofs.lemmas.List.Quantifiers.{position-Some}
 use Rattle.std.proofs.lemmas.Option.{slice_get-get_or}
 use Rattle.st_kernel_text.specs.declared.shape.Shape.{Shape}
 use Rattle.st_kernel_text.specs.declared.shape.Shape.TheVariants as shape
-use Rattle.st_kernel_text.specs.Parts.{Part}
+use Rattle.st_kernel_text.specs.Texts.{Account}
 use Rattle.st_first_objects.specs.contracts.thing.What.{the_type}
 use Rattle.st_first_objects.specs.declared.thing.What.{What}
 use Rattle.st_first_objects.specs.declared.thing.What.TheVariants as what
 use Rattle.st_first_objects.specs.Things.{Thing, only, named, within, is, same, class as class_thing}
-use Rattle.st_first_objects.specs.Classes.{declared, is_nil}
+use Rattle.st_first_objects.specs.Classes.{is_nil}
 use Rattle.st_first_objects.specs.Orders.{Order, put, is_made, with_symbol, want, want_all, empty, page, characters, want_parts, selectors, selector_symbols, lists, first_things, order, numbered_from}
-use Rattle.st_first_objects.specs.Plans.{Plan}
+use Rattle.st_first_objects.specs.Plans.{Plan, declared}
 use Rattle.st_first_objects.specs.Contents.{Field, Empty, Number, To, Body, Fields, Bytes, NoWords, all_of, members, instance, superclass, meta_superclass, is_shared_of, padded, selector_fields, content_of}
 use Rattle.st_first_objects.proofs.Counts.{further, all_begins}
 use Rattle.st_first_objects.proofs.Complete.{got_before, page_begins}
@@ -137,14 +137,14 @@ content_to p what.Character name number h = (tt, tt)
 content_to p what.Symbols name number h = (tt, (refl, tt))
 content_to p what.SymbolTable name number h = padded_to number _ (members_to p (is what.Symbol) (λ t e. alike t.what what.Symbol e refl))
 content_to p what.Globals name number h = members_to p (is what.Global) (λ t e. alike t.what what.Global e refl)
-content_to p what.Class name number h = (superclass_to (declared p.classes name).above, (refl, (tt, (tt, (refl, (tt, (refl, (refl, (tt, tt)))))))))
-content_to p what.Metaclass name number h = (meta_to (declared p.classes name).above, (refl, (tt, (tt, (tt, (tt, (refl, tt)))))))
+content_to p what.Class name number h = (superclass_to (declared p name).above, (refl, (tt, (tt, (refl, (tt, (refl, (refl, (tt, tt)))))))))
+content_to p what.Metaclass name number h = (meta_to (declared p name).above, (refl, (tt, (tt, (tt, (tt, (refl, tt)))))))
 content_to p what.Dictionary name number h = (tt, (refl, eight_to))
 content_to p what.Methods name number h = eight_to
 content_to p what.MetaDictionary name number h = (tt, (refl, eight_to))
 content_to p what.MetaMethods name number h = eight_to
 content_to p what.Symbol name number h = tt
-content_to p what.Names name number h = all_to _ (variables_to (declared p.classes name).number (declared p.classes name).variables)
+content_to p what.Names name number h = all_to _ (variables_to (declared p name).number (declared p name).variables)
 content_to p what.Variable name number h = tt
 content_to p what.Pool name number h = members_to p (is_shared_of p name) (λ t e. alike t.what what.Shared (both_true _ _ e) refl)
 content_to p what.Shared name number h = (refl, (tt, tt))
@@ -154,9 +154,9 @@ content_to p what.Lists name number h = lists_to
 content_to p what.List name number h = (tt, (tt, tt))
 
 pub class_ordinary : (p : Plan) (w : What) (name : List ℕ) (number : ℕ) → IsOrdinary (content_of p w name number).class
-class_ordinary p what.Nil name number = instance_class (codes "UndefinedObject") (declared p.classes (codes "UndefinedObject")).shape (declared p.classes (codes "UndefinedObject")).fields
-class_ordinary p what.False name number = instance_class (codes "False") (declared p.classes (codes "False")).shape (declared p.classes (codes "False")).fields
-class_ordinary p what.True name number = instance_class (codes "True") (declared p.classes (codes "True")).shape (declared p.classes (codes "True")).fields
+class_ordinary p what.Nil name number = instance_class (codes "UndefinedObject") (declared p (codes "UndefinedObject")).shape (declared p (codes "UndefinedObject")).fields
+class_ordinary p what.False name number = instance_class (codes "False") (declared p (codes "False")).shape (declared p (codes "False")).fields
+class_ordinary p what.True name number = instance_class (codes "True") (declared p (codes "True")).shape (declared p (codes "True")).fields
 class_ordinary p what.SchedulerAssociation name number = refl
 class_ordinary p what.Selectors name number = refl
 class_ordinary p what.Characters name number = refl
@@ -183,8 +183,8 @@ class_ordinary p what.List name number = refl
 -- THE ORDER
 
 -- the root page comes first
-pub paged : (ps : List Part) (i : ℕ) (x : Thing) → slice_get (want_all empty page).things i ≡ Some x → slice_get (order ps).things i ≡ Some x
-paged ps i x e = let b = page_begins ps in ap (λ ts. slice_get ts i) b.is ∙ got_before (want_all empty page).things b.rest i x e
+pub paged : (text : Account) (i : ℕ) (x : Thing) → slice_get (want_all empty page).things i ≡ Some x → slice_get (order text).things i ≡ Some x
+paged text i x e = let b = page_begins text in ap (λ ts. slice_get ts i) b.is ∙ got_before (want_all empty page).things b.rest i x e
 
 found_in : (t : Thing) (xs ys : List Thing) → list_any (same t) xs ≡ true → list_any (same t) (xs ++ ys) ≡ true
 found_in t [] ys e = cc
@@ -218,9 +218,9 @@ want_made o = by_test (not (is_made o (only what.Scheduler)))
     by_test false = put_made o (only what.Scheduler) refl
 
 -- the scheduler is made
-pub scheduler_made : (ps : List Part) → list_any (same (only what.Scheduler)) (order ps).things ≡ true
-scheduler_made ps =
-    let d = want_parts ps (first_things empty) 0 ps in
+pub scheduler_made : (text : Account) → list_any (same (only what.Scheduler)) (order text).things ≡ true
+scheduler_made text =
+    let d = want_parts text.names (first_things empty) 0 text.parts in
     let a = want_all d (selector_symbols selectors) in
     let b = want a (only what.Scheduler) in
     let e = want b (only what.Lists) in

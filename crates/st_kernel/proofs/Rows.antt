@@ -115,4 +115,4 @@ either false x = refl
 
 bad : (install : Install) → built install (codes "bad!") ≡ fault_at 1 1
 unfolding built_from without_room
-bad install = either (has_room (account (codes "bad!")).parts) (fault_at 1 1)
+bad install = either (has_room (account (codes "bad!"))) (fault_at 1 1)

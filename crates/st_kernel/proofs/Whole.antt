@@ -1,5 +1,5 @@
 -- The whole text, over the memory of its first objects.
-use Rattle.std.proofs.Common.{◌≡◌, ◌∙◌, List, true, false, Bool, refl, sym, ap, arith}
+use Rattle.std.proofs.Common.{◌≡◌, ◌∙◌, true, false, Bool, refl, sym, ap, arith}
 use Rattle.std.specs.Prelude.{Result, if◌then◌else◌}
 use Rattle.std.proofs.lemmas.Int.{ints}
 use Rattle.st_model.specs.Values.{value_of}
@@ -8,7 +8,6 @@ use Rattle.st_model.specs.Show.{raised}
 use Rattle.st_model.specs.Start.{idle_state}
 use Rattle.st_model.proofs.Raised.{raised_shown}
 use Rattle.st_frames.proofs.Closed.{closed_idle}
-use Rattle.st_kernel_text.specs.Parts.{Part}
 use Rattle.st_kernel_text.specs.Texts.{Account, account}
 use Rattle.st_first_objects.specs.First.{first_view, view_of, has_room}
 use Rattle.st_protocol.specs.Installing.{Install}
@@ -32,19 +31,19 @@ held_nothing v held = record {
   devices = ap (λ h. h.devices) held;
 }
 
-first_held : (parts : List Part) → (first_view parts).held ≡ nothing_held
+first_held : (a : Account) → (first_view a).held ≡ nothing_held
 unfolding view_of empty_view
-first_held parts = refl
+first_held a = refl
 
-pub first_quiet : (v : View) (parts : List Part) → v ≡ first_view parts → IsQuiet v
-first_quiet v parts is = held_nothing v (ap (λ (x : View). x.held) is ∙ first_held parts)
+pub first_quiet : (v : View) (a : Account) → v ≡ first_view a → IsQuiet v
+first_quiet v a is = held_nothing v (ap (λ (x : View). x.held) is ∙ first_held a)
 
 module _ (install : Install) (a : Account) where
   abbrev pub followed : Result Built Fault
-  followed = built_from install a.cause 1 (raised (idle_state (first_view a.parts))) no_side a.parts
+  followed = built_from install a.cause 1 (raised (idle_state (first_view a))) no_side a.parts
 
   -- nothing is followed yet
-  pub first_underway : (v : View) → IsWhole v → v ≡ first_view a.parts → IsUnderway install a.cause followed 1 no_side a.parts v
+  pub first_underway : (v : View) → IsWhole v → v ≡ first_view a → IsUnderway install a.cause followed 1 no_side a.parts v
   first_underway v whole is = record {
     state = raised (idle_state v);
     shows = raised_shown (idle_state v) (closed_idle v whole.complete);
@@ -59,8 +58,8 @@ module _ (install : Install) (a : Account) where
   otherwise true x y e = cc
   otherwise false x y e = refl
 
-  pub with_room : (text : List _) → a ≡ account text → has_room a.parts ≡ true → followed ≡ built install text
-  with_room text is room = sym (chosen (has_room a.parts) followed (without_room a.cause 0 1 a.parts) room) ∙ ap (built_by install) is
+  pub with_room : (text : _) → a ≡ account text → has_room a ≡ true → followed ≡ built install text
+  with_room text is room = sym (chosen (has_room a) followed (without_room a.cause 0 1 a.parts) room) ∙ ap (built_by install) is
 
-  pub roomless : (text : List _) → a ≡ account text → has_room a.parts ≡ false → without_room a.cause 0 1 a.parts ≡ built install text
-  roomless text is room = sym (otherwise (has_room a.parts) followed (without_room a.cause 0 1 a.parts) room) ∙ ap (built_by install) is
+  pub roomless : (text : _) → a ≡ account text → has_room a ≡ false → without_room a.cause 0 1 a.parts ≡ built install text
+  roomless text is room = sym (otherwise (has_room a) followed (without_room a.cause 0 1 a.parts) room) ∙ ap (built_by install) is

@@ -92,8 +92,8 @@ without_room cause opened n (part ∷ parts) = without_room cause opened (n + 1)
 -- the objects that the declarations make are the first births
 abbrev pub built_by : Install → Account → Result Built Fault
 built_by install a =
-    if has_room a.parts
-    then built_from install a.cause 1 (raised (idle_state (first_view a.parts))) no_side a.parts
+    if has_room a
+    then built_from install a.cause 1 (raised (idle_state (first_view a))) no_side a.parts
     else without_room a.cause 0 1 a.parts
 
 abbrev pub built : Install → (text : List ℕ) → Result Built Fault

@@ -3,16 +3,16 @@
 #![tactic(auto)]
 
 mod beginning;
-mod building;
 mod drilling;
 mod fault;
 mod finding;
 mod following;
+mod image;
 mod laws;
 mod part;
 mod scheduling;
 
-pub use building::build;
 pub use drilling::drill_text;
 pub use fault::KernelFault;
+pub use image::build;
 pub use laws::{found_starts_begin, lost_starts_are_missing};

@@ -1,5 +1,5 @@
 -- The account of a text: it has no more parts than bytes, and its methods have the form of definitions.
-use Rattle.std.proofs.Common.{◌≡◌, ◌≤◌, ◌+◌, ℕ, List, [], ◌∷◌, ◌++◌, length, refl, sym, ap, subst, arith, length-append}
+use Rattle.std.proofs.Common.{◌≡◌, ◌≤◌, ◌+◌, ℕ, suc, List, [], ◌∷◌, ◌++◌, length, refl, sym, ap, subst, arith, length-append}
 use Rattle.std.specs.Prelude.{Bool, true, false, ◌&&◌, ◌==◌, nat_le, Option, Some, None, option_map, Result, Ok, Err, if◌then◌else◌, codes}
 use Rattle.std.specs.Option.{option_zip}
 use Rattle.std.proofs.lemmas.Bool.Decides.{leb_tells}
@@ -19,7 +19,7 @@ use Rattle.st_kernel_text.specs.declared.cause.Cause.{Cause}
 use Rattle.st_kernel_text.specs.Words.{words, is_word, names_in}
 use Rattle.st_kernel_text.specs.Parts.{Side, Part, class, pool, global, opening, header, method, closing, start}
 use Rattle.st_kernel_text.specs.Forms.{keyword_named, shape_named, class_in, pool_in, global_in, start_in, start_by, declaration_by, by_words, side_of, part_at, formed_at, behind_part}
-use Rattle.st_kernel_text.specs.Known.{Known, nothing, known_behind}
+use Rattle.st_kernel_text.specs.Known.{Names, Known, nothing, known_behind}
 use Rattle.st_kernel_text.specs.Texts.{Account, read_part, behind, account_from, account}
 use Rattle.st_kernel_text.specs.Definitions.{definition_by, AreDefinitions}
 
@@ -38,20 +38,21 @@ mutual
       (λ e. rw e (omega (arith, cut_few (before ++ b ∷ []) text)))
       (λ e. rw e (omega (arith, cut_few (b ∷ []) text)))
 
-behind_few : (n : ℕ) (goes_on : Place → Known → Account) → ((p : Place) (k : Known) → length (goes_on p k).parts ≤ n) → (r : Result (Part × Known) Cause)
-    → length (behind goes_on r).parts ≤ n + 1
-behind_few n goes_on few (Ok read) = omega (arith, few (behind_part read.0) read.1)
-behind_few n goes_on few (Err cause) = omega arith
+behind_few : (n : ℕ) (names : Names) (goes_on : Place → Known → Account) → ((p : Place) (k : Known) → length (goes_on p k).parts ≤ n) → (r : Result (Part × Known) Cause)
+    → length (behind names goes_on r).parts ≤ n + 1
+behind_few n names goes_on few (Ok read) = omega (arith, few (behind_part read.0) read.1)
+behind_few n names goes_on few (Err cause) = omega arith
 
-account_few : (place : Place) (k : Known) (chunks : List (List ℕ)) (rest : List ℕ) → length (account_from place k chunks rest).parts ≤ length chunks
-account_few place k [] rest = omega arith
-account_few place k (c ∷ cs) rest =
-    let few = behind_few (length cs) (λ next after. account_from next after cs rest) (λ next after. account_few next after cs rest) (read_part place k (formed_at place c)) in
+account_few : (place : Place) (k : Known) (number : ℕ) (chunks : List (List ℕ)) (rest : List ℕ) → length (account_from place k number chunks rest).parts ≤ length chunks
+account_few place k number [] rest = omega arith
+account_few place k number (c ∷ cs) rest =
+    let few = behind_few (length cs) k.names (λ next after. account_from next after (suc number) cs rest) (λ next after. account_few next after (suc number) cs rest)
+    (read_part place k number (formed_at place c)) in
     omega (arith, few)
 
 pub few_parts : (text : List ℕ) → length (account text).parts ≤ length text
 few_parts text =
-    let a = account_few Declarations nothing (cut text).chunks (cut text).rest in
+    let a = account_few Declarations nothing 0 (cut text).chunks (cut text).rest in
     let b = cut_few [] text in
     omega (arith, a, b)
 
@@ -61,9 +62,9 @@ abbrev header_by : Side → Header
 header_by side = record { class = side.class; meta = side.meta; category = [] }
 
 -- what is known of the side that a group names
-abbrev Names : Place → Side → Type 0
-Names Methods side = IsHeading (header_by side)
-Names _ side = Unit {0}
+abbrev IsNamed : Place → Side → Type 0
+IsNamed Methods side = IsHeading (header_by side)
+IsNamed _ side = Unit {0}
 
 abbrev side_behind : Side → Part → Side
 side_behind side (header named) = named
@@ -74,7 +75,7 @@ IsGoodPart side (header named) = IsHeading (header_by named)
 IsGoodPart side (method text) = IsDefinition (definition_by side text) × IsHeading (header_by side)
 IsGoodPart side _ = Unit {0}
 
-names_behind : (side : Side) (p : Part) → IsGoodPart side p → Names (behind_part p) (side_behind side p)
+names_behind : (side : Side) (p : Part) → IsGoodPart side p → IsNamed (behind_part p) (side_behind side p)
 names_behind side (class c) good = tt
 names_behind side (pool p) good = tt
 names_behind side (global name) good = tt
@@ -201,7 +202,7 @@ method_good side chunk false p e short heading is =
 some_other : (side : Side) (x : Option Part) (p : Part) → IsOther x → x ≡ Some p → IsGoodPart side p
 some_other side x p other is = other_good side p (subst IsOther is other)
 
-part_good : (place : Place) (side : Side) (chunk : List ℕ) (p : Part) → Names place side → length chunk ≤ most → part_at place chunk ≡ Some p → IsGoodPart side p
+part_good : (place : Place) (side : Side) (chunk : List ℕ) (p : Part) → IsNamed place side → length chunk ≤ most → part_at place chunk ≡ Some p → IsGoodPart side p
 part_good Declarations side chunk p names short is =
     some_other side (part_at Declarations chunk) p (opening_or (is_empty chunk) (by_words declaration_by (words chunk)) (words_other declaration_by declaration_other (words chunk))) is
 part_good Groups side chunk p names short is =
@@ -210,34 +211,34 @@ part_good InHeader side chunk p names short is = header_good side chunk (header_
 part_good Methods side chunk p names short is = method_good side chunk (is_empty chunk) p refl short names is
 part_good End side chunk p names short is = absurd cc
 
-formed_good : (place : Place) (side : Side) (chunk : List ℕ) (p : Part) → Names place side → formed_at place chunk ≡ Some p → IsGoodPart side p
+formed_good : (place : Place) (side : Side) (chunk : List ℕ) (p : Part) → IsNamed place side → formed_at place chunk ≡ Some p → IsGoodPart side p
 formed_good place side chunk p names is = by_test (nat_le (length chunk) most)
     (λ e. part_good place side chunk p names (grind (arith, leb_tells (length chunk) most)) (rw e at is))
     (λ e. absurd (let none = rw e at is in cc))
 
 -- THE TEXT
 
-read_known : (place : Place) (k : Known) (p : Part) (r : Result Known Cause) (read : Part × Known) → known_behind place k p ≡ r → read_part place k (Some p) ≡ Ok read → read.0 ≡ p
-read_known place k p (Ok after) read e is = let ok = rw e at is in cc
-read_known place k p (Err cause) read e is = let no = rw e at is in absurd cc
+read_known : (place : Place) (k : Known) (n : ℕ) (p : Part) (r : Result Known Cause) (read : Part × Known) → known_behind place k n p ≡ r → read_part place k n (Some p) ≡ Ok read → read.0 ≡ p
+read_known place k n p (Ok after) read e is = let ok = rw e at is in cc
+read_known place k n p (Err cause) read e is = let no = rw e at is in absurd cc
 
-read_some : (place : Place) (k : Known) (x : Option Part) (read : Part × Known) → read_part place k x ≡ Ok read → x ≡ Some read.0
-read_some place k None read is = absurd cc
-read_some place k (Some p) read is = ap (λ q. Some q) (sym (read_known place k p (known_behind place k p) read refl is))
+read_some : (place : Place) (k : Known) (n : ℕ) (x : Option Part) (read : Part × Known) → read_part place k n x ≡ Ok read → x ≡ Some read.0
+read_some place k n None read is = absurd cc
+read_some place k n (Some p) read is = ap (λ q. Some q) (sym (read_known place k n p (known_behind place k n p) read refl is))
 
-behind_good : (side : Side) (goes_on : Place → Known → Account) (r : Result (Part × Known) Cause) → ((read : Part × Known) → r ≡ Ok read → IsGoodPart side read.0)
-    → ((place : Place) (k : Known) (next : Side) → Names place next → AreDefinitions next (goes_on place k).parts) → AreDefinitions side (behind goes_on r).parts
-behind_good side goes_on (Ok read) good others =
+behind_good : (side : Side) (names : Names) (goes_on : Place → Known → Account) (r : Result (Part × Known) Cause) → ((read : Part × Known) → r ≡ Ok read → IsGoodPart side read.0)
+    → ((place : Place) (k : Known) (next : Side) → IsNamed place next → AreDefinitions next (goes_on place k).parts) → AreDefinitions side (behind names goes_on r).parts
+behind_good side names goes_on (Ok read) good others =
     let first = good read refl in
     with_others side read.0 (goes_on (behind_part read.0) read.1).parts first (others (behind_part read.0) read.1 (side_behind side read.0) (names_behind side read.0 first))
-behind_good side goes_on (Err cause) good others = tt
+behind_good side names goes_on (Err cause) good others = tt
 
-account_good : (place : Place) (k : Known) (chunks : List (List ℕ)) (rest : List ℕ) (side : Side) → Names place side → AreDefinitions side (account_from place k chunks rest).parts
-account_good place k [] rest side names = tt
-account_good place k (c ∷ cs) rest side names =
-    behind_good side (λ next after. account_from next after cs rest) (read_part place k (formed_at place c))
-    (λ read is. formed_good place side c read.0 names (read_some place k (formed_at place c) read is))
-    (λ next after other known. account_good next after cs rest other known)
+account_good : (place : Place) (k : Known) (n : ℕ) (chunks : List (List ℕ)) (rest : List ℕ) (side : Side) → IsNamed place side → AreDefinitions side (account_from place k n chunks rest).parts
+account_good place k n [] rest side named = tt
+account_good place k n (c ∷ cs) rest side named =
+    behind_good side k.names (λ next after. account_from next after (suc n) cs rest) (read_part place k n (formed_at place c))
+    (λ read is. formed_good place side c read.0 named (read_some place k n (formed_at place c) read is))
+    (λ next after other known. account_good next after (suc n) cs rest other known)
 
 pub good_parts : (text : List ℕ) (side : Side) → AreDefinitions side (account text).parts
-good_parts text side = account_good Declarations nothing (cut text).chunks (cut text).rest side tt
+good_parts text side = account_good Declarations nothing 0 (cut text).chunks (cut text).rest side tt

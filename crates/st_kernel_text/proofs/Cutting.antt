@@ -35,10 +35,10 @@ full before b e = grind (arith, longer before b, leb_tells (length before + 1) m
 
 -- nothing comes of a chunk that is too long
 refused : (s : State) (c : List ℕ) (cs : List (List ℕ)) (rest : List ℕ) → most < length c → account_behind s (c ∷ cs) rest ≡ stopped s (Some Form)
-refused s c cs rest long = rw (not_short (length c) long) (λ i. record { parts = append-nil s.parts i; cause = Some Form })
+refused s c cs rest long = rw (not_short (length c) long) (λ i. record { parts = append-nil s.parts i; names = s.known.names; cause = Some Form })
 
 pub ends : (s : State) (rest : List ℕ) → account_behind s [] rest ≡ end_of s rest
-ends s rest = λ i. record { parts = append-nil s.parts i; cause = if is_end s.place && is_empty rest then None else Some Form }
+ends s rest = λ i. record { parts = append-nil s.parts i; names = s.known.names; cause = if is_end s.place && is_empty rest then None else Some Form }
 
 never : (t : Bool) → t && false ≡ false
 never true = refl

@@ -9,7 +9,7 @@ use Rattle.indexmap.specs.IndexSet.{insert_key}
 use Rattle.st_kernel_text.specs.declared.cause.Cause.TheVariants.{Name}
 use Rattle.st_kernel_text.specs.declared.named.Named.{Named}
 use Rattle.st_kernel_text.specs.inside.Lists.{names_of, variables_of, texts_of}
-use Rattle.st_kernel_text.specs.Known.{is_variable, with_variable}
+use Rattle.st_kernel_text.specs.Known.{Names, with_named, is_variable, with_variable}
 
 pub lookup_names : (name : List ℕ) (es : List (Vec ℕ Global × Named)) → lookup (λ k. bytes_eq name k.items) es ≡ lookup (λ other. bytes_eq name other) (names_of es)
 lookup_names name [] = refl
@@ -18,25 +18,11 @@ lookup_names name (e ∷ es) = ap (cond (bytes_eq name e.0.items) (Some e.1)) (l
 abbrev same_text : Vec ℕ Global → Vec ℕ Global → Bool
 same_text x y = bytes_eq x.items y.items
 
--- a name that isn't there goes last
-pub name_added : (key : Vec ℕ Global) (n : Named) (es : List (Vec ℕ Global × Named)) → is_some (lookup (λ other. bytes_eq key.items other) (names_of es)) ≡ false
-    → names_of (insert_entry same_text es key n) ≡ names_of es ++ (key.items, n) ∷ []
-name_added key n [] e = refl
-name_added key n (x ∷ es) e = by_test (bytes_eq key.items x.0.items)
-    (λ is. let found : is_some (cond (bytes_eq key.items x.0.items) (Some x.1) (lookup (λ other. bytes_eq key.items other) (names_of es))) ≡ true = rw is refl in absurd cc)
-    (λ is. rw is (ap (λ (xs : List (List ℕ × Named)). (x.0.items, x.1) ∷ xs) (name_added key n es
-    (let passed : is_some (cond (bytes_eq key.items x.0.items) (Some x.1) (lookup (λ other. bytes_eq key.items other) (names_of es))) ≡ is_some (lookup (λ other. bytes_eq key.items other) (names_of es)) = rw is refl in sym passed ∙ e))))
-
-pub name_put : (es new : List (Vec ℕ Global × Named)) (key : Vec ℕ Global) (name : List ℕ) (n : Named) → key.items ≡ name
-    → is_some (lookup (λ other. bytes_eq name other) (names_of es)) ≡ false → new ≡ insert_entry same_text es key n → names_of es ++ (name, n) ∷ [] ≡ names_of new
-name_put es new key name n e absent put =
-    sym (ap names_of put
-    ∙ name_added key n es (ap (λ (x : List ℕ). is_some (lookup (λ other. bytes_eq x other) (names_of es))) e ∙ absent)
-    ∙ ap (λ (x : List ℕ). names_of es ++ (x, n) ∷ []) e)
-
-pub names_long : (es : List (Vec ℕ Global × Named)) → length (names_of es) ≡ length es
-names_long [] = refl
-names_long (e ∷ es) = ap suc (names_long es)
+pub name_set : (key : Vec ℕ Global) (n : Named) (es : List (Vec ℕ Global × Named)) → names_of (insert_entry same_text es key n) ≡ with_named (names_of es) key.items n
+name_set key n [] = refl
+name_set key n (x ∷ es) = by_test (bytes_eq key.items x.0.items)
+    (λ is. rw is refl)
+    (λ is. rw is (ap (λ (names : Names). (x.0.items, x.1) ∷ names) (name_set key n es)))
 
 -- VARIABLES
 

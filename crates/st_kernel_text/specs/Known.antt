@@ -1,6 +1,6 @@
 -- What is declared so far, and what may be declared, or named, behind it.
 use denote.Enum.Bare.{sameb}
-use Rattle.std.specs.Prelude.{ℕ, ◌+◌, nat_le, nat_eq, bytes_eq, ◌&&◌, Bool, true, false, List, [], ◌∷◌, ◌++◌, length, codes, Option, Some, None, is_some, option_map, option_and_then, ok_or, Result, Ok, Err, if◌then◌else◌}
+use Rattle.std.specs.Prelude.{ℕ, ◌+◌, nat_le, nat_lt, nat_eq, bytes_eq, ◌&&◌, ◌||◌, Bool, true, false, List, [], ◌∷◌, ◌++◌, length, codes, Option, Some, None, is_some, option_map, option_and_then, ok_or, Result, Ok, Err, if◌then◌else◌}
 use Rattle.std.specs.List.{list_all, list_any}
 use Rattle.std.specs.Option.{option_map_or}
 use Rattle.std.specs.Map.{lookup}
@@ -17,9 +17,13 @@ use Rattle.st_kernel_text.specs.declared.named.Named.TheVariants.{Global, Class 
 use Rattle.st_kernel_text.specs.Words.{is_word}
 use Rattle.st_kernel_text.specs.Parts.{Class, Pool, Part, class, pool, global, opening, header, method, closing, start}
 
--- The names of classes and globals, in order; and of variables, each with the place of its class among these names.
+-- the names of classes and globals, in the order of their declarations, and what each is that of
+abbrev pub Names : Type 0
+Names = List (List ℕ × Named)
+
+-- these names; and those of variables, each with the number of its class
 pub record Known : Type 0 where
-  pub names : List (List ℕ × Named)
+  pub names : Names
   -- the variables of instances
   pub fields : List (ℕ × List ℕ)
   -- the variables that a class shares
@@ -30,11 +34,16 @@ abbrev pub nothing : Known
 nothing = record { names = []; fields = []; shared = [] }
 
 -- what a name is that of, if it is declared
-abbrev pub named : Known → List ℕ → Option Named
-named k name = lookup (λ other. bytes_eq name other) k.names
+abbrev pub named : Names → List ℕ → Option Named
+named names name = lookup (λ other. bytes_eq name other) names
+
+-- with this name as that of something: one that is there keeps its place, and a new one goes last
+abbrev pub with_named : Names → List ℕ → Named → Names
+with_named [] name n = (name, n) ∷ []
+with_named (first ∷ names) name n = if bytes_eq name first.0 then (first.0, n) ∷ names else first ∷ with_named names name n
 
 abbrev pub is_known : Known → List ℕ → Bool
-is_known k name = is_some (named k name)
+is_known k name = is_some (named k.names name)
 
 abbrev pub and_then : {A B : Type 0} → (A → Result B Cause) → Result A Cause → Result B Cause
 and_then f (Ok a) = f a
@@ -68,36 +77,41 @@ layout_in (AClass layout) = Some layout
 layout_in Global = None
 
 -- the layout of the class of this name, if it is declared
-abbrev pub layout_of : Known → List ℕ → Option Layout
-layout_of k name = option_and_then layout_in (named k name)
+abbrev pub layout_of : Names → List ℕ → Option Layout
+layout_of names name = option_and_then layout_in (named names name)
 
 -- how many fields a class inherits, if its superclass is nil or a class
 abbrev pub inherited : Known → List ℕ → Option ℕ
-inherited k above = if is_word (codes "nil") above then Some 0 else option_map (λ layout. layout.fields) (layout_of k above)
+inherited k above = if is_word (codes "nil") above then Some 0 else option_map (λ layout. layout.fields) (layout_of k.names above)
 
 abbrev pub with_name : Known → List ℕ → Named → Known
-with_name k name n = record k { names = k.names ++ (name, n) ∷ [] }
+with_name k name n = record k { names = with_named k.names name n }
 
--- a class with so many fields in all
-abbrev pub with_layout : Known → Class → (fields : ℕ) → List (ℕ × List ℕ) → Result Known Cause
-with_layout k c fields all =
+-- a class with so many fields in all, which the part of this number declares
+abbrev pub with_layout : Known → (number : ℕ) → Class → (fields : ℕ) → List (ℕ × List ℕ) → Result Known Cause
+with_layout k number c fields all =
     if nat_le fields (most_fields c.shape)
-    then Ok (with_name (record k { fields = all }) c.name (AClass (record { number = length k.names; shape = c.shape; fields = fields })))
+    then Ok (with_name (record k { fields = all }) c.name (AClass (record { number = number; shape = c.shape; fields = fields; shares = false })))
     else Err Variables
 
 -- a class whose superclass has so many fields
-abbrev pub with_inherited : Known → Class → (fields : ℕ) → Result Known Cause
-with_inherited k c fields = and_then (with_layout k c (fields + length c.variables)) (with_variables (length k.names) c.variables k.fields)
+abbrev pub with_inherited : Known → (number : ℕ) → Class → (fields : ℕ) → Result Known Cause
+with_inherited k number c fields = and_then (with_layout k number c (fields + length c.variables)) (with_variables number c.variables k.fields)
 
-abbrev pub with_class : Known → Class → Result Known Cause
-with_class k c = if is_known k c.name then Err Name else and_then (with_inherited k c) (ok_or (inherited k c.above) Name)
+abbrev pub with_class : Known → (number : ℕ) → Class → Result Known Cause
+with_class k number c = if is_known k c.name then Err Name else and_then (with_inherited k number c) (ok_or (inherited k c.above) Name)
+
+-- the layout of a class with so many class variables more
+abbrev pub with_more : Layout → ℕ → Layout
+with_more layout count = record layout { shares = layout.shares || nat_lt 0 count }
 
 -- class variables of the class with this layout
-abbrev pub with_shared : Known → (variables : List (List ℕ)) → Layout → Result Known Cause
-with_shared k variables layout = and_then (λ all. Ok (record k { shared = all })) (with_variables layout.number variables k.shared)
+abbrev pub with_shared : Known → Pool → Layout → Result Known Cause
+with_shared k p layout =
+    and_then (λ all. Ok (with_name (record k { shared = all }) p.class (AClass (with_more layout (length p.variables))))) (with_variables layout.number p.variables k.shared)
 
 abbrev pub with_pool : Known → Pool → Result Known Cause
-with_pool k p = and_then (with_shared k p.variables) (ok_or (layout_of k p.class) Name)
+with_pool k p = and_then (with_shared k p) (ok_or (layout_of k.names p.class) Name)
 
 abbrev pub with_global : Known → List ℕ → Result Known Cause
 with_global k name = if is_known k name then Err Name else Ok (with_name k name Global)
@@ -110,7 +124,7 @@ fits None layout = true
 fits (Some want) layout = sameb the_type want.0 layout.shape && nat_eq want.1 layout.fields
 
 abbrev pub has_class : Known → Option (Shape × ℕ) → (name : List ℕ) → Bool
-has_class k want name = option_map_or (fits want) (layout_of k name) false
+has_class k want name = option_map_or (fits want) (layout_of k.names name) false
 
 abbrev pub has_all : Known → List (Option (Shape × ℕ) × List (List ℕ)) → Bool
 has_all k wanted = list_all (λ need. list_all (has_class k need.0) need.1) wanted
@@ -138,13 +152,13 @@ complete _ k = Ok k
 abbrev pub if_known : Known → List ℕ → Result Known Cause → Result Known Cause
 if_known k name after = if is_known k name then after else Err Name
 
--- what is known behind a part that stands here, or the least cause why it cannot stand
-abbrev pub known_behind : Place → Known → Part → Result Known Cause
-known_behind place k (class c) = with_class k c
-known_behind place k (pool p) = with_pool k p
-known_behind place k (global name) = with_global k name
-known_behind place k opening = complete place k
-known_behind place k (header side) = if_known k side.class (Ok k)
-known_behind place k (method text) = Ok k
-known_behind place k closing = Ok k
-known_behind place k (start s) = if_known k s.receiver (complete place k)
+-- what is known behind the part of this number that stands here, or the least cause why it cannot stand
+abbrev pub known_behind : Place → Known → (number : ℕ) → Part → Result Known Cause
+known_behind place k number (class c) = with_class k number c
+known_behind place k number (pool p) = with_pool k p
+known_behind place k number (global name) = with_global k name
+known_behind place k number opening = complete place k
+known_behind place k number (header side) = if_known k side.class (Ok k)
+known_behind place k number (method text) = Ok k
+known_behind place k number closing = Ok k
+known_behind place k number (start s) = if_known k s.receiver (complete place k)

@@ -1,18 +1,18 @@
 // What is declared so far.
 ghost use Rattle.std.specs.{Prelude.{◌≡◌, ◌+◌, false, length, Ok}, List.list_all};
-ghost use Rattle.st_kernel_text.specs.Known.{nothing, named, is_known, layout_of, inherited, most_fields, with_name, with_layout, with_inherited};
-ghost use Rattle.st_kernel_text.specs.Known.{with_class, with_pool, with_global, fits, has_class, has_all, complete, if_known, known_behind};
+ghost use Rattle.st_kernel_text.specs.Known.{nothing, is_known, inherited, most_fields, with_name, with_layout, with_inherited};
+ghost use Rattle.st_kernel_text.specs.Known.{with_class, with_more, with_shared, with_pool, with_global, fits, has_class, has_all, complete, if_known, known_behind};
 ghost use Rattle.st_kernel_text.specs.{inside.Views.{class_of, pool_of, part_of}, inside.Lists.{names_now, needs_of, texts_of}};
-ghost use Rattle.st_kernel_text.specs.inside.Reading.{Leaves};
+ghost use Rattle.st_kernel_text.specs.inside.Reading.{Declares};
 
 use crate::cause::{Cause, Stop};
+use crate::declarations::Declarations;
 use crate::named::{Layout, Named};
 use crate::needs::{NEEDS, Need};
 use crate::part::{Class, Part, Pool, Text};
 use crate::place::Place;
 use crate::shape::Shape;
 use crate::variables::Variables;
-use indexmap::IndexMap;
 use std::alloc::Global;
 use std::marker::Model;
 
@@ -34,6 +34,17 @@ fn fields_below(inherited: u8, variables: &[Text]) -> usize
     usize::from(inherited) + variables.len()
 }
 
+/// The layout of a class with these class variables more.
+#[tactic(auto, using(crate::proofs::Listed::texts_long))]
+fn with_more(layout: Layout, variables: &[Text]) -> Layout
+    ensures { result ≡ with_more layout (length (texts_of variables.now)) }
+{
+    Layout {
+        shares: layout.shares || variables.len() > 0,
+        ..layout
+    }
+}
+
 /// Whether a class is as it is wanted.
 fn fits(wanted: Option<(Shape, u8)>, layout: Layout) -> bool
     ensures { result ≡ fits wanted layout }
@@ -44,21 +55,20 @@ fn fits(wanted: Option<(Shape, u8)>, layout: Layout) -> bool
     }
 }
 
-/// What is declared so far. A name's place is its number.
+/// What is declared so far.
 #[derive(Drop)]
 pub(crate) struct Known {
-    names: IndexMap<Text, Named>,
+    pub(crate) names: Declarations,
     fields: Variables,
     shared: Variables,
 }
 
 impl Model for Known {
     ghost use Rattle.st_kernel_text.specs.Known.{Known};
-    ghost use Rattle.st_kernel_text.specs.inside.Lists.{names_of};
 
     ghost Value = { Known };
 
-    ghost view = { λ k. record { names = names_of k.names.entries; fields = k.fields; shared = k.shared } };
+    ghost view = { λ k. record { names = k.names; fields = k.fields; shared = k.shared } };
 }
 
 impl Known {
@@ -67,26 +77,9 @@ impl Known {
         ensures { result ≡ nothing }
     {
         Known {
-            names: IndexMap::new(alloc),
+            names: Declarations::new(alloc),
             fields: Variables::new(alloc),
             shared: Variables::new(alloc),
-        }
-    }
-
-    /// What a name is that of, if it is declared.
-    fn named(&self, name: &[u8]) -> Option<Named>
-        ensures { result ≡ named self.now name.now }
-    {
-        self.names.get(name).copied()
-    }
-
-    /// The layout of the class of this name, if it is declared.
-    fn layout(&self, name: &[u8]) -> Option<Layout>
-        ensures { result ≡ layout_of self.now name.now }
-    {
-        match self.named(name) {
-            Some(Named::Class(layout)) => Some(layout),
-            _ => None,
         }
     }
 
@@ -97,80 +90,97 @@ impl Known {
         if above == b"nil".as_slice() {
             return Some(0);
         }
-        Some(self.layout(above)?.fields)
+        Some(self.names.layout(above)?.fields)
     }
 
-    /// A name more.
+    /// A name is that of something.
     fn add_name(&mut self, alloc: Global, name: &[u8], named: Named) -> Result<(), Stop>
-        requires { is_known self.old name.now ≡ false }
-        ensures { Leaves (Ok (with_name self.old name.now named)) self.new result }
+        ensures { Declares (Ok (with_name self.old name.now named)) self.old self.new result }
     {
-        self.names.insert(name.to_vec(alloc)?, named)?;
+        self.names.set(alloc, name, named)?;
         Ok(())
     }
 
-    /// How many names are declared.
-    #[tactic(auto, using(crate::proofs::Listed::names_long))]
-    fn count(&self) -> usize
-        ensures { result ≡ length self.now.names }
-    {
-        self.names.len()
-    }
-
-    /// A class is declared whose instances have so many fields.
-    fn add_layout(&mut self, alloc: Global, class: &Class, fields: usize) -> Result<(), Stop>
-        requires { is_known self.old class.now.name.items ≡ false }
-        ensures { Leaves (with_layout self.old (class_of class.now) fields self.old.fields) self.new result }
+    /// A class is declared, by the part of this number, whose instances have so many fields.
+    fn add_layout(
+        &mut self,
+        alloc: Global,
+        number: usize,
+        class: &Class,
+        fields: usize,
+    ) -> Result<(), Stop>
+        ensures { Declares (with_layout self.old number (class_of class.now) fields self.old.fields)
+            self.old self.new result }
     {
         if fields > most_fields(class.shape) {
             return Err(Stop::At(Cause::Variables));
         }
         let layout = Layout {
-            number: self.count(),
+            number,
             shape: class.shape,
             fields: fields as u8,
+            shares: false,
         };
         self.add_name(alloc, &class.name, Named::Class(layout))
     }
 
-    /// A class is declared whose superclass has so many fields.
-    fn add_below(&mut self, alloc: Global, class: &Class, inherited: u8) -> Result<(), Stop>
-        requires { is_known self.old class.now.name.items ≡ false }
-        ensures { Leaves (with_inherited self.old (class_of class.now) inherited) self.new result }
+    /// A class is declared, by the part of this number, whose superclass has so many fields.
+    fn add_below(
+        &mut self,
+        alloc: Global,
+        number: usize,
+        class: &Class,
+        inherited: u8,
+    ) -> Result<(), Stop>
+        ensures { Declares (with_inherited self.old number (class_of class.now) inherited)
+            self.old self.new result }
     {
-        let number = self.count();
         self.fields.declare(alloc, number, &class.variables)?;
-        self.add_layout(alloc, class, fields_below(inherited, &class.variables))
+        self.add_layout(
+            alloc,
+            number,
+            class,
+            fields_below(inherited, &class.variables),
+        )
     }
 
-    /// A class is declared.
-    fn add_class(&mut self, alloc: Global, class: &Class) -> Result<(), Stop>
-        ensures { Leaves (with_class self.old (class_of class.now)) self.new result }
+    /// A class is declared, by the part of this number.
+    fn add_class(&mut self, alloc: Global, number: usize, class: &Class) -> Result<(), Stop>
+        ensures { Declares (with_class self.old number (class_of class.now)) self.old self.new result }
     {
-        if self.named(&class.name).is_some() {
+        if self.names.named(&class.name).is_some() {
             return Err(Stop::At(Cause::Name));
         }
         match self.inherited(&class.above) {
-            Some(inherited) => self.add_below(alloc, class, inherited),
+            Some(inherited) => self.add_below(alloc, number, class, inherited),
             None => Err(Stop::At(Cause::Name)),
         }
     }
 
+    /// Class variables are declared of the class with this layout.
+    fn add_shared(&mut self, alloc: Global, pool: &Pool, layout: Layout) -> Result<(), Stop>
+        ensures { Declares (with_shared self.old (pool_of pool.now) layout) self.old self.new result }
+    {
+        self.shared.declare(alloc, layout.number, &pool.variables)?;
+        let more = with_more(layout, &pool.variables);
+        self.add_name(alloc, &pool.class, Named::Class(more))
+    }
+
     /// Class variables are declared.
     fn add_pool(&mut self, alloc: Global, pool: &Pool) -> Result<(), Stop>
-        ensures { Leaves (with_pool self.old (pool_of pool.now)) self.new result }
+        ensures { Declares (with_pool self.old (pool_of pool.now)) self.old self.new result }
     {
-        match self.layout(&pool.class) {
-            Some(layout) => self.shared.declare(alloc, layout.number, &pool.variables),
+        match self.names.layout(&pool.class) {
+            Some(layout) => self.add_shared(alloc, pool, layout),
             None => Err(Stop::At(Cause::Name)),
         }
     }
 
     /// A global is declared.
     fn add_global(&mut self, alloc: Global, name: &[u8]) -> Result<(), Stop>
-        ensures { Leaves (with_global self.old name.now) self.new result }
+        ensures { Declares (with_global self.old name.now) self.old self.new result }
     {
-        if self.named(name).is_some() {
+        if self.names.named(name).is_some() {
             return Err(Stop::At(Cause::Name));
         }
         self.add_name(alloc, name, Named::Global)
@@ -180,7 +190,7 @@ impl Known {
     fn has_class(&self, wanted: Option<(Shape, u8)>, name: &[u8]) -> bool
         ensures { result ≡ has_class self.now wanted name.now }
     {
-        match self.layout(name) {
+        match self.names.layout(name) {
             Some(layout) => fits(wanted, layout),
             None => false,
         }
@@ -212,7 +222,7 @@ impl Known {
 
     /// The needed classes are declared, where the declarations end.
     fn check_complete(&self, place: Place) -> Result<(), Stop>
-        ensures { Leaves (complete place self.now) self.now result }
+        ensures { Declares (complete place self.now) self.now self.now result }
     {
         if place == Place::Declarations && !self.has_all(&NEEDS) {
             return Err(Stop::At(Cause::Missing));
@@ -222,20 +232,26 @@ impl Known {
 
     /// A name is declared.
     fn check_known(&self, name: &[u8]) -> Result<(), Stop>
-        ensures { Leaves (if_known self.now name.now (Ok self.now)) self.now result }
+        ensures { Declares (if_known self.now name.now (Ok self.now)) self.now self.now result }
     {
-        match self.named(name) {
+        match self.names.named(name) {
             Some(_) => Ok(()),
             None => Err(Stop::At(Cause::Name)),
         }
     }
 
-    /// What a part declares is known, where the part may stand behind what is declared.
-    pub(crate) fn add(&mut self, alloc: Global, place: Place, part: &Part) -> Result<(), Stop>
-        ensures { Leaves (known_behind place self.old (part_of part.now)) self.new result }
+    /// What the part of this number declares is known, where the part may stand behind what is declared.
+    pub(crate) fn add(
+        &mut self,
+        alloc: Global,
+        place: Place,
+        number: usize,
+        part: &Part,
+    ) -> Result<(), Stop>
+        ensures { Declares (known_behind place self.old number (part_of part.now)) self.old self.new result }
     {
         match part {
-            Part::Class(class) => self.add_class(alloc, class),
+            Part::Class(class) => self.add_class(alloc, number, class),
             Part::Pool(pool) => self.add_pool(alloc, pool),
             Part::Global(name) => self.add_global(alloc, name),
             Part::Opening => self.check_complete(place),

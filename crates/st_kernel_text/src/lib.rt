@@ -2,6 +2,7 @@
 #![tactic(auto)]
 
 mod cause;
+mod declarations;
 mod form;
 mod keyword;
 mod known;
@@ -16,6 +17,8 @@ mod variables;
 mod words;
 
 pub use cause::Cause;
+pub use declarations::Declarations;
+pub use named::Layout;
 pub use part::{Class, Part, Pool, Side, Start, Text};
 pub use reading::{Kernel, read};
 pub use shape::Shape;

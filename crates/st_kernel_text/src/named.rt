@@ -1,12 +1,16 @@
 // What a declared name is that of.
 use crate::shape::Shape;
 
-/// What is known of a class: its place among the declared names, and its instances' shape and number of fields, at most 64.
+/// The layout of a class's instances.
 #[derive(Clone, Copy)]
-pub(crate) struct Layout {
-    pub(crate) number: usize,
-    pub(crate) shape: Shape,
-    pub(crate) fields: u8,
+pub struct Layout {
+    /// The number of the part that declares the class.
+    pub number: usize,
+    pub shape: Shape,
+    /// How many fields an instance has, at most 64.
+    pub fields: u8,
+    /// Whether the class has class variables.
+    pub shares: bool,
 }
 
 /// What a declared name is that of.

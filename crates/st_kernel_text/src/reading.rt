@@ -5,6 +5,7 @@ ghost use Rattle.st_kernel_text.specs.inside.Reading.{Tells, begun, account_behi
 ghost use Rattle.st_kernel_text.specs.{inside.Views.{account_of, part_of}, inside.States.state_of};
 
 use crate::cause::{Cause, Stop};
+use crate::declarations::Declarations;
 use crate::form::part_at;
 use crate::known::Known;
 use crate::part::Part;
@@ -16,6 +17,8 @@ use std::alloc::{AllocError, Global};
 #[derive(Drop)]
 pub struct Kernel {
     pub parts: Vec<Part>,
+    /// The names that these parts declare.
+    pub names: Declarations,
     /// The cause at the chunk behind these parts, and none where the whole text is right.
     pub cause: Option<Cause>,
 }
@@ -51,7 +54,8 @@ impl Reader {
         let Some(part) = part_at(alloc, self.place, chunk)? else {
             return Err(Stop::At(Cause::Form));
         };
-        self.known.add(alloc, self.place, &part)?;
+        let number = self.parts.as_slice().len();
+        self.known.add(alloc, self.place, number, &part)?;
         self.place = behind_part(&part);
         self.parts.push(part)?;
         Ok(())
@@ -118,10 +122,12 @@ pub fn read(alloc: Global, text: &[u8]) -> Result<Kernel, AllocError>
     match reader.read_text(alloc, text) {
         Ok(()) => Ok(Kernel {
             parts: reader.parts,
+            names: reader.known.names,
             cause: None,
         }),
         Err(Stop::At(cause)) => Ok(Kernel {
             parts: reader.parts,
+            names: reader.known.names,
             cause: Some(cause),
         }),
         Err(Stop::OutOfMemory) => Err(AllocError),

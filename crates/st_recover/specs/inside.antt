@@ -1,4 +1,5 @@
 pub mod Archives
+pub mod Props
 pub mod Fetched
 pub mod Reopened
 pub mod Replayings

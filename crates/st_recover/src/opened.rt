@@ -1,5 +1,8 @@
 // A store that was opened.
-use st_changes::Changes;
+ghost use Rattle.std.specs.Prelude.{◌<◌, ◌^◌, length};
+ghost use Rattle.st_recover.specs.inside.{Archives.IsListOf, Props.IsListOf-prop};
+
+use st_changes::{Changes, Listing};
 use st_frames::Loaded;
 use st_protocol::Refusal;
 use st_store::Store;
@@ -16,6 +19,15 @@ pub struct Lost {
 /// The definitions that were lost, in their order.
 pub type LostList = Vec<Lost>;
 
+/// A store, with its image's objects and registers and its definitions, before any of these is installed.
+#[derive(Drop)]
+pub(crate) struct Fetched<M> {
+    pub(crate) loaded: Loaded<M>,
+    pub(crate) store: Store,
+    pub(crate) changes: Listing,
+    pub(crate) ghost list_of: { IsListOf store changes } by { IsListOf-prop store changes },
+}
+
 /// A store that was opened.
 #[derive(Drop)]
 pub struct Opened<M> {
@@ -29,4 +41,6 @@ pub struct Opened<M> {
     pub replayed: u32,
     /// Those that weren't.
     pub lost: LostList,
+    pub ghost list_of: { IsListOf store changes } by { IsListOf-prop store changes },
+    pub ghost few: { length lost.items < 2 ^ 32 },
 }

@@ -1,5 +1,5 @@
 // Opening a store again, with its definitions replayed.
-ghost use Rattle.std.specs.Prelude.{◌≡◌, ◌≤◌, ◌<◌, ◌^◌, ℕ, List, length, All, IsTrue, nat_lt, IfOk, IfErr, OnOk};
+ghost use Rattle.std.specs.Prelude.{◌≡◌, ◌≤◌, ◌<◌, ◌^◌, ℕ, List, length, All, IsTrue, IfOk, IfErr, OnOk};
 ghost use Rattle.st_host.specs.Files.{Files};
 ghost use Rattle.st_host.specs.Runs.{LeavesOnly, ReadsAlike, OnlyReads, Narrows, NarrowsBut, Changes as ChangesFile};
 ghost use Rattle.st_host.specs.Runs.{Spares, IsAtRest, IsSynced};
@@ -8,7 +8,7 @@ ghost use Rattle.st_frames.specs.{declared.frame.Frame.Frame, inside.Shown.{IsFr
 ghost use Rattle.st_image.specs.inside.Reading.{IsStart};
 ghost use Rattle.st_chunk.specs.Definitions.{IsDefinition, entries};
 ghost use Rattle.st_store.specs.Names.{roots_file, image_file, IsNoFileOf};
-ghost use Rattle.st_store.specs.Stored.{Stored, Opens, IsSound, IsOpening};
+ghost use Rattle.st_store.specs.Stored.{Stored, Opens, IsOpening};
 ghost use Rattle.st_store.specs.{Stored.{IsReady as IsChosenFirmly}, Faults.{OpensAsOne, Settles}};
 ghost use Rattle.st_install.specs.Defining.{installed};
 ghost use Rattle.st_changes.specs.Lists.{StandsAt};
@@ -19,7 +19,7 @@ ghost use Rattle.st_recover.specs.Openings.{RefusesOpening, IsOfReopening, IsOfR
 ghost use Rattle.st_recover.specs.{Openings.OpeningHasCause, inside.Fetched.IsFetchedAs};
 
 use crate::fault::OpenFault;
-use crate::opened::Opened;
+use crate::opened::{Fetched, Opened};
 use crate::replay::{Replay, replay_all};
 use st_changes::{Changes, Listing, read_listing};
 use st_frames::Loaded;
@@ -29,14 +29,6 @@ use st_memory::{Loader, Memory};
 use st_model::LONGEST_IMAGE;
 use st_store::{Store, open_store};
 use std::alloc::{AllocError, Global};
-
-/// A store, with its image's objects and registers and its definitions, before any of these is installed.
-#[derive(Drop)]
-struct Fetched<M> {
-    loaded: Loaded<M>,
-    store: Store,
-    changes: Listing,
-}
 
 /// The bytes of a store's image, where they are at most 2^27.
 fn read_bytes<H: Host>(alloc: Global, host: &mut H, store: &Store) -> Result<Vec<u8>, OpenFault>
@@ -99,12 +91,6 @@ fn fetch<L: Loader, H: Host>(
     name: &str,
 ) -> Result<Fetched<L::Done>, OpenFault>
     ensures named { IfOk result (λ p. p.store.name ≡ name.now) }
-    ensures listed { IfOk result (λ p. p.changes.name ≡ name.now) }
-    ensures file { IfOk result (λ p. p.changes.second ≡ nat_lt 1 p.store.root.slot) }
-    ensures whole { IfOk result (λ p. p.store.root.length ≡ length (entries p.changes.listed)) }
-    ensures sound { IfOk result (λ p. IsSound p.store.root) }
-    ensures good { IfOk result (λ p. All IsDefinition p.changes.listed) }
-    ensures stands { IfOk result (λ p. StandsAt p.changes.listed p.store.root.base) }
     ensures frame { IfOk result (λ p. IsFrame (L.Done.view p.loaded.memory) p.loaded.frame) }
     ensures quiet { IfOk result (λ p. (L.Done.view p.loaded.memory).held.devices ≡ no_devices) }
     ensures fetched { IfOk result (λ p. IsTrue H.is_told
@@ -169,15 +155,8 @@ pub fn reopen<L: Loader, H: Host>(
     ensures opened { IfOk result (λ o. IsTrue H.is_told → (c : Commit)
         × IsReopenedAs H.Host.own installed L.Done.view name.now host.old host.new o c) }
     ensures named { IfOk result (λ o. o.store.name ≡ name.now) }
-    ensures listed { IfOk result (λ o. o.changes.name ≡ name.now) }
-    ensures file { IfOk result (λ o. o.changes.second ≡ nat_lt 1 o.store.root.slot) }
-    ensures whole { IfOk result (λ o. o.store.root.length ≡ length (entries o.changes.listed)) }
-    ensures sound { IfOk result (λ o. IsSound o.store.root) }
-    ensures good { IfOk result (λ o. All IsDefinition o.changes.listed) }
-    ensures stands { IfOk result (λ o. StandsAt o.changes.listed o.store.root.base) }
     ensures frame { IfOk result (λ o. IsFrame (L.Done.view o.loaded.memory) o.loaded.frame) }
     ensures quiet { IfOk result (λ o. (L.Done.view o.loaded.memory).held.devices ≡ no_devices) }
-    ensures few { IfOk result (λ o. length o.lost.items < 2 ^ 32) }
 
     ensures refused { IfErr result (λ e. IsTrue H.is_told
         → RefusesOpening name.now (H.files host.old) e) }

@@ -1,10 +1,8 @@
 //! The command `condense`.
 
-ghost use Rattle.std.specs.Prelude.{◌≡◌, ◌≤◌, ◌^◌, length, nat_lt, All, IsTrue, IfErr};
+ghost use Rattle.std.specs.Prelude.{IsTrue, IfErr};
 ghost use Rattle.st_host.specs.Runs.{Spares};
-ghost use Rattle.st_chunk.specs.Definitions.{IsDefinition, entries};
 ghost use Rattle.st_store.specs.Names.{IsNoFileOf};
-ghost use Rattle.st_changes.specs.Lists.{StandsAt};
 ghost use Rattle.st_protocol.specs.Statuses.{Counts, StatusHasCause};
 ghost use Rattle.st_recover.specs.Commits.{Commit};
 ghost use Rattle.st_session.specs.{Condensings.{IsKeptAs, DoesCondense, CondenseEnds}, Exports.IsOfExporting};
@@ -12,33 +10,26 @@ ghost use Rattle.st_session.specs.{Condensings.{IsKeptAs, DoesCondense, Condense
 use crate::opening_refusal::refuse_opening;
 use crate::reading::status_of;
 use st_call::{Reply, refuse, say_reply};
-use st_changes::Changes;
 use st_host::{FileFault, Host};
-use st_memory::Loader;
+use st_memory::{Loader, Memory};
 use st_protocol::Status;
-use st_recover::reopen;
-use st_store::Store;
+use st_recover::{Opened, reopen};
 use std::alloc::Global;
 
 /// Drops the definitions of a store that later ones supersede, and says how many there were and are.
-fn condense_store<H: Host>(
+fn condense_store<H: Host, M: Memory>(
     alloc: Global,
     host: &mut H,
-    store: Store,
-    changes: &Changes,
+    opened: Opened<M>,
 ) -> Result<(), Status>
-    requires good { All IsDefinition changes.now.listed }
-    requires file { changes.now.second ≡ nat_lt 1 store.root.slot }
-    requires place { store.root.length ≡ length (entries changes.now.listed) }
-    requires limit { store.root.length ≤ 2 ^ 30 }
-    requires stands { StandsAt changes.now.listed store.root.base }
-    ensures does { (c : Commit) → IsTrue H.is_told → IsKeptAs H.Host.own host.old store changes.now.listed c
-        → DoesCondense H.Host.own store.name c host.old host.new result }
+    ensures does { (c : Commit) → IsTrue H.is_told
+        → IsKeptAs H.Host.own host.old opened.store opened.changes.listed c
+        → DoesCondense H.Host.own opened.store.name c host.old host.new result }
     ensures counts { Counts H.Host.own ⊥ host.old host.new result }
     ensures kind { IfErr result IsOfExporting }
-    ensures spares { Spares H.Host.own (IsNoFileOf store.name) host.old host.new }
+    ensures spares { Spares H.Host.own (IsNoFileOf opened.store.name) host.old host.new }
 {
-    match st_changes::condense(alloc, host, store, changes) {
+    match st_changes::condense(alloc, host, opened.store, &opened.changes) {
         Ok(condensed) => say_reply(
             host,
             Reply::Condensed {
@@ -59,7 +50,7 @@ pub fn condense<H: Host, L: Loader>(alloc: Global, host: &mut H, store: &str) ->
 {
     match reopen::<L, H>(alloc, host, store) {
         Ok(opened) => {
-            let status = status_of(condense_store(alloc, host, opened.store, &opened.changes));
+            let status = status_of(condense_store(alloc, host, opened));
             refuse(host, status);
             status
         }

@@ -1,8 +1,8 @@
-ghost use Rattle.std.specs.Prelude.{◌≡◌, ◌⊎◌, ◌<◌, ◌^◌, length, nat_lt, IsTrue, OnOk, Err};
+ghost use Rattle.std.specs.Prelude.{◌≡◌, ◌⊎◌, ◌<◌, ◌^◌, length, IsTrue, OnOk, Err};
 ghost use Rattle.st_host.specs.Counts.{Rose};
 ghost use Rattle.st_model.specs.{Machine.State, Births.Births, View.no_devices};
 ghost use Rattle.st_frames.specs.inside.Shown.{IsFrame};
-ghost use Rattle.st_chunk.specs.{Definitions.entries, Reading.{line_from, read, end_read}};
+ghost use Rattle.st_chunk.specs.Reading.{line_from, read, end_read};
 ghost use Rattle.st_chunk.specs.Scripts.{told_from, read_through, asked_by, asked_at_end};
 ghost use Rattle.st_store.specs.Names.{IsNoFileOf};
 ghost use Rattle.st_protocol.specs.declared.status.Status.TheVariants.{Done, ReadFault as Unread, TooLarge};
@@ -237,10 +237,6 @@ pub fn serve<M: Memory, H: Host, S: Source>(
 ) -> Status
     requires frame { IsFrame (M.view opened.loaded.memory) opened.loaded.frame }
     requires quiet { (M.view opened.loaded.memory).held.devices ≡ no_devices }
-    requires named { opened.changes.name ≡ opened.store.name }
-    requires file { opened.changes.second ≡ nat_lt 1 opened.store.root.slot }
-    requires whole { opened.store.root.length ≡ length (entries opened.changes.listed) }
-    requires few { length opened.lost.items < 2 ^ 32 }
     ensures ends { IsTrue S.is_told → (c : Commit) (s : State Births)
         → IsOpen M.view H.Host.own host.old opened c s
         → SessionEnds H.Host.own (OpensAs opened.store.name) (IsNoFileOf opened.store.name) c

@@ -1,13 +1,12 @@
 -- Things and classes without where their names lie in memory.
-use Rattle.std.specs.Prelude.{ℕ, Bool, List, map, bytes_eq}
-use Rattle.std.specs.List.{list_any}
+use Rattle.std.specs.Prelude.{ℕ, List, map}
 use Rattle.std.specs.Borrow.{Bor}
 use Rattle.st_kernel_text.specs.inside.Lists.{texts_of}
 use Rattle.st_first_objects.specs.declared.thing.Thing as declared_thing
-use Rattle.st_first_objects.specs.declared.classes.Declared as declared_class
+use Rattle.st_first_objects.specs.declared.class.Declared as declared_class
 use Rattle.st_first_objects.specs.declared.thing.What.{What}
 use Rattle.st_first_objects.specs.Things.{Thing, named}
-use Rattle.st_first_objects.specs.Classes.{Declared, Classes}
+use Rattle.st_first_objects.specs.Classes.{Declared}
 use Rattle.st_first_objects.specs.Contents.{Field, Empty, Number, To, Body, Fields, Bytes, NoWords, Content}
 use Rattle.st_first_objects.specs.declared.content.Field as code_field
 use Rattle.st_first_objects.specs.declared.content.Field.TheVariants as code_fields
@@ -23,13 +22,6 @@ things_of ts = map thing_of ts
 
 abbrev pub declared_of : declared_class.Declared → Declared
 declared_of d = record { number = d.number; above = d.above.now; shape = d.shape; variables = texts_of d.variables.now; fields = d.fields }
-
-abbrev pub classes_of : List (Bor (List ℕ) × declared_class.Declared) → Classes
-classes_of entries = map (λ e. (e.0.now, declared_of e.1)) entries
-
--- the name is among these
-abbrev pub is_listed : List (Bor (List ℕ)) → List ℕ → Bool
-is_listed keys name = list_any (λ k. bytes_eq name k.now) keys
 
 abbrev pub named_of : List (What × Bor (List ℕ)) → List Thing
 named_of ns = map (λ n. named n.0 n.1.now) ns

@@ -34,7 +34,7 @@ arrival_from install n s side (start first ∷ parts) = Some (record { chunk = n
 arrival_from install n s side (part ∷ parts) = arrival_from install (n + 1) s side parts
 
 abbrev pub arrival : Install → Account → Option Arrival
-arrival install a = arrival_from install 1 (raised (idle_state (first_view a.parts))) no_side a.parts
+arrival install a = arrival_from install 1 (raised (idle_state (first_view a))) no_side a.parts
 
 -- the image that births show
 abbrev pub image_of : State Births → View
@@ -47,7 +47,7 @@ IsLost (Some a) n = (a.chunk ≡ n) × (¬ IsFound (image_of a.births) a.start)
 
 -- of any text whose first objects have room, cause 6 says that the start isn't found
 abbrev pub LostStart : Type 0
-LostStart = (text : List ℕ) (n : ℕ) → has_room (account text).parts ≡ true → built installed text ≡ fault_at n 6 → IsLost (arrival installed (account text)) n
+LostStart = (text : List ℕ) (n : ℕ) → has_room (account text) ≡ true → built installed text ≡ fault_at n 6 → IsLost (arrival installed (account text)) n
 
 -- no method stands before the start, which is the chunk of this number
 abbrev pub IsBare : (chunk : ℕ) → List Part → ℕ → Type 0
@@ -58,4 +58,4 @@ IsBare n (part ∷ parts) k = IsBare (n + 1) parts k
 
 -- where they have none, that there is no method
 abbrev pub BareStart : Type 0
-BareStart = (text : List ℕ) (n : ℕ) → has_room (account text).parts ≡ false → built installed text ≡ fault_at n 6 → IsBare 1 (account text).parts n
+BareStart = (text : List ℕ) (n : ℕ) → has_room (account text) ≡ false → built installed text ≡ fault_at n 6 → IsBare 1 (account text).parts n

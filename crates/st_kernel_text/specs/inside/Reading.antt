@@ -1,5 +1,5 @@
 -- A kernel text as far as it is read.
-use Rattle.std.specs.Prelude.{◌≡◌, ℕ, ◌&&◌, List, [], ◌++◌, Option, Some, None, Result, Ok, Err, if◌then◌else◌}
+use Rattle.std.specs.Prelude.{◌≡◌, ℕ, ◌&&◌, List, [], ◌++◌, length, Option, Some, None, Result, Ok, Err, if◌then◌else◌}
 use Rattle.st_chunk.specs.Texts.{Cut, cut_behind, behind_mark, is_empty}
 use Rattle.st_chunk.specs.declared.cutting.Phase.{Phase}
 use Rattle.st_chunk.specs.declared.cutting.Phase.TheVariants.{Marked}
@@ -19,6 +19,12 @@ Leaves expected now (Ok done) = expected ≡ Ok now
 Leaves expected now (Err (At cause)) = expected ≡ Err cause
 Leaves expected now (Err OutOfMemory) = Unit {0}
 
+-- what was to come of it is known now, or the declared names stay, unless there was no memory
+abbrev pub Declares : Result Known Cause → (old now : Known) → Result (Unit {0}) Stop → Type 0
+Declares expected old now (Ok done) = expected ≡ Ok now
+Declares expected old now (Err (At cause)) = (expected ≡ Err cause) × (now.names ≡ old.names)
+Declares expected old now (Err OutOfMemory) = Unit {0}
+
 -- the parts so far, and where the next chunk stands
 pub record State : Type 0 where
   pub place : Place
@@ -29,14 +35,14 @@ abbrev pub begun : State
 begun = record { place = Declarations; known = nothing; parts = [] }
 
 abbrev pub with_parts : List Part → Account → Account
-with_parts parts a = record { parts = parts ++ a.parts; cause = a.cause }
+with_parts parts a = record a { parts = parts ++ a.parts }
 
 -- the account of the whole text, of which these chunks and this rest are left
 abbrev pub account_behind : State → List (List ℕ) → (rest : List ℕ) → Account
-account_behind s chunks rest = with_parts s.parts (account_from s.place s.known chunks rest)
+account_behind s chunks rest = with_parts s.parts (account_from s.place s.known (length s.parts) chunks rest)
 
 abbrev pub stopped : State → Option Cause → Account
-stopped s cause = record { parts = s.parts; cause = cause }
+stopped s cause = record { parts = s.parts; names = s.known.names; cause = cause }
 
 -- the account of a text that is right
 abbrev pub complete : State → Account

@@ -37,4 +37,4 @@ abbrev pub parts_of : List declared_part.Part → List Part
 parts_of ps = map part_of ps
 
 abbrev pub account_of : declared_kernel.Kernel → Account
-account_of k = record { parts = parts_of k.parts.items; cause = k.cause }
+account_of k = record { parts = parts_of k.parts.items; names = k.names; cause = k.cause }

@@ -3,7 +3,9 @@ use Rattle.std.specs.Prelude.{◌≡◌, ◌≢◌, ℕ, Bool, nat_lt, List, len
 use Rattle.st_host.specs.declared.host.Host.{Ghosts}
 use Rattle.st_chunk.specs.Definitions.{Definition, IsDefinition, entries}
 use Rattle.st_store.specs.Names.{roots_file, changes_file, image_file}
-use Rattle.st_store.specs.Stored.{StoreState, IsKept}
+use Rattle.st_store.specs.Stored.{StoreState, IsKept, IsSound}
+use Rattle.st_changes.specs.Lists.{StandsAt}
+use Rattle.st_changes.specs.inside.States.{ChangesState}
 use Rattle.st_protocol.specs.declared.status.Status.{Status}
 use Rattle.st_protocol.specs.declared.status.Status.TheVariants.{DiskFault, TooLarge, OutOfMemory}
 use Rattle.st_recover.specs.Images.{IsReadable}
@@ -20,6 +22,14 @@ pub record IsStoreOf (name : List ℕ) (second : Bool) (listed : List Definition
   pub named : store.name ≡ name
   pub file : second ≡ nat_lt 1 store.root.slot
   pub whole : store.root.length ≡ length (entries listed)
+
+-- The listed definitions are those of the store's changes file, and the numbers of its root are sound: its base stands at one of them
+-- or at their end.
+pub record IsListOf (store : StoreState) (changes : ChangesState) : Type 0 where
+  pub of_store : IsStoreOf changes.name changes.second changes.listed store
+  pub sound : IsSound store.root
+  pub good : All IsDefinition changes.listed
+  pub stands : StandsAt changes.listed store.root.base
 
 -- a store of this name whose root names the commit, with its image and its changes in a slot
 abbrev pub store_of : List ℕ → ℕ → ℕ → Commit → StoreState

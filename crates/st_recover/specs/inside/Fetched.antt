@@ -7,7 +7,7 @@ use Rattle.st_image.specs.inside.Reading.{IsStart}
 use Rattle.st_store.specs.Stored.{Stored, Opens, IsKept, stored_in}
 use Rattle.st_changes.specs.Lists.{Lists}
 use Rattle.st_recover.specs.Openings.{IsReadable}
-use Rattle.st_recover.specs.declared.reopening.Fetched.{Fetched}
+use Rattle.st_recover.specs.declared.opened.Fetched.{Fetched}
 
 -- The files as they read open as this, which the open store keeps. Its image's machine begins in this memory, and these are the
 -- definitions of its changes.

@@ -1,7 +1,8 @@
 use Rattle.std.proofs.Common.{take}
 use Rattle.st_changes.specs.inside.Views.{definitions_of}
-use Rattle.st_changes.specs.inside.Indexing.{Indexes}
+use Rattle.st_changes.specs.inside.IndexStates.{found}
+use Rattle.st_changes.specs.Last.{Answers}
 use Rattle.st_changes.proofs.noting.index_parsed.Given as goal
 
-abbrev pub invariant-loop-definition : goal.invariant-loop-definition
-invariant-loop-definition l = Indexes (definitions_of (take l.definition-index l.listed)) l.indexed
+abbrev pub invariant-loop-number : goal.invariant-loop-number
+invariant-loop-number l = Answers (definitions_of (take l.number l.listed)) (found l.index)

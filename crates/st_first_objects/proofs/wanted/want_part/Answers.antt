@@ -20,5 +20,5 @@ returns-in_ok-want_names-in-Class c =
     subst (λ (o : Order). OnOk c.want.result (c.want.new.self ≡ o))
     (third
     ∙ want_three c.args.order.now (class_things class.name.items) names (named what.Global class.name.items)
-    ∙ ap (λ p. want_all c.args.order.now (wanted_by c.args.pools.now c.args.number (part_of p))) (sym c.in-Class.is))
+    ∙ ap (λ p. want_all c.args.order.now (wanted_by c.args.names.now c.args.number (part_of p))) (sym c.in-Class.is))
     c.want.ensures

@@ -13,8 +13,8 @@ use Rattle.st_kernel.proofs.laws.lost_starts_are_missing.Goals as goal
 pub returns-clause-lost : goal.returns-clause-lost
 returns-clause-lost c text n room e =
     let a = account text in
-    let first = placed a.parts room in
-    lost_from (fixed a.parts first) (first_scheduled a.parts first) a.cause n a.parts 1 (raised (idle_state (first_view a.parts))) no_side (first_holds a.parts first)
+    let first = placed a room in
+    lost_from (fixed a first) (first_scheduled a first) a.cause n a.parts 1 (raised (idle_state (first_view a))) no_side (first_holds a first)
     (with_room installed a text (λ i. a) room ∙ e)
 
 pub returns-clause-bare : goal.returns-clause-bare

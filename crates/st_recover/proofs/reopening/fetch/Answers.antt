@@ -1,4 +1,4 @@
-use Rattle.std.proofs.Common.{◌≡◌, ◌∙◌, inr, ℕ, List, IsTrue, subst, arith}
+use Rattle.std.proofs.Common.{◌≡◌, inr, ℕ, List, IsTrue, sym, subst, arith}
 use Rattle.std.proofs.lemmas.Result.{err_from_is_err_and}
 use Rattle.st_host.specs.Files.{Files}
 use Rattle.st_host.proofs.Joining.{reads_narrow, narrows_join}
@@ -24,12 +24,6 @@ returns-in_err-store g c =
     let p = err_from_is_err_and c.from_residual.result c.from_residual.ensures.1 in
     rw (p.1, p.2) (record {
       named = tt;
-      listed = tt;
-      file = tt;
-      whole = tt;
-      sound = tt;
-      good = tt;
-      stands = tt;
       frame = tt;
       quiet = tt;
       fetched = tt;
@@ -65,12 +59,6 @@ returns-in_err-loaded g c =
     let p = err_from_is_err_and c.from_residual-in_err-loaded.result c.from_residual-in_err-loaded.ensures.1 in
     rw (p.1, p.2) (record {
       named = tt;
-      listed = tt;
-      file = tt;
-      whole = tt;
-      sound = tt;
-      good = tt;
-      stands = tt;
       frame = tt;
       quiet = tt;
       fetched = tt;
@@ -110,12 +98,6 @@ returns-in_err-changes g c =
     let p = err_from_is_err_and c.from_residual-in_err-changes.result c.from_residual-in_err-changes.ensures.1 in
     rw (p.1, p.2) (record {
       named = tt;
-      listed = tt;
-      file = tt;
-      whole = tt;
-      sound = tt;
-      good = tt;
-      stands = tt;
       frame = tt;
       quiet = tt;
       fetched = tt;
@@ -130,6 +112,18 @@ returns-in_err-changes g c =
       spares = spares_changes H name store.name store.root.slot a m d c.in_ok-store.ensures.named spared c.read_listing.ensures.only;
       cause = cause_behind H a m d (by_store fault) (omega (arith, opened.only.disk, c.read_image.ensures.reads.disk)) (store_cause H m d fault failed.cause);
     })
+
+pub invariant_of-result : goal.invariant_of-result
+invariant_of-result g c =
+    let load = c.in_ok-changes.ensures in
+    record {
+      list_of = record {
+        of_store = record { named = sym load.named; file = load.second; whole = load.whole };
+        sound = c.in_ok-store.ensures.sound;
+        good = load.good;
+        stands = load.stands;
+      };
+    }
 
 pub returns : goal.returns
 returns g c =
@@ -153,12 +147,6 @@ returns g c =
     let load = c.in_ok-changes.ensures in
     record {
       named = c.in_ok-store.ensures.named;
-      listed = load.named ∙ c.in_ok-store.ensures.named;
-      file = load.second;
-      whole = load.whole;
-      sound = c.in_ok-store.ensures.sound;
-      good = load.good;
-      stands = load.stands;
       frame = c.in_ok-loaded.ensures.frame;
       quiet = c.in_ok-loaded.ensures.quiet;
       fetched = λ told. record {

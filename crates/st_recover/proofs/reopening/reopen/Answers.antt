@@ -1,5 +1,4 @@
 use Rattle.std.proofs.Common.{◌≡◌, ℕ, List, length, refl, sym, subst}
-use Rattle.std.specs.Prelude.{All, nat_lt}
 use Rattle.std.proofs.lemmas.Result.{err_from_is_err_and}
 use Rattle.st_host.specs.Files.{Files}
 use Rattle.st_model.specs.Objects.{nil}
@@ -7,10 +6,11 @@ use Rattle.st_model.specs.Machine.{empty_world}
 use Rattle.st_store.specs.Stored.{IsOpening, stored_in}
 use Rattle.st_store.specs.declared.root.Root.{Root}
 use Rattle.st_store.proofs.Opening.{as_before}
-use Rattle.st_chunk.specs.Definitions.{IsDefinition, entries}
+use Rattle.st_chunk.specs.Definitions.{entries}
 use Rattle.st_changes.specs.inside.States.{ChangesState}
-use Rattle.st_changes.specs.Lists.{Lists, StandsAt}
+use Rattle.st_changes.specs.Lists.{Lists}
 use Rattle.st_install.specs.Defining.{installed}
+use Rattle.st_recover.specs.inside.Archives.{IsListOf}
 use Rattle.st_recover.specs.inside.Replayings.{ReplaysFrom}
 use Rattle.st_recover.proofs.Fetching.{left_now}
 use Rattle.st_recover.proofs.Restoring.{ready_empty, quiet_empty, commit_at, reopened}
@@ -28,15 +28,8 @@ returns-in_err-loaded g c =
     rw (p.1, p.2) (record {
       opened = tt;
       named = tt;
-      listed = tt;
-      file = tt;
-      whole = tt;
-      sound = tt;
-      good = tt;
-      stands = tt;
       frame = tt;
       quiet = tt;
-      few = tt;
       refused = failed.refused;
       kind = failed.kind;
       writes_nothing = failed.writes_nothing;
@@ -62,15 +55,8 @@ returns-in_err-replay g c =
     rw (p.1, p.2) (record {
       opened = tt;
       named = tt;
-      listed = tt;
-      file = tt;
-      whole = tt;
-      sound = tt;
-      good = tt;
-      stands = tt;
       frame = tt;
       quiet = tt;
-      few = tt;
       refused = λ told. tt;
       kind = tt;
       writes_nothing = λ roots. absurd roots;
@@ -84,6 +70,11 @@ returns-in_err-replay g c =
       spares = fetch.spares;
       cause = tt;
     })
+
+pub invariant_of-result : goal.invariant_of-result
+invariant_of-result g c =
+    let p = c.in_ok-loaded.field-0 in
+    record { list_of = subst (IsListOf p.store) (sym c.in_ok-replay.ensures.indexed) p.list_of; few = c.in_ok-replay.ensures.few }
 
 pub returns : goal.returns
 returns g c =
@@ -106,25 +97,16 @@ returns g c =
     subst (λ (r : Root). ReplaysFrom installed p.changes.listed r.base was now answered) c.root-base.ensures c.in_ok-replay.ensures.replays in
     let from : ReplaysFrom installed changes.listed p.store.root.base was now answered =
     subst (λ (x : ChangesState). ReplaysFrom installed x.listed p.store.root.base was now answered) same at in
-    let whole : p.store.root.length ≡ length (entries changes.listed) = subst (λ (x : ChangesState). p.store.root.length ≡ length (entries x.listed)) same fetched.whole in
+    let whole : p.store.root.length ≡ length (entries changes.listed) = subst (λ (x : ChangesState). p.store.root.length ≡ length (entries x.listed)) same p.list_of.of_store.whole in
     record {
       opened = λ told. (
         commit_at (stored_in name (H.files a) p.store.root).image changes.listed from.before,
-        reopened H installed view name a d
-            (record { loaded = record { memory = c.install_again.new.m; frame = p.loaded.frame }; store = p.store; changes = changes; replayed = answered.count; lost = answered.lost })
-            was (fetched.fetched told).opens (fetched.fetched told).kept (fetched.fetched told).readable (fetched.fetched told).start
+        reopened H installed view name a d _ was (fetched.fetched told).opens (fetched.fetched told).kept (fetched.fetched told).readable (fetched.fetched told).start
             (subst (λ (x : ChangesState). Lists (stored_in name (H.files a) p.store.root).changes p.store.root.base x.listed) same (fetched.fetched told).lists) whole fetched.quiet from,
       );
       named = fetched.named;
-      listed = subst (λ (x : ChangesState). x.name ≡ name) same fetched.listed;
-      file = subst (λ (x : ChangesState). x.second ≡ nat_lt 1 p.store.root.slot) same fetched.file;
-      whole = whole;
-      sound = fetched.sound;
-      good = subst (λ (x : ChangesState). All IsDefinition x.listed) same fetched.good;
-      stands = subst (λ (x : ChangesState). StandsAt x.listed p.store.root.base) same fetched.stands;
       frame = ready.frame;
       quiet = quiet_empty now p.loaded.frame ready;
-      few = c.in_ok-replay.ensures.few;
       refused = tt;
       kind = tt;
       writes_nothing = tt;

@@ -77,10 +77,10 @@ returns-clause-ends g c = λ told k s o.
     let lost = losses_of c.deref.result.now in
     let same : shown_by view m ≡ shown (view opened.loaded.memory) opened.loaded.frame (empty_world nil) = λ i. shown (boots.memory i) (boots.frame i) ((boots.world ∙ c.in-Ok.ensures) i) in
     let holds : Holds g.H.Host h a k = subst (λ (x : ArchiveState). Holds g.H.Host h x k) (sym c.new-archive.ensures)
-    (subst (λ (n : List ℕ). Holds g.H.Host h (record { name = n; store = Some opened.store; listed = opened.changes.listed }) k) (sym c.requires.named) o.holds) in
+    (subst (λ (n : List ℕ). Holds g.H.Host h (record { name = n; store = Some opened.store; listed = opened.changes.listed }) k) opened.list_of.of_store.named o.holds) in
     let at : IsAt view g.H.Host m a h p = record { stands = (boots.alive, subst (λ (x : State Table). Shows x s) (sym same) o.shows); holds = holds } in
     let on = IsAt view g.H.Host c.open.new.kept.machine c.open.new.kept.archive new in
-    let named : a.name ≡ opened.store.name = ap (λ (x : ArchiveState). x.name) c.new-archive.ensures ∙ c.requires.named in
+    let named : a.name ≡ opened.store.name = ap (λ (x : ArchiveState). x.name) c.new-archive.ensures ∙ sym opened.list_of.of_store.named in
     ends_so g.H.Host k s opened.replayed script left h new a.name opened.store.name lost (losses_of opened.lost.items) c.open.result c.open.result named (ap losses_of c.deref.ensures.value) refl
     (ends_of g.H.Host (OpensAs a.name) (IsNoFileOf a.name) k on (λ (x : Point Commit). x.kept) (session_over opened.replayed lost s k script) (session_so_far_over opened.replayed lost s k) script left (session_of_over opened.replayed lost s k) (asked_in script) a.name
     (λ tells other x new gate. own_gate g.H.Host a.name other x new tells (λ y n. g.met.H.Host.read_counts y n tells) gate) (Err c.open.result) h new

@@ -1,5 +1,6 @@
 use Rattle.std.proofs.Common.{◌≡◌, inl, ◌≤◌, ◌+◌, ◌^◌, length-append, ℕ, List, [], ◌∷◌, ◌++◌, length, sym, ap, ◌∙◌, subst, arith}
 use Rattle.std.specs.Prelude.{All, Option, Some, unwrap_or}
+use Rattle.std.proofs.Math.ListN.{length-map}
 use Rattle.std.proofs.lemmas.List.{map-append}
 use Rattle.st_store.specs.declared.root.Root.{Root}
 use Rattle.st_host.proofs.Joining.{makes_then, makes_failed, makes_of}
@@ -70,8 +71,8 @@ invariant_of-self-2 g c =
     ap definitions_of c.push_reserved.ensures.items ∙ map-append definition_of c.self.inside.listed.items (c.args.definition ∷ []) in
     let total = ap (λ (y : List Definition). length (entries y)) more ∙ ap length (entries_more ds (definition_of c.args.definition)) ∙ length-append (entries ds) d in
     let place = ap (λ (s : ChangesState). length (entries s.listed)) c.self.view_is in
-    let ends : c.root-root.result.length + c.len.result ≡ length (entries ds) + length d = omega (arith, place, c.requires.place, ap (λ (r : Root). r.length) c.root-root.ensures, c.len.ensures, ap length is, c.in-Some.field-0.entry.ok) in
-    let answers = c.note.ensures ds c.self.invariant.2 ends in
+    let many : c.len-2.result ≡ length ds = omega (arith, c.len-2.ensures, c.self.inside.listed.ok, length-map c.self.inside.listed.items definition_of) in
+    let answers = c.note.ensures ds c.self.invariant.2 many in
     let none : (x : Ready) → c.take.new.self ≡ Some x → ⊥ = λ x e. let not = sym c.take.ensures.after ∙ e in absurd cc in (
       omega (arith, total, place, c.requires.place, ap (λ (r : Root). r.length) c.root-root.ensures, c.len.ensures, ap length is, c.in-Some.field-0.entry.ok),
       λ y e. absurd (none y e),
@@ -113,8 +114,8 @@ returns-clause-kept g c x told kept =
     let root = grown_root x c.root-root.result d c.len.result (kept.root ∙ sym c.root-root.ensures) n in
     c.in_ok-store.ensures.kept x (grown x d) told still firm root
 
-pub note-requires-clause-prepared : goal.note-requires-clause-prepared
-note-requires-clause-prepared g c =
+pub note-requires : goal.note-requires
+note-requires g c =
     let d = definition_of c.args.definition in
     let is : c.in-Some.field-0.entry.items ≡ entry d = some_same (ap reserved_of (sym c.in-Some.is ∙ c.take.ensures.value) ∙ ap (λ (s : ChangesState). s.reserved) c.self.view_is ∙ c.requires.reserved) in
     c.self.invariant.3 c.in-Some.field-0 (sym c.take.ensures.value ∙ c.in-Some.is) d c.requires.good is

@@ -21,13 +21,13 @@ unreachable-requires c =
 pub invariant_of-self : goal.invariant_of-self
 invariant_of-self c =
     let both = c.in-Some-Some in
-    bounded c.self.inside.names.keys c.self.inside.spans.entries c.insert.new.self.entries 0 0 c.args.class.now c.args.meta c.args.selector.now c.args.span both.class both.selector
+    bounded c.self.inside.names.keys c.self.inside.last.entries c.insert.new.self.entries 0 0 c.args.class.now c.args.meta c.args.selector.now c.args.number both.class both.selector
     (sym both.ensures.index) (sym both.ensures'.index) c.in-Ok.ensures.updates.0 both.ensures.within both.ensures'.within c.self.invariant
 
 pub returns : goal.returns
 returns c d m s =
     let both = c.in-Some-Some in
     let inside = c.self.inside in
-    noted inside.names.keys inside.spans.entries c.insert.new.self.entries (spare inside.spans) (spare c.insert.new.self) c.args.class.now c.args.meta c.args.selector.now c.args.span both.class both.selector
+    noted inside.names.keys inside.last.entries c.insert.new.self.entries (spare inside.last) (spare c.insert.new.self) c.args.class.now c.args.meta c.args.selector.now c.args.number both.class both.selector
     (sym both.ensures.index) (sym both.ensures'.index) c.in-Ok.ensures.updates.0 d m s
-    ∙ (λ t. updated (found (c.self.view_is t)) c.args.class.now c.args.meta c.args.selector.now c.args.span d m s)
+    ∙ (λ t. updated (found (c.self.view_is t)) c.args.class.now c.args.meta c.args.selector.now c.args.number d m s)
