@@ -5,8 +5,9 @@ import pathlib
 import re
 
 FOLDERS = ("src", "specs", "proofs")
-# What the layout of `rt fmt` shows: a function's first line, and the head of the `impl` or trait that a method stands in.
-FUNCTION = re.compile(r"^( {4})?(?:pub(?:\([a-z]+\))? )?(?:const )?fn (\w+)", re.M)
+# What the layout of `rt fmt` shows: a function's first lines, with its comment and attributes, of which the checker may name one; and the
+# head of the `impl` or trait that a method stands in.
+FUNCTION = re.compile(r"^(?: *(?://|#\[).*\n)*( {4})?(?:pub(?:\([a-z]+\))? )?(?:const )?fn (\w+)", re.M)
 TRAIT = re.compile(r"^(?:pub(?:\([a-z]+\))? )?trait (\w+)", re.M)
 IMPL = re.compile(r"^impl(?P<parameters><[^{]*?>)? (?:(?P<of>[\w:]+)(?P<given><[^{]*?>)? for )?(?P<type>[\w:]+)[^{;]*\{", re.M)
 
@@ -59,7 +60,7 @@ def module_of(file):
 def function_from(file, text, head):
     """The name of the function that begins so, and where its body begins and ends; or None if that can't be told."""
     indent, name = head[1] or "", head[2]
-    opens = re.compile(rf"^{indent}(?! ).*\{{$", re.M).search(text, head.start())
+    opens = re.compile(rf"^{indent}(?! ).*\{{$", re.M).search(text, text.rfind("\n", 0, head.start(2)) + 1)
     closes = opens and re.compile(rf"^{indent}\}}$", re.M).search(text, opens.end())
     owner = owner_of(text, head.start()) if indent else ""
     if owner is None or not closes:
