@@ -4,32 +4,35 @@ ghost use Rattle.std.specs.Prelude.{IsTrue, IfErr};
 ghost use Rattle.st_host.specs.Runs.{Spares};
 ghost use Rattle.st_store.specs.Names.{IsNoFileOf};
 ghost use Rattle.st_protocol.specs.Statuses.{Counts, StatusHasCause};
-ghost use Rattle.st_recover.specs.Commits.{Commit};
+ghost use Rattle.st_recover.specs.{Commits.Commit, inside.Archives.IsListOf};
 ghost use Rattle.st_session.specs.{Condensings.{IsKeptAs, DoesCondense, CondenseEnds}, Exports.IsOfExporting};
 
 use crate::opening_refusal::refuse_opening;
 use crate::reading::status_of;
 use st_call::{Reply, refuse, say_reply};
+use st_changes::Changes;
 use st_host::{FileFault, Host};
-use st_memory::{Loader, Memory};
+use st_memory::Loader;
 use st_protocol::Status;
-use st_recover::{Opened, reopen};
+use st_recover::reopen;
+use st_store::Store;
 use std::alloc::Global;
 
 /// Drops the definitions of a store that later ones supersede, and says how many there were and are.
-fn condense_store<H: Host, M: Memory>(
+fn condense_store<H: Host>(
     alloc: Global,
     host: &mut H,
-    opened: Opened<M>,
+    store: Store,
+    changes: &Changes,
 ) -> Result<(), Status>
-    ensures does { (c : Commit) → IsTrue H.is_told
-        → IsKeptAs H.Host.own host.old opened.store opened.changes.listed c
-        → DoesCondense H.Host.own opened.store.name c host.old host.new result }
+    requires list_of { IsListOf store changes.now }
+    ensures does { (c : Commit) → IsTrue H.is_told → IsKeptAs H.Host.own host.old store changes.now.listed c
+        → DoesCondense H.Host.own store.name c host.old host.new result }
     ensures counts { Counts H.Host.own ⊥ host.old host.new result }
     ensures kind { IfErr result IsOfExporting }
-    ensures spares { Spares H.Host.own (IsNoFileOf opened.store.name) host.old host.new }
+    ensures spares { Spares H.Host.own (IsNoFileOf store.name) host.old host.new }
 {
-    match st_changes::condense(alloc, host, opened.store, &opened.changes) {
+    match st_changes::condense(alloc, host, store, changes) {
         Ok(condensed) => say_reply(
             host,
             Reply::Condensed {
@@ -50,7 +53,7 @@ pub fn condense<H: Host, L: Loader>(alloc: Global, host: &mut H, store: &str) ->
 {
     match reopen::<L, H>(alloc, host, store) {
         Ok(opened) => {
-            let status = status_of(condense_store(alloc, host, opened));
+            let status = status_of(condense_store(alloc, host, opened.store, &opened.changes));
             refuse(host, status);
             status
         }
