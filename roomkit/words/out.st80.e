@@ -1,0 +1,1 @@
+as source: st_host st_system_host st_lookup st_heap st_counted st_store st_chunk st_protocol st_writer st_image st_call st_clean st_input st_control st_at_once st_draft st_step st_machine st_emit st_code st_scope st_expression_stack st_parts st_resolved st_decompile st_install st_changes st_browse st_recover st_kernel_text st_first_objects st_kernel st_debug st_session
