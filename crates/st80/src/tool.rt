@@ -4,7 +4,7 @@ ghost use Rattle.st_protocol.specs.Statuses.{number_of};
 ghost use Rattle.st_call.specs.LastLines.{SaysLastLine};
 ghost use Rattle.st_session.specs.Calls.{CallEnds};
 
-use st_call::{Command, read_command, refuse};
+use st_call::{Command, read_command, report_status};
 use st_counted::CountedLoader;
 use st_host::{Host, Source};
 use st_lookup::CachedLoader;
@@ -62,7 +62,7 @@ pub fn tool<H: Host, S: Source>(
         }
         Some(Command::Drill { number }) => drill::<H, ProgramLoader>(alloc, host, number),
         None => {
-            refuse(host, Status::Usage);
+            report_status(host, Status::Usage);
             Status::Usage
         }
     }
@@ -86,7 +86,7 @@ pub fn exit_code<H: Host, S: Source>(
     let status = match words {
         Ok(words) => tool(alloc, words.as_slice(), host, script),
         Err(status) => {
-            refuse(host, status);
+            report_status(host, status);
             status
         }
     };

@@ -17,8 +17,8 @@ use Rattle.st_memory.specs.inside.Tabular.{bounded_tabular}
 use Rattle.st_memory.proofs.Looking.{some_state}
 use Rattle.st_at_once.specs.declared.known.Fields.{Fields}
 use Rattle.st_at_once.specs.declared.known.Code.{Code}
-use Rattle.st_at_once.specs.declared.known.Known.{Known}
-use Rattle.st_at_once.specs.declared.known.TheConstants.Known.{NONE}
+use Rattle.st_at_once.specs.declared.known.NearPlaces.{NearPlaces}
+use Rattle.st_at_once.specs.declared.known.TheConstants.NearPlaces.{NONE}
 use Rattle.st_at_once.specs.inside.Known.{HasFields, KnowsFields, HasCode, KnowsCode, IsNear}
 
 -- the second object has the kind and the sizes of the first
@@ -98,7 +98,7 @@ module _ (t u : Table) (keeps : KeepsSizes t u) where
         size = subst (λ n. c.end ≤ℤ pos n) (sym (size_kept (object_of t (word c.method)) (object_of u (word c.method)) s)) h.size;
       }
 
-pub near_kept : (v w : View) (k : Known) → KeepsSizes v.objects w.objects → w.held ≡ v.held → IsNear v k → IsNear w k
+pub near_kept : (v w : View) (k : NearPlaces) → KeepsSizes v.objects w.objects → w.held ≡ v.held → IsNear v k → IsNear w k
 near_kept v w k keeps held near = record {
   active = λ l. subst (λ x. HasFields w.objects x.active k.active) (sym held) (fields_kept v.objects w.objects keeps v.held.active k.active (near.active l));
   home = λ l. subst (λ x. HasFields w.objects x.home k.home) (sym held) (fields_kept v.objects w.objects keeps v.held.home k.home (near.home l));
@@ -243,23 +243,23 @@ make_stays (Ref c) k n l = λ s t a h.
     let o = new_of bounded_table s.memory c k n l in
     made_keeps o s t a (is_there bounded_table s.memory (Ref c)) (has_room bounded_table s.head s.memory o) h
 
-pub near_changed : {A B : Type 0} (m : Step Table A) (f : B → A) (r : B) (v w : View) (k : Known) → KeepsBy m
+pub near_changed : {A B : Type 0} (m : Step Table A) (f : B → A) (r : B) (v w : View) (k : NearPlaces) → KeepsBy m
     → Changes m f v.objects v.head (Ok r) w.objects → w.held ≡ v.held → IsNear v k → IsNear w k
 near_changed m f r v w k keeps changes held near =
     let s : State Table = record (some_state v.objects) { head = v.head } in
     near_kept v w k (keeps s _ _ (changes s refl refl)) held near
 
 -- if it died, the objects are as they were
-pub near_unless : {A B : Type 0} (m : Step Table A) (f : B → A) (r : Result B Dead) (v w : View) (k : Known) → KeepsBy m
+pub near_unless : {A B : Type 0} (m : Step Table A) (f : B → A) (r : Result B Dead) (v w : View) (k : NearPlaces) → KeepsBy m
     → Changes m f v.objects v.head r w.objects → IfErr r (λ e. w.objects ≡ v.objects) → w.held ≡ v.held → IsNear v k → IsNear w k
 near_unless m f (Ok b) v w k keeps changes dead held near = near_changed m f b v w k keeps changes held near
 near_unless m f (Err d) v w k keeps changes dead held near = near_kept v w k (keeps_same v.objects w.objects dead) held near
 
 -- a new object
-pub near_placed : (v w : View) (k : Known) (o : Object) → w.objects ≡ placed v.objects o → w.held ≡ v.held → IsNear v k → IsNear w k
+pub near_placed : (v w : View) (k : NearPlaces) (o : Object) → w.objects ≡ placed v.objects o → w.held ≡ v.held → IsNear v k → IsNear w k
 near_placed v w k o e held near = near_kept v w k (subst (λ t. KeepsSizes v.objects t) (sym e) (keeps_placed v.objects o)) held near
 
-pub near_stored : (v w : View) (k : Known) (o : Value) (i : ℕ) (x : Value) → w.objects ≡ with_stored v.objects o i x → w.held ≡ v.held → IsNear v k → IsNear w k
+pub near_stored : (v w : View) (k : NearPlaces) (o : Value) (i : ℕ) (x : Value) → w.objects ≡ with_stored v.objects o i x → w.held ≡ v.held → IsNear v k → IsNear w k
 near_stored v w k o i x e held near =
     near_kept v w k (subst (λ t. KeepsSizes v.objects t) (sym e) (keeps_stored v.objects o i x)) held near
 

@@ -10,7 +10,7 @@ use Rattle.st_model.specs.View.{View, SettlesTo, view_roots, is_live, object_of,
 use Rattle.st_model.proofs.SettledLemmas.{is_some-of, entry-settled}
 use Rattle.st_at_once.specs.declared.known.Fields.{Fields}
 use Rattle.st_at_once.specs.declared.known.Code.{Code}
-use Rattle.st_at_once.specs.declared.known.Known.{Known}
+use Rattle.st_at_once.specs.declared.known.NearPlaces.{NearPlaces}
 use Rattle.st_at_once.specs.inside.Known.{HasFields, HasCode, IsNear}
 
 -- a root alone supports itself
@@ -74,10 +74,10 @@ module _ (v w : View) (s : SettlesTo v w) where
       }
 
 -- without the object that was made, which may be dropped
-abbrev pub without_made : Known → Known
+abbrev pub without_made : NearPlaces → NearPlaces
 without_made k = record k { made = record k.made { number = 0 } }
 
-pub near_settled : (v w : View) (k : Known) → SettlesTo v w → IsNear v k → IsNear w (without_made k)
+pub near_settled : (v w : View) (k : NearPlaces) → SettlesTo v w → IsNear v k → IsNear w (without_made k)
 near_settled v w k s near = record {
   active = λ l. subst (λ x. HasFields w.objects x.active k.active) (sym s.held) (fields_stay v w s v.held.active k.active (λ n r. inl r) (near.active l));
   home = λ l. subst (λ x. HasFields w.objects x.home k.home) (sym s.held) (fields_stay v w s v.held.home k.home (λ n r. inr (inl r)) (near.home l));

@@ -6,7 +6,7 @@ ghost use Rattle.st_at_once.specs.inside.AtOnce.{long_jump_at_once, bytecode_at_
 ghost use Rattle.st_frames.specs.inside.Rows.{RowMoves, RowDoes, Takes};
 
 use crate::arithmetic::arithmetic_at_once;
-use crate::holding::keep;
+use crate::holding::copy_pointers;
 use st_control::{
     duplicate_top, equivalence, extended_push, extended_store, extended_store_and_pop,
     jump_at_once, long_unconditional_jump, pop_stack, push_active_context, push_constant,
@@ -126,6 +126,6 @@ pub fn bytecode_at_once<O: Objects>(
         Bytecode::PrimitiveSend(23) => receiver_class(m, r)?,
         _ => return Ok(false),
     }
-    keep(f, r);
+    copy_pointers(f, r);
     Ok(true)
 }

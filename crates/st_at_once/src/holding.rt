@@ -32,7 +32,7 @@ fn names_same(r: &Registers, f: &Frame) -> bool
 
 /// Keeps the instruction and the stack pointer in the frame.
 #[inline(always)]
-pub(crate) fn keep(f: &mut Frame, r: &Registers)
+pub(crate) fn copy_pointers(f: &mut Frame, r: &Registers)
     ensures { f.new ≡ record f.old { ip = r.now.ip; sp = r.now.sp } }
 {
     f.ip = r.ip;
@@ -53,7 +53,7 @@ impl<'a, M: Memory> Near<'a, M> {
         ensures same_memory { self.new.memory.ghost_name ≡ self.old.memory.ghost_name }
     {
         if names_same(r, f) {
-            keep(f, r);
+            copy_pointers(f, r);
         } else {
             *f = hold(self.memory, r);
             self.known = look(self.memory, f, self.known.code);

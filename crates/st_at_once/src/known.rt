@@ -57,16 +57,16 @@ impl Code {
 
 /// What is known of the active context, its home and its method, and of the last object that was made, until it may be dropped.
 #[derive(Clone, Copy)]
-pub struct Known {
+pub struct NearPlaces {
     pub active: Fields,
     pub home: Fields,
     pub code: Code,
     pub made: Fields,
 }
 
-impl Known {
+impl NearPlaces {
     /// Nothing.
-    pub const NONE: Known = Known {
+    pub const NONE: NearPlaces = NearPlaces {
         active: Fields::NONE,
         home: Fields::NONE,
         code: Code::NONE,

@@ -3,7 +3,7 @@ ghost use Rattle.st_model.specs.Values.{Value, value, word};
 ghost use Rattle.st_frames.specs.inside.Shown.{IsFrame};
 ghost use Rattle.st_at_once.specs.inside.Known.{KnowsFields, KnowsCode, IsNear, IsThere, ArePlaced};
 
-use crate::known::{Code, Fields, Known};
+use crate::known::{Code, Fields, NearPlaces};
 use st_frames::Frame;
 use st_memory::Memory;
 use st_model::{Oop, Word, literals};
@@ -107,12 +107,12 @@ fn place_code<M: Memory>(m: &M, c: Code) -> Code
 
 /// What is known, with the places at which it stands now.
 #[inline(always)]
-pub(crate) fn look_at_places<M: Memory>(m: &M, known: Known) -> Known
+pub(crate) fn look_at_places<M: Memory>(m: &M, known: NearPlaces) -> NearPlaces
     requires { IsNear (M.view m.now) known }
     ensures near { IsNear (M.view m.now) result }
     ensures places { ArePlaced (M.stands m.now) result }
 {
-    Known {
+    NearPlaces {
         active: place_fields(m, known.active),
         home: place_fields(m, known.home),
         code: place_code(m, known.code),
@@ -135,12 +135,12 @@ fn look_at_made<M: Memory>(m: &M, made: Word) -> Fields
 
 /// What is known once an object was made under this word, with the places at which all stands now.
 #[inline(always)]
-pub(crate) fn look_after_make<M: Memory>(m: &M, known: Known, made: Word) -> Known
+pub(crate) fn look_after_make<M: Memory>(m: &M, known: NearPlaces, made: Word) -> NearPlaces
     requires { IsNear (M.view m.now) known }
     ensures near { IsNear (M.view m.now) result }
     ensures places { ArePlaced (M.stands m.now) result }
 {
-    Known {
+    NearPlaces {
         made: look_at_made(m, made),
         ..look_at_places(m, known)
     }
@@ -163,14 +163,14 @@ fn look_at_code_again<M: Memory>(m: &M, method: Oop, before: Code) -> Code
 
 /// What is known of the contexts and the method of a frame that is held, where this was known of a method.
 #[inline(always)]
-pub fn look<M: Memory>(m: &M, f: &Frame, before: Code) -> Known
+pub fn look<M: Memory>(m: &M, f: &Frame, before: Code) -> NearPlaces
     requires frame { IsFrame (M.view m.now) f.now }
     requires before { KnowsCode (M.view m.now).objects (word before.method) before }
     ensures near { IsNear (M.view m.now) result }
     ensures places { ArePlaced (M.stands m.now) result }
 {
     let active = look_at_fields(m, f.active);
-    Known {
+    NearPlaces {
         active,
         home: look_at_home(m, f, active),
         code: look_at_code_again(m, f.method, before),

@@ -6,7 +6,7 @@ ghost use Rattle.st_model.specs.{Steps.store_field, inside.Calls.{Changes, itsel
 ghost use Rattle.st_frames.specs.inside.Shown.{IsFrame};
 ghost use Rattle.st_at_once.specs.inside.Known.{IsNear, ArePlaced, IsCodeAt, HasLiteral, HasNumber};
 
-use crate::known::{Body, Code, Known};
+use crate::known::{Body, Code, NearPlaces};
 use crate::looking::{look, look_after_make};
 use st_frames::Frame;
 use st_memory::{Memory, live_value, store_live_field};
@@ -20,7 +20,7 @@ use st_model::{Dead, Kind, Oop, Word};
 pub struct Near<'a, M: Memory> {
     /// The memory behind.
     pub memory: &'a mut M,
-    pub(crate) known: Known,
+    pub(crate) known: NearPlaces,
     ghost near: { IsNear (M.view memory.now) known },
     ghost places: { ∥ ArePlaced (M.stands memory.now) known ∥₁ },
 }

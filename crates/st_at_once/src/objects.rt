@@ -1,6 +1,6 @@
 ghost use Rattle.st_model.specs.Table.{bounded_table};
 
-use crate::known::Known;
+use crate::known::NearPlaces;
 use crate::looking::{look_after_make, look_at_places};
 use crate::near::Near;
 use st_memory::{ContextFields, Memory, Objects, live_value};
@@ -141,7 +141,7 @@ impl<'a, M: Memory> Objects for Near<'a, M> {
 
     #[tactic(auto, using(crate::proofs::Keeping::near_nothing, crate::proofs::Placed::placed_nothing))]
     fn exchange(&mut self, a: Word, b: Word) -> Result<(), Dead> {
-        self.known = Known::NONE;
+        self.known = NearPlaces::NONE;
         self.memory.exchange(a, b)
     }
 
@@ -153,7 +153,7 @@ impl<'a, M: Memory> Objects for Near<'a, M> {
                 Ok(made)
             }
             Err(cause) => {
-                self.known = Known::NONE;
+                self.known = NearPlaces::NONE;
                 Err(cause)
             }
         }

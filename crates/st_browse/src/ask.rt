@@ -4,7 +4,7 @@ ghost use Rattle.std.specs.Prelude.{◌≡◌};
 ghost use Rattle.st_chunk.specs.Asks.{ask_of, side_of};
 ghost use Rattle.st_browse.specs.inside.Questions.{question, side_meant};
 
-use st_chunk::{Ask as Asked, Side as Lent};
+use st_chunk::{LentAsk as Asked, LentSide as Lent};
 use st_model::Oop;
 
 /// A class's side.

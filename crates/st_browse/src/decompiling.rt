@@ -9,7 +9,7 @@ ghost use Rattle.st_chunk.specs.Asks.{side_of};
 ghost use Rattle.st_browse.specs.{inside.MadeTexts.{IsMade, IsTextOfParts}, inside.Placing.{AreNamesIf, IsCompiled}};
 
 use crate::sought::find_compiled;
-use st_chunk::Side;
+use st_chunk::LentSide;
 use st_decompile::{decompile, parts_of};
 use st_emit::Names;
 use st_install::{InstallFault, method_names};
@@ -70,7 +70,7 @@ fn text_under<M: Memory>(
 pub fn decompiled<M: Memory>(
     alloc: Global,
     m: &M,
-    side: Side<'_>,
+    side: LentSide<'_>,
     selector: &[u8],
 ) -> Result<Option<Text>, AllocError>
     ensures { IfOk result (λ text.

@@ -28,7 +28,7 @@ use crate::sought::{Sought, seek};
 use crate::source::push_source;
 use st_call::{Output, Pushed, push_long_line, push_object};
 use st_changes::Changes;
-use st_chunk::{Ask as Asked, Side as Lent};
+use st_chunk::{LentAsk as Asked, LentSide as Lent};
 use st_host::{Host, SayFault};
 use st_memory::Memory;
 use std::alloc::{AllocError, Global};

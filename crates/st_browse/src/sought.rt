@@ -15,7 +15,7 @@ use crate::display::{Form, find_display};
 use crate::methods::methods_of;
 use crate::names::Names;
 use crate::places::first_named;
-use st_chunk::{Ask, Side};
+use st_chunk::{LentAsk, LentSide};
 use st_memory::Memory;
 use st_model::Oop;
 use st_parts::Compiled;
@@ -41,7 +41,7 @@ pub enum Sought<'a> {
 
 /// The class that a side names.
 #[tactic(auto, using(crate::proofs::Sides::sides), unfolding(crate::specs::Classes::class_named))]
-fn class_of_side<M: Memory>(m: &M, side: Side<'_>) -> Option<Oop>
+fn class_of_side<M: Memory>(m: &M, side: LentSide<'_>) -> Option<Oop>
     ensures { let v = M.view m.now in found result ≡ class_of_side v (side_of side.entry) }
 {
     let n = first_named(m, globals(m), side.class)?;
@@ -64,7 +64,7 @@ fn method_of<M: Memory>(m: &M, class: Oop, selector: &[u8]) -> Option<Body>
 }
 
 /// Finds the methods of a class.
-fn seek_methods<'a, M: Memory>(m: &M, side: Side<'_>) -> Option<Sought<'a>>
+fn seek_methods<'a, M: Memory>(m: &M, side: LentSide<'_>) -> Option<Sought<'a>>
     ensures sought { let v = M.view m.now in
         let found = class_of_side v (side_of side.entry) in
         option_map (sought_text v.objects) result ≡ option_map (methods_text v.objects) found }
@@ -78,7 +78,7 @@ fn seek_methods<'a, M: Memory>(m: &M, side: Side<'_>) -> Option<Sought<'a>>
 #[tactic(auto, unfolding(crate::specs::Methods::method_named))]
 fn seek_source<'a, M: Memory>(
     m: &M,
-    side: Side<'_>,
+    side: LentSide<'_>,
     selector: &[u8],
     text: Option<&'a [u8]>,
 ) -> Option<Sought<'a>>
@@ -94,7 +94,7 @@ fn seek_source<'a, M: Memory>(
 }
 
 /// Finds the bytecodes of a class's method for a selector.
-fn seek_bytecodes<'a, M: Memory>(m: &M, side: Side<'_>, selector: &[u8]) -> Option<Sought<'a>>
+fn seek_bytecodes<'a, M: Memory>(m: &M, side: LentSide<'_>, selector: &[u8]) -> Option<Sought<'a>>
     ensures sought { let v = M.view m.now in
         let method = method_of_side v (side_of side.entry) selector.now in
         option_map (sought_text v.objects) result ≡ option_map (code_text v.objects) method }
@@ -106,7 +106,7 @@ fn seek_bytecodes<'a, M: Memory>(m: &M, side: Side<'_>, selector: &[u8]) -> Opti
 }
 
 /// The method of a class for a selector, where an object of kind Method is there.
-pub fn find_method<M: Memory>(m: &M, side: Side<'_>, selector: &[u8]) -> Option<Oop>
+pub fn find_method<M: Memory>(m: &M, side: LentSide<'_>, selector: &[u8]) -> Option<Oop>
     ensures { let v = M.view m.now in found result ≡ method_of_side v (side_of side.entry) selector.now }
 {
     let class = class_of_side(m, side)?;
@@ -118,7 +118,7 @@ pub fn find_method<M: Memory>(m: &M, side: Side<'_>, selector: &[u8]) -> Option<
 #[tactic(auto, unfolding(crate::specs::Decompiling::method_place))]
 pub fn find_compiled<'a, M: Memory>(
     m: &M,
-    side: Side<'a>,
+    side: LentSide<'a>,
     selector: &'a [u8],
 ) -> Option<Compiled<'a>>
     ensures place { place_if result ≡ method_place (M.view m.now) (side_of side.entry) selector.now }
@@ -159,20 +159,20 @@ fn seek_display<'a, M: Memory>(m: &M) -> Option<Sought<'a>>
 
 /// Finds what is asked for, with the text of the last definition where a source is asked for.
 #[tactic(auto, unfolding(crate::specs::Asked::reply))]
-pub fn seek<'a, M: Memory>(m: &M, ask: Ask<'a>, text: Option<&'a [u8]>) -> Option<Sought<'a>>
+pub fn seek<'a, M: Memory>(m: &M, ask: LentAsk<'a>, text: Option<&'a [u8]>) -> Option<Sought<'a>>
     ensures sought { let v = M.view m.now in let text = option_map (λ t. t.now) text.entry in
         option_map (sought_text v.objects) result ≡ reply v text (ask_of ask.entry) }
     ensures there { IfSome result (λ s. IsSought (M.view m.now).objects s) }
 {
     match ask {
-        Ask::Object(pointer) => seek_object(m, Oop(pointer)),
-        Ask::Display => seek_display(m),
-        Ask::Classes => Some(Sought::Classes(globals(m))),
-        Ask::Methods(side) => seek_methods(m, side),
-        Ask::Source(side, selector) => seek_source(m, side, selector, text),
-        Ask::Bytecodes(side, selector) | Ask::Until(_, side, selector) => seek_bytecodes(
+        LentAsk::Object(pointer) => seek_object(m, Oop(pointer)),
+        LentAsk::Display => seek_display(m),
+        LentAsk::Classes => Some(Sought::Classes(globals(m))),
+        LentAsk::Methods(side) => seek_methods(m, side),
+        LentAsk::Source(side, selector) => seek_source(m, side, selector, text),
+        LentAsk::Bytecodes(side, selector) | LentAsk::Until(_, side, selector) => seek_bytecodes(
             m, side, selector,
         ),
-        Ask::Senders(selector) => Some(Sought::Senders(globals(m), selector)),
+        LentAsk::Senders(selector) => Some(Sought::Senders(globals(m), selector)),
     }
 }

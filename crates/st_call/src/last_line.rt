@@ -83,7 +83,7 @@ fn say_last_line<H: Host>(host: &mut H, status: Status) -> Pushed
 }
 
 /// Says the last line of a status, which stays where that fails.
-pub fn refuse<H: Host>(host: &mut H, status: Status)
+pub fn report_status<H: Host>(host: &mut H, status: Status)
     ensures line { SaysLastLine H.Host.own status host.old host.new }
     ensures reads { ReadsAndSays H.Host.own (last_line status) host.old host.new }
     ensures alike { ReadsAlike H.Host.own host.old host.new }

@@ -21,7 +21,7 @@ mod words;
 pub use file::{FileRefusal, read_file};
 pub use image::read_image;
 pub use image_refusal::ImageRefusal;
-pub use last_line::refuse;
+pub use last_line::report_status;
 pub use lines::{push_line, push_long_line, push_values, push_values_line};
 pub use objects::{push_object, push_objects};
 pub use output::{Output, Pushed};

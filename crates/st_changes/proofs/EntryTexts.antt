@@ -6,7 +6,7 @@ use Rattle.std.specs.Prelude.{◌&&◌, not, nat_le, IsTrue}
 use Rattle.std.proofs.lemmas.Bool.{and_parts, leb-true, le-leb}
 use Rattle.std.proofs.lemmas.List.{drop-drop}
 use Rattle.st_chunk.specs.Texts.{mark, most, doubled, is_blank}
-use Rattle.st_chunk.specs.Groups.{begins, Header, header_text}
+use Rattle.st_chunk.specs.Groups.{begins, GroupHeader, header_text}
 use Rattle.st_chunk.specs.Definitions.{Definition, header_for, IsDefinition, line_feed, entry, method_part}
 use Rattle.st_changes.specs.inside.Runs.{doubled_by, IsRun}
 use Rattle.st_changes.specs.Entries.{side_front, IsHead, IsMethod, BeginsWith, is_text}
@@ -14,13 +14,13 @@ use Rattle.st_changes.proofs.Marks.{doubled_is, one_run, by-append, word_plain, 
 use Rattle.st_changes.proofs.HeaderTexts.{ended, header_shape}
 
 -- up to the method's text
-pub head_run : (text : List ℕ) (h : Header) (behind : List ℕ) → IsHead text h behind → IsRun 33 (drop 1 text) (header_text h) (10 ∷ behind)
+pub head_run : (text : List ℕ) (h : GroupHeader) (behind : List ℕ) → IsHead text h behind → IsRun 33 (drop 1 text) (header_text h) (10 ∷ behind)
 head_run text h behind head = record {
   is = ap (drop 1) head.is ∙ ap (λ (x : List ℕ). x ++ 33 ∷ 10 ∷ behind) (doubled_is (header_text h));
   alone = refl;
 }
 
-pub head_same : (text : List ℕ) (h : Header) (behind bytes rest : List ℕ) → IsHead text h behind → IsRun 33 (drop 1 text) bytes rest → (bytes ≡ header_text h) × (rest ≡ 10 ∷ behind)
+pub head_same : (text : List ℕ) (h : GroupHeader) (behind bytes rest : List ℕ) → IsHead text h behind → IsRun 33 (drop 1 text) bytes rest → (bytes ≡ header_text h) × (rest ≡ 10 ∷ behind)
 head_same text h behind bytes rest head run =
     let is = head_run text h behind head in
     one_run 33 bytes rest (header_text h) (10 ∷ behind) run.alone refl (sym run.is ∙ is.is)

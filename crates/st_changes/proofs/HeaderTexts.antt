@@ -7,7 +7,7 @@ use Rattle.std.proofs.lemmas.List.{take-append-drop, drop-drop, append_cancel_le
 use Rattle.std.proofs.Math.Seq.{drop-append_seam}
 use Rattle.std.proofs.lemmas.Bool.{and_parts}
 use Rattle.st_chunk.proofs.Cases.{by_test}
-use Rattle.st_chunk.specs.Groups.{begins, is_name, Header, header_text, quotes_doubled}
+use Rattle.st_chunk.specs.Groups.{begins, is_name, GroupHeader, header_text, quotes_doubled}
 use Rattle.st_changes.specs.inside.Runs.{doubled_by, IsRun}
 use Rattle.st_changes.specs.Entries.{side_front, IsSide, IsHeader}
 use Rattle.st_changes.proofs.Marks.{quotes_are, one_run}
@@ -19,7 +19,7 @@ word text = prefix_len is_ascii_alphanumeric text
 abbrev pub ended : List ℕ → List ℕ
 ended category = doubled_by 39 category ++ 39 ∷ []
 
-pub header_shape : (h : Header) → header_text h ≡ h.class ++ (side_front h.meta ++ ended h.category)
+pub header_shape : (h : GroupHeader) → header_text h ≡ h.class ++ (side_front h.meta ++ ended h.category)
 header_shape h = ap (λ (x : List ℕ). h.class ++ x) (of_side h.meta h.category)
   where
     of_side : (meta : Bool) (category : List ℕ) → Rattle.st_chunk.specs.Groups.side_text meta ++ (codes " methodsFor: " ++ Rattle.st_chunk.specs.Groups.quoted category) ≡ side_front meta ++ ended category
@@ -38,7 +38,7 @@ word_is (b ∷ class) more all e =
     rw (parts.0) (omega (arith, word_is class more parts.1 e))
 
 -- what stands behind the class
-pub behind_class : (text : List ℕ) (h : Header) → IsHeader text h → drop (word text) text ≡ side_front h.meta ++ ended h.category
+pub behind_class : (text : List ℕ) (h : GroupHeader) → IsHeader text h → drop (word text) text ≡ side_front h.meta ++ ended h.category
 behind_class text h is =
     let more : List ℕ = side_front h.meta ++ ended h.category in
     let all = (and_parts (begins is_ascii_alphabetic h.class) (list_all is_ascii_alphanumeric h.class) is.named).1 in
@@ -53,7 +53,7 @@ side_same false false xs ys e = refl
 side_same true false xs ys e = let l = ap (λ (x : List ℕ). get_or x 1 0) e in absurd (omega (arith, l))
 side_same false true xs ys e = let l = ap (λ (x : List ℕ). get_or x 1 0) e in absurd (omega (arith, l))
 
-pub behind_side : (text : List ℕ) (h : Header) (meta : Bool) (n : ℕ) → IsHeader text h → IsSide (drop (word text) text) meta n
+pub behind_side : (text : List ℕ) (h : GroupHeader) (meta : Bool) (n : ℕ) → IsHeader text h → IsSide (drop (word text) text) meta n
     → drop (word text + n) text ≡ ended h.category
 behind_side text h meta n is side =
     let e = sym side.is ∙ behind_class text h is in
@@ -94,7 +94,7 @@ header_read text category rest meta n named side run none = record {
 }
 
 -- a header as it is written
-pub header_put : (h : Header) (class front category : List ℕ) → class ≡ h.class → front ≡ side_front h.meta → category ≡ h.category
+pub header_put : (h : GroupHeader) (class front category : List ℕ) → class ≡ h.class → front ≡ side_front h.meta → category ≡ h.category
     → ((class ++ front) ++ doubled_by 39 category) ++ 39 ∷ [] ≡ header_text h
 header_put h class front category c f g =
     (λ i. ((c i ++ f i) ++ doubled_by 39 (g i)) ++ 39 ∷ [])

@@ -3,7 +3,7 @@ use Rattle.std.proofs.Common.{◌≡◌, ◌≢◌, inl, inr, ℕ, zero, suc, �
 use Rattle.std.specs.Prelude.{◌⊎◌, Result, IsErr}
 use Rattle.std.proofs.lemmas.List.{take_all, map-append, take-append-drop}
 use Rattle.st_host.specs.Files.{Files}
-use Rattle.st_host.specs.Runs.{Changes, WritesAbove, IsSynced, IsAtRest, Makes}
+use Rattle.st_host.specs.Runs.{ChangesOneFile, WritesAbove, IsSynced, IsAtRest, Makes}
 use Rattle.st_host.specs.declared.host.Host.{Ghosts}
 use Rattle.st_host.proofs.Joining.{on_err}
 use Rattle.st_host.proofs.Touching.{above_changes}
@@ -110,8 +110,8 @@ module _ {D : Type 0} (host : Ghosts D) (st : StoreState) (c : Stored) (a b : D)
   is_other : file ≡ other
   is_other = is ∙ ap (λ (r : Root). changes_file st.name (turned r.slot)) (sym kept.root)
 
-  run : Changes host other a b
-  run = subst (λ (n : List ℕ). Changes host n a b) is_other (above_changes host file 0 a b writes)
+  run : ChangesOneFile host other a b
+  run = subst (λ (n : List ℕ). ChangesOneFile host n a b) is_other (above_changes host file 0 a b writes)
 
   pub still_kept : IsKept host b st c
   still_kept = record {

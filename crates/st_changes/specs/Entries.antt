@@ -1,9 +1,9 @@
 -- What a text begins with: the parts of an entry, and an entry.
 use Rattle.std.specs.Prelude.{◌≡◌, ℕ, ◌≤◌, ◌&&◌, Bool, not, nat_le, List, ◌∷◌, ◌++◌, length, reverse, drop, Option, Some, None, IsTrue, codes}
 use Rattle.st_chunk.specs.Texts.{mark, most, doubled, is_blank}
-use Rattle.st_chunk.specs.Groups.{begins, is_name, Header, header_text, side_text}
+use Rattle.st_chunk.specs.Groups.{begins, is_name, GroupHeader, header_text, side_text}
 use Rattle.st_chunk.specs.Definitions.{Definition, IsDefinition, line_feed, entry}
-use Rattle.st_changes.specs.declared.header.Header as headers
+use Rattle.st_changes.specs.declared.header.GroupHeader as headers
 use Rattle.st_changes.specs.declared.entry.Head.{Head}
 use Rattle.st_changes.specs.declared.entry.Method.{Method}
 
@@ -22,22 +22,22 @@ abbrev pub FindsSide : List ℕ → Option (Bool × ℕ) → Type 0
 FindsSide text None = (meta : Bool) (behind : List ℕ) → text ≡ side_front meta ++ behind → ⊥
 FindsSide text (Some r) = IsSide text r.0 r.1
 
-abbrev pub header_of : headers.Header → Header
+abbrev pub header_of : headers.GroupHeader → GroupHeader
 header_of h = record { class = h.class.items; meta = h.meta; category = h.category.items }
 
 -- the text is that of a header whose class is named by letters and digits
-pub record IsHeader (text : List ℕ) (h : Header) : Type 0 where
+pub record IsHeader (text : List ℕ) (h : GroupHeader) : Type 0 where
   pub is : text ≡ header_text h
   pub named : IsTrue (is_name h.class)
 
-abbrev pub FindsHeader : List ℕ → Option headers.Header → Type 0
-FindsHeader text None = (h : Header) → IsHeader text h → ⊥
+abbrev pub FindsHeader : List ℕ → Option headers.GroupHeader → Type 0
+FindsHeader text None = (h : GroupHeader) → IsHeader text h → ⊥
 FindsHeader text (Some h) = IsHeader text (header_of h)
 
 -- ENTRIES
 
 -- the text begins as an entry does, up to the method's text
-pub record IsHead (text : List ℕ) (h : Header) (behind : List ℕ) : Type 0 where
+pub record IsHead (text : List ℕ) (h : GroupHeader) (behind : List ℕ) : Type 0 where
   pub is : text ≡ mark ∷ (doubled (header_text h) ++ (mark ∷ line_feed ∷ behind))
   pub named : IsTrue (is_name h.class)
   pub short : length (header_text h) ≤ most
@@ -47,7 +47,7 @@ pub record IsFoundHead (text : List ℕ) (head : Head) : Type 0 where
   pub within : head.length ≤ length text
 
 abbrev pub FindsHead : List ℕ → Option Head → Type 0
-FindsHead text None = (h : Header) (behind : List ℕ) → IsHead text h behind → ⊥
+FindsHead text None = (h : GroupHeader) (behind : List ℕ) → IsHead text h behind → ⊥
 FindsHead text (Some head) = IsFoundHead text head
 
 -- a method may have this text: it is there, not too long, and has no blank at its ends

@@ -1,13 +1,13 @@
 // Adding a definition to a changes file.
 ghost use Rattle.std.specs.Prelude.{◌≡◌, ◌≤◌, ◌<◌, ◌+◌, ◌-◌, ◌^◌, ◌++◌, ◌∷◌, [], Some, None, IsTrue, IfOk, OnOk, OnErr, nat_lt, length};
-ghost use Rattle.st_host.specs.{Counts.HasCause, Runs.{Changes as ChangesFile, ChangesBoth, Makes}};
+ghost use Rattle.st_host.specs.{Counts.HasCause, Runs.{ChangesOneFile as ChangesFile, ChangesBoth, Makes}};
 ghost use Rattle.st_store.specs.{Names.{roots_file, changes_file}, Stored.{Stored, Opens, IsFirm, IsKept}};
 ghost use Rattle.st_store.specs.Faults.{RestsUnlessGate};
 ghost use Rattle.st_chunk.specs.Definitions.{IsDefinition, entry, entries};
 ghost use Rattle.st_changes.specs.{inside.Views.definition_of, inside.States.{grown, next_store, FitsBehind}};
 
 use crate::Definition;
-use crate::changes::{Changes, Ready};
+use crate::changes::{Changes, ReservedEntry};
 use crate::noting::note;
 use st_host::{Host, HostFault, write_synced};
 use st_store::{Root, Store};
@@ -68,7 +68,7 @@ impl Changes {
             host.old host.new }
         ensures cause { HasCause (H.disk_faults host.old) (H.disk_faults host.new) result }
     {
-        let Some(Ready { entry, selector }) = self.ready.take() else {
+        let Some(ReservedEntry { entry, selector }) = self.ready.take() else {
             unreachable!()
         };
         write_behind(host, &store, &entry)?;

@@ -12,7 +12,7 @@ use std::marker::Model;
 
 /// The entry of a definition that there is room for, and the definition's selector.
 #[derive(Drop)]
-pub(crate) struct Ready {
+pub(crate) struct ReservedEntry {
     pub(crate) entry: Text,
     pub(crate) selector: Option<Text>,
 }
@@ -26,7 +26,7 @@ pub struct Changes {
     pub(crate) listed: Vec<Definition>,
     pub(crate) index: Index,
     pub(crate) length: u64,
-    pub(crate) ready: Option<Ready>,
+    pub(crate) ready: Option<ReservedEntry>,
 }
 
 impl Model for Changes {
@@ -155,7 +155,7 @@ impl Changes {
         let entry = entry_text(alloc, definition)?;
         self.listed.reserve(1)?;
         prepare(alloc, &mut self.index, definition, &selector)?;
-        self.ready = Some(Ready { entry, selector });
+        self.ready = Some(ReservedEntry { entry, selector });
         Ok(())
     }
 }

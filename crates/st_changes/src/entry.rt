@@ -5,7 +5,7 @@ ghost use Rattle.st_changes.specs.Entries.{FindsHead, FindsMethod, is_text};
 ghost use Rattle.st_changes.specs.inside.FoundEntries.{FindsEntry};
 
 use crate::Definition;
-use crate::header::{Header, find_header};
+use crate::header::{GroupHeader, find_header};
 use crate::run::find_run;
 use st_scan::Text;
 use std::alloc::{AllocError, Global};
@@ -15,7 +15,7 @@ const MOST: usize = 65_536;
 
 #[derive(Drop)]
 struct Head {
-    header: Header,
+    header: GroupHeader,
     length: usize,
 }
 
@@ -95,7 +95,7 @@ pub(crate) fn find_entry(alloc: Global, text: &[u8]) -> Result<Option<Found>, Al
     let Some(method) = find_method(alloc, &text[head.length..])? else {
         return Ok(None);
     };
-    let Header {
+    let GroupHeader {
         class,
         meta,
         category,

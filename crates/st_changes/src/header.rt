@@ -10,7 +10,7 @@ use std::alloc::{AllocError, Global};
 
 /// A class, a side of it and a category.
 #[derive(Drop)]
-pub(crate) struct Header {
+pub(crate) struct GroupHeader {
     pub(crate) class: Text,
     pub(crate) meta: bool,
     pub(crate) category: Text,
@@ -31,7 +31,7 @@ fn find_side(text: &[u8]) -> Option<(bool, usize)>
 }
 
 /// The header that a text is, or none.
-pub(crate) fn find_header(alloc: Global, text: &[u8]) -> Result<Option<Header>, AllocError>
+pub(crate) fn find_header(alloc: Global, text: &[u8]) -> Result<Option<GroupHeader>, AllocError>
     ensures { IfOk result (FindsHeader text.now) }
 {
     let end = word_length(text);
@@ -50,7 +50,7 @@ pub(crate) fn find_header(alloc: Global, text: &[u8]) -> Result<Option<Header>, 
     }
     let mut class = Text::new(alloc);
     class.extend_from_slice(&text[..end])?;
-    Ok(Some(Header {
+    Ok(Some(GroupHeader {
         class,
         meta,
         category: category.bytes,

@@ -1,6 +1,6 @@
 // Reading a changes file.
 ghost use Rattle.std.specs.Prelude.{◌≡◌, All, IfOk, IfErr, OnOk, IsTrue, nat_lt, length, take, string_bytes};
-ghost use Rattle.st_host.specs.{Files.bytes_of, Runs.{ReadsAlike, OnlyReads, Changes as ChangesFile}};
+ghost use Rattle.st_host.specs.{Files.bytes_of, Runs.{ReadsAlike, OnlyReads, ChangesOneFile as ChangesFile}};
 ghost use Rattle.st_store.specs.{Names.changes_file, Refusals.FaultHasCause};
 ghost use Rattle.st_store.specs.declared.fault.StoreFault.TheVariants.{NotAStore};
 ghost use Rattle.st_store.specs.declared.fault.StorePlace.TheVariants.{Changes as ChangesPlace};

@@ -11,7 +11,7 @@ use Rattle.std.proofs.lemmas.Bool.{eqb-true, ne_eqb, leb-true, le-leb, and_parts
 use Rattle.st_chunk.proofs.Cases.{by_test}
 use Rattle.st_chunk.proofs.Reading.{by_bytes}
 use Rattle.st_chunk.specs.Texts.{mark, most, Cut, with_chunk, cut_behind, behind_mark, cut, doubled, is_blank, is_empty}
-use Rattle.st_chunk.specs.Groups.{begins, is_name, after_blanks, trimmed, word_of, behind_word, behind, behind_blanks, quotes_doubled, quoted, inside_quotes, Header, side_text, header_text, with_side, header_in, header_of, Group, Opened, closed, with_method, with_header, groups, methods}
+use Rattle.st_chunk.specs.Groups.{begins, is_name, after_blanks, trimmed, word_of, behind_word, behind, behind_blanks, quotes_doubled, quoted, inside_quotes, GroupHeader, side_text, header_text, with_side, header_in, header_of, Group, Opened, closed, with_method, with_header, groups, methods}
 use Rattle.st_chunk.specs.Definitions.{Definition, header_for, IsDefinition, line_feed, entry, method_part, entries, definitions, definitions_in}
 use Rattle.st_chunk.specs.Feeding.{start, Account, whole, too_long, with_one, account, limited, first_told}
 
@@ -137,7 +137,7 @@ inside_back (b ∷ text) =
     by_test (quote b) (λ e. quotes-pair b text (byte "'" ∷ []) e ∙ more) (λ e. quotes-other b text (byte "'" ∷ []) e ∙ more)
 
 -- a header, by its first word and what stands behind it
-abbrev by_word : List ℕ → List ℕ → Option Header
+abbrev by_word : List ℕ → List ℕ → Option GroupHeader
 by_word word rest =
     if is_name word
     then option_and_then (λ others. with_side word others (option_and_then behind_blanks (behind (codes "class") others))) (behind_blanks rest)
@@ -164,7 +164,7 @@ last_quote xs ys text =
     ap (λ (x : List ℕ). begins is_blank (reverse x)) (sym (append_assoc xs ys (byte "'" ∷ (text ++ byte "'" ∷ []))) ∙ sym (append_assoc (xs ++ ys) (byte "'" ∷ text) (byte "'" ∷ [])))
     ∙ ap (λ (x : List ℕ). begins is_blank x) (reverse-append ((xs ++ ys) ++ byte "'" ∷ text) (byte "'" ∷ []))
 
-header_read : (h : Header) → IsTrue (is_name h.class) → header_of (header_text h) ≡ Some h
+header_read : (h : GroupHeader) → IsTrue (is_name h.class) → header_of (header_text h) ≡ Some h
 header_read h named =
     let first = name_first h.class (side_text h.meta ++ (codes " methodsFor: " ++ quoted h.category)) named in
     let front : begins is_blank (header_text h) ≡ false = ap (begins is_blank) first.2 ∙ not_blank first.0 first.3 in
@@ -190,7 +190,7 @@ one_group d before cs gs is e more =
     let inside : methods ((line_feed ∷ d.text) ∷ (32 ∷ []) ∷ cs) ≡ Some (record { methods = d.text ∷ []; groups = gs }) =
     rw (not_empty d.text is.there is.front) (ap (λ (o : Option (List Group)). option_map (with_method (trimmed d.text)) (option_map closed o)) more ∙ ap (λ (x : List ℕ). Some (record { methods = x ∷ []; groups = gs })) text) in
     rw e (ap (λ (o : Option Opened). option_and_then (λ x. option_map (with_header x) (header_of (header_text (header_for d)))) o) inside
-    ∙ ap (λ (o : Option Header). option_map (with_header (record { methods = d.text ∷ []; groups = gs })) o) (header_read (header_for d) is.named))
+    ∙ ap (λ (o : Option GroupHeader). option_map (with_header (record { methods = d.text ∷ []; groups = gs })) o) (header_read (header_for d) is.named))
 
 abbrev groups_for : List Definition → List Group
 groups_for [] = []

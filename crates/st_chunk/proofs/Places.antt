@@ -10,7 +10,7 @@ use Rattle.st_chunk.specs.declared.cutting.Fed.{Fed}
 use Rattle.st_chunk.specs.declared.cutting.Fed.TheVariants as answers
 use Rattle.st_chunk.specs.Texts.{mark, most, is_blank, is_empty}
 use Rattle.st_chunk.specs.Feeding.{State, fed, finished, carried_from, answer, last_answer}
-use Rattle.st_chunk.specs.Groups.{Header, header_of}
+use Rattle.st_chunk.specs.Groups.{GroupHeader, header_of}
 use Rattle.st_chunk.specs.declared.request.Request.{Request}
 use Rattle.st_chunk.specs.declared.request.Request.TheVariants.{Run, Trace, Input, Mouse, Clock, Tick, State as ShowState, Used, Stack, Snapshot, Browse, End, Define, Wrong}
 use Rattle.st_chunk.specs.Asks.{Ask}
@@ -215,7 +215,7 @@ blanks_right r here b =
 behind_blanks_right : (r : Reading) (here b : ℕ) → IsRight (behind_blanks_byte r here b)
 behind_blanks_right r here b = if_right (b == mark) (wrong r here) (wrong r r.start) (stopped r here) (stopped r r.start)
 
-header_ended_right : (r : Reading) (here b : ℕ) (t : State) (o : Option Header) → length t.bytes ≤ most → header_of t.bytes ≡ o → IsRight (header_ended r here b o)
+header_ended_right : (r : Reading) (here b : ℕ) (t : State) (o : Option GroupHeader) → length t.bytes ≤ most → header_of t.bytes ≡ o → IsRight (header_ended r here b o)
 header_ended_right r here b t None short e = stopped r r.start
 header_ended_right r here b t (Some h) short e = moved (InMethods h (begun b)) r.line here (heading_sound t.bytes h short e, begun_short b)
 
@@ -224,12 +224,12 @@ header_right r here s b t answers.More short = moved (InHeader t) r.line (start_
 header_right r here s b t answers.Chunk short = header_ended_right r here b t (header_of t.bytes) short refl
 header_right r here s b t answers.Long short = too_long_right r here t b
 
-method_ended_right : (r : Reading) (here : ℕ) (h : Header) (b : ℕ) (t : State) → IsHeading h → length t.bytes ≤ most → IsRight (method_ended r here h b t)
+method_ended_right : (r : Reading) (here : ℕ) (h : GroupHeader) (b : ℕ) (t : State) → IsHeading h → length t.bytes ≤ most → IsRight (method_ended r here h b t)
 method_ended_right r here h b t heading short = by_test (is_empty t.bytes)
     (λ e. rw e (line_right (record r { start = here }) [] b))
     (λ e. rw e (record { sound = (heading, method_sound h t heading short e); browsed = never; defined = λ d. tt; range = tt }))
 
-method_right : (r : Reading) (here : ℕ) (h : Header) (s : State) (b : ℕ) (t : State) (f : Fed) → IsHeading h → length t.bytes ≤ most → IsRight (method_told r here h s b t f)
+method_right : (r : Reading) (here : ℕ) (h : GroupHeader) (s : State) (b : ℕ) (t : State) (f : Fed) → IsHeading h → length t.bytes ≤ most → IsRight (method_told r here h s b t f)
 method_right r here h s b t answers.More heading short = moved (InMethods h t) r.line (start_with r here s t) (heading, short)
 method_right r here h s b t answers.Chunk heading short = method_ended_right r here h b t heading short
 method_right r here h s b t answers.Long heading short = too_long_right r here t b
@@ -261,7 +261,7 @@ read_right r b sound = byte_right r.place (record r { line = line_behind b r.lin
 
 -- THE END
 
-last_right : (r : Reading) (o : Option Header) → IsRight (last_header r o)
+last_right : (r : Reading) (o : Option GroupHeader) → IsRight (last_header r o)
 last_right r None = stopped r r.start
 last_right r (Some h) = stopped r r.line
 
@@ -270,7 +270,7 @@ header_end_right r s answers.Chunk = last_right r (header_of s.bytes)
 header_end_right r s answers.More = stopped r r.start
 header_end_right r s answers.Long = stopped r r.start
 
-method_end_right : (r : Reading) (h : Header) (s : State) (f : Fed) → IsHeading h → length s.bytes ≤ most → IsRight (method_at_end r h s f)
+method_end_right : (r : Reading) (h : GroupHeader) (s : State) (f : Fed) → IsHeading h → length s.bytes ≤ most → IsRight (method_at_end r h s f)
 method_end_right r h s answers.Chunk heading short = by_test (is_empty s.bytes)
     (λ e. rw e (silent (over r) None tt refl))
     (λ e. rw e (record { sound = (heading, method_sound h (finished s) heading short e); browsed = never; defined = λ d. tt; range = tt }))

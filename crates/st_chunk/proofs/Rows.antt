@@ -2,7 +2,7 @@
 use Rattle.std.proofs.Common.{◌≡◌, ℕ, true, false, List, [], ◌∷◌, length, refl}
 use Rattle.std.specs.Prelude.{codes, Some, None}
 use Rattle.st_chunk.specs.Texts.{cut, is_empty}
-use Rattle.st_chunk.specs.Groups.{Header, header_of, groups}
+use Rattle.st_chunk.specs.Groups.{GroupHeader, header_of, groups}
 use Rattle.st_chunk.specs.Definitions.{Definition, entry}
 
 two_chunks : cut (codes "a!b!!c! ") ≡ record { chunks = codes "a" ∷ codes "b!c" ∷ []; rest = codes " " }
@@ -26,10 +26,10 @@ empty_chunks = refl
 blank_chunk : is_empty (codes " \t\n") ≡ true
 blank_chunk = refl
 
-abbrev header : List ℕ → List ℕ → Header
+abbrev header : List ℕ → List ℕ → GroupHeader
 header class category = record { class = class; meta = false; category = category }
 
-abbrev class_header : List ℕ → List ℕ → Header
+abbrev class_header : List ℕ → List ℕ → GroupHeader
 class_header class category = record { class = class; meta = true; category = category }
 
 one_header : header_of (codes "Point methodsFor: 'accessing'") ≡ Some (header (codes "Point") (codes "accessing"))

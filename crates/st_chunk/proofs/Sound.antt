@@ -7,7 +7,7 @@ use Rattle.std.proofs.lemmas.List.{reverse-append, reverse-reverse, length-rever
 use Rattle.std.proofs.lemmas.List.Folds.{list_all-append}
 use Rattle.st_chunk.specs.Texts.{most, is_blank, is_empty}
 use Rattle.st_chunk.specs.Feeding.{State}
-use Rattle.st_chunk.specs.Groups.{begins, is_name, after_blanks, trimmed, word_of, behind_word, behind, behind_blanks, quotes_doubled, inside_quotes, behind_quote, unquoted, Header, side_text, header_text, with_category, with_side, header_in, header_of}
+use Rattle.st_chunk.specs.Groups.{begins, is_name, after_blanks, trimmed, word_of, behind_word, behind, behind_blanks, quotes_doubled, inside_quotes, behind_quote, unquoted, GroupHeader, side_text, header_text, with_category, with_side, header_in, header_of}
 use Rattle.st_chunk.specs.Definitions.{IsDefinition}
 use Rattle.st_chunk.specs.Scripts.{method_of, IsHeading}
 use Rattle.st_chunk.specs.inside.Headings.{class_side_in, category_in}
@@ -73,13 +73,13 @@ mutual
       (λ f. let g = rw f at e in absurd cc)
 
 -- what is said of a header's parts
-record IsPart (class t : List ℕ) (h : Header) (n : ℕ) : Type 0 where
+record IsPart (class t : List ℕ) (h : GroupHeader) (n : ℕ) : Type 0 where
   is : h.class ≡ class
   long : n + length (quotes_doubled h.category) ≤ length t
 
-category_part : (class : List ℕ) (meta : Bool) (t : List ℕ) (h : Header) → with_category class meta t ≡ Some h → IsPart class t h 14 × (h.meta ≡ meta)
+category_part : (class : List ℕ) (meta : Bool) (t : List ℕ) (h : GroupHeader) → with_category class meta t ≡ Some h → IsPart class t h 14 × (h.meta ≡ meta)
 category_part class meta t h e =
-    let m = mapped (λ (c : List ℕ). let made : Header = record { class = class; meta = meta; category = c } in made) (option_and_then unquoted (option_and_then behind_blanks (behind (codes "methodsFor:") t))) h e in
+    let m = mapped (λ (c : List ℕ). let made : GroupHeader = record { class = class; meta = meta; category = c } in made) (option_and_then unquoted (option_and_then behind_blanks (behind (codes "methodsFor:") t))) h e in
     let v = and_then unquoted (option_and_then behind_blanks (behind (codes "methodsFor:") t)) m.0 m.1 in
     let u = and_then behind_blanks (behind (codes "methodsFor:") t) v.0 v.1 in
     let q = and_then inside_quotes (behind (codes "'") v.0) m.0 v.2 in
@@ -87,9 +87,9 @@ category_part class meta t h e =
     let second = blanks_short u.0 v.0 u.2 in
     let third = behind_long (codes "'") v.0 q.0 q.1 in
     let fourth = inside_long q.0 m.0 q.2 in
-    (subst (λ (x : Header). IsPart class t x 14) m.2 (record { is = refl; long = omega arith }), sym (ap (λ (x : Header). x.meta) m.2))
+    (subst (λ (x : GroupHeader). IsPart class t x 14) m.2 (record { is = refl; long = omega arith }), sym (ap (λ (x : GroupHeader). x.meta) m.2))
 
-side_part : (class others : List ℕ) (o : Option (List ℕ)) (h : Header) → class_side_in others ≡ o → with_side class others o ≡ Some h → IsPart class others h (length (side_text h.meta) + 14)
+side_part : (class others : List ℕ) (o : Option (List ℕ)) (h : GroupHeader) → class_side_in others ≡ o → with_side class others o ≡ Some h → IsPart class others h (length (side_text h.meta) + 14)
 side_part class others None h e f =
     let p = category_part class false others h f in
     record { is = p.0.is; long = rw p.1 (omega (arith, p.0.long)) }
@@ -108,7 +108,7 @@ side_long meta class category =
     let c = length-append class (side_text meta ++ (codes " methodsFor: " ++ (39 ∷ (quotes_doubled category ++ 39 ∷ [])))) in
     omega (arith, q, s, c)
 
-header_part : (t : List ℕ) (h : Header) → header_in t ≡ Some h → IsTrue (is_name h.class) × (length (header_text h) ≤ length t)
+header_part : (t : List ℕ) (h : GroupHeader) → header_in t ≡ Some h → IsTrue (is_name h.class) × (length (header_text h) ≤ length t)
 header_part t h e = by_test (is_name (word_of t))
     (λ n.
     let g = rw n at e in
@@ -125,7 +125,7 @@ trimmed_short t =
     let u = after_blanks t in
     omega (arith, length-reverse (after_blanks (reverse u)), after_short (reverse u), length-reverse u, after_short t)
 
-pub heading_sound : (chunk : List ℕ) (h : Header) → length chunk ≤ most → header_of chunk ≡ Some h → IsHeading h
+pub heading_sound : (chunk : List ℕ) (h : GroupHeader) → length chunk ≤ most → header_of chunk ≡ Some h → IsHeading h
 heading_sound chunk h short e =
     let p = header_part (trimmed chunk) h e in
     record { named = p.0; short = omega (arith, p.1, trimmed_short chunk) }
@@ -187,7 +187,7 @@ front_kept u e =
     let whole : reverse (after_blanks (reverse u)) ++ reverse s.0 ≡ u = sym (reverse-append s.0 (after_blanks (reverse u))) ∙ ap (λ (x : List ℕ). reverse x) s.1 ∙ reverse-reverse u in
     first_kept (reverse (after_blanks (reverse u))) (reverse s.0) (ap (begins is_blank) whole ∙ e)
 
-pub method_sound : (h : Header) (s : State) → IsHeading h → length s.bytes ≤ most → is_empty s.bytes ≡ false → IsDefinition (method_of h s)
+pub method_sound : (h : GroupHeader) (s : State) → IsHeading h → length s.bytes ≤ most → is_empty s.bytes ≡ false → IsDefinition (method_of h s)
 method_sound h s heading short there =
     let u = after_blanks s.bytes in
     let front = after_begins s.bytes in

@@ -1,8 +1,8 @@
 -- What a line asks to look at.
 use Rattle.std.specs.Prelude.{ℕ, Bool, true, false, List}
-use Rattle.st_chunk.specs.declared.ask.Side.{Side as DeclaredSide}
-use Rattle.st_chunk.specs.declared.ask.Ask.{Ask as DeclaredAsk}
-use Rattle.st_chunk.specs.declared.ask.Ask.TheVariants as declared
+use Rattle.st_chunk.specs.declared.ask.LentSide.{LentSide as DeclaredSide}
+use Rattle.st_chunk.specs.declared.ask.LentAsk.{LentAsk as DeclaredAsk}
+use Rattle.st_chunk.specs.declared.ask.LentAsk.TheVariants as declared
 
 -- a class's name, and whether its class side is meant
 pub record Side : Type 0 where

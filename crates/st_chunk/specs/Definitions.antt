@@ -2,7 +2,7 @@
 use Rattle.std.specs.Prelude.{ℕ, ◌≤◌, Bool, List, [], ◌∷◌, ◌++◌, length, reverse, map, IsTrue, IsFalse, Option, codes}
 use Rattle.std.specs.Option.{option_map}
 use Rattle.st_chunk.specs.Texts.{mark, most, chunks, doubled, is_blank}
-use Rattle.st_chunk.specs.Groups.{begins, is_name, Header, header_text, Group, groups}
+use Rattle.st_chunk.specs.Groups.{begins, is_name, GroupHeader, header_text, Group, groups}
 
 -- a class's name, whether the method is one of the class side, its category and its text
 pub record Definition : Type 0 where
@@ -11,7 +11,7 @@ pub record Definition : Type 0 where
   pub category : List ℕ
   pub text : List ℕ
 
-abbrev pub header_for : Definition → Header
+abbrev pub header_for : Definition → GroupHeader
 header_for d = record { class = d.class; meta = d.meta; category = d.category }
 
 -- what each definition meets: the class is named by letters and digits, the text is there and has no blank at its ends,

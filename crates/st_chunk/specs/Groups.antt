@@ -73,7 +73,7 @@ unquoted text = option_and_then inside_quotes (behind (codes "'") text)
 -- HEADERS
 
 -- of a group: a class's name, whether its methods are those of the class side, and their category
-pub record Header : Type 0 where
+pub record GroupHeader : Type 0 where
   pub class : List ℕ
   pub meta : Bool
   pub category : List ℕ
@@ -83,36 +83,36 @@ side_text true = codes " class"
 side_text false = []
 
 -- with single spaces
-abbrev pub header_text : Header → List ℕ
+abbrev pub header_text : GroupHeader → List ℕ
 header_text h = h.class ++ (side_text h.meta ++ (codes " methodsFor: " ++ quoted h.category))
 
 -- methodsFor:, blanks and a string
-abbrev pub with_category : List ℕ → Bool → List ℕ → Option Header
+abbrev pub with_category : List ℕ → Bool → List ℕ → Option GroupHeader
 with_category class meta text =
     option_map (λ category. record { class = class; meta = meta; category = category })
     (option_and_then unquoted (option_and_then behind_blanks (behind (codes "methodsFor:") text)))
 
 -- what stands behind `class` and blanks, if they are there
-abbrev pub with_side : List ℕ → List ℕ → Option (List ℕ) → Option Header
+abbrev pub with_side : List ℕ → List ℕ → Option (List ℕ) → Option GroupHeader
 with_side class text (Some others) = with_category class true others
 with_side class text None = with_category class false text
 
 -- a name, blanks, maybe `class` and blanks, methodsFor:, blanks and a string
-abbrev pub header_in : List ℕ → Option Header
+abbrev pub header_in : List ℕ → Option GroupHeader
 header_in text =
     if is_name (word_of text)
     then option_and_then (λ others. with_side (word_of text) others (option_and_then behind_blanks (behind (codes "class") others))) (behind_blanks (behind_word text))
     else None
 
 -- the header that a chunk is, without the blanks round it
-abbrev pub header_of : List ℕ → Option Header
+abbrev pub header_of : List ℕ → Option GroupHeader
 header_of chunk = header_in (trimmed chunk)
 
 -- GROUPS
 
 -- a header, and the texts of its methods
 pub record Group : Type 0 where
-  pub header : Header
+  pub header : GroupHeader
   pub methods : List (List ℕ)
 
 -- the texts of methods, and the groups behind them
@@ -126,7 +126,7 @@ closed gs = record { methods = []; groups = gs }
 abbrev pub with_method : List ℕ → Opened → Opened
 with_method text o = record { methods = text ∷ o.methods; groups = o.groups }
 
-abbrev pub with_header : Opened → Header → List Group
+abbrev pub with_header : Opened → GroupHeader → List Group
 with_header o h = record { header = h; methods = o.methods } ∷ o.groups
 
 abbrev mutual

@@ -7,7 +7,7 @@ use Rattle.st_chunk.specs.declared.cutting.Fed.{Fed}
 use Rattle.st_chunk.specs.declared.cutting.Fed.TheVariants as answers
 use Rattle.st_chunk.specs.Texts.{mark, most, is_blank, is_empty}
 use Rattle.st_chunk.specs.Feeding.{State, fed, finished, carried_from, answer, last_answer}
-use Rattle.st_chunk.specs.Groups.{Header, header_of}
+use Rattle.st_chunk.specs.Groups.{GroupHeader, header_of}
 use Rattle.st_chunk.specs.declared.request.Request.{Request}
 use Rattle.st_chunk.specs.declared.request.Request.TheVariants.{End, Define, Wrong}
 use Rattle.st_chunk.specs.Asks.{Ask}
@@ -22,7 +22,7 @@ pub data Place : Type 0 where
   Browsed : Ask → Place
   Opened : Place
   InHeader : State → Place
-  InMethods Defined CutOff : Header → State → Place
+  InMethods Defined CutOff : GroupHeader → State → Place
   InBlanks BehindBlanks Over : Place
 
 -- How far a script is read. `line` is the number of the line that the next byte stands in, `start` that in which this
@@ -115,7 +115,7 @@ abbrev pub behind_blanks_byte : Reading → ℕ → ℕ → Told
 behind_blanks_byte r here b = if b == mark then wrong r here else wrong r r.start
 
 -- the header has ended, and this byte is the first behind its mark
-abbrev pub header_ended : Reading → ℕ → ℕ → Option Header → Told
+abbrev pub header_ended : Reading → ℕ → ℕ → Option GroupHeader → Told
 header_ended r here b None = wrong r r.start
 header_ended r here b (Some h) = (record { place = InMethods h (begun b); line = r.line; start = here }, None)
 
@@ -129,18 +129,18 @@ abbrev pub header_byte : Reading → ℕ → State → ℕ → Told
 header_byte r here s b = header_told r here s b (fed s b) (answer (fed s b).phase)
 
 -- a method has ended, or the empty chunk that closes the group, behind which a line begins
-abbrev pub method_ended : Reading → ℕ → Header → ℕ → State → Told
+abbrev pub method_ended : Reading → ℕ → GroupHeader → ℕ → State → Told
 method_ended r here h b t =
     if is_empty t.bytes then line_byte (record r { start = here }) [] b else
     (record { place = Defined h t; line = r.line; start = here }, Some Define)
 
-abbrev pub method_told : Reading → ℕ → Header → State → ℕ → State → Fed → Told
+abbrev pub method_told : Reading → ℕ → GroupHeader → State → ℕ → State → Fed → Told
 method_told r here h s b t answers.More = (record { place = InMethods h t; line = r.line; start = start_with r here s t }, None)
 method_told r here h s b t answers.Chunk = method_ended r here h b t
 method_told r here h s b t answers.Long = too_long r here t b
 
 -- a method has one byte more
-abbrev pub method_byte : Reading → ℕ → Header → State → ℕ → Told
+abbrev pub method_byte : Reading → ℕ → GroupHeader → State → ℕ → Told
 method_byte r here h s b = method_told r here h s b (fed s b) (answer (fed s b).phase)
 
 -- ONE BYTE
@@ -167,7 +167,7 @@ abbrev pub cut_off : Reading → Told
 cut_off r = wrong r r.start
 
 -- a header that ends with the script: the chunk behind it is cut off, and starts at the end
-abbrev pub last_header : Reading → Option Header → Told
+abbrev pub last_header : Reading → Option GroupHeader → Told
 last_header r None = wrong r r.start
 last_header r (Some h) = wrong r r.line
 
@@ -176,7 +176,7 @@ header_at_end r s answers.Chunk = last_header r (header_of s.bytes)
 header_at_end r s other = cut_off r
 
 -- a method that ends with the script is asked for before the chunk behind it is cut off
-abbrev pub method_at_end : Reading → Header → State → Fed → Told
+abbrev pub method_at_end : Reading → GroupHeader → State → Fed → Told
 method_at_end r h s answers.Chunk =
     if is_empty s.bytes then (over r, None) else
     (record { place = CutOff h (finished s); line = r.line; start = r.line }, Some Define)

@@ -3,7 +3,7 @@ use Rattle.std.specs.Prelude.{◌≡◌, ℕ, ◌+◌, ◌≤◌, ◌==◌, true
 use Rattle.std.specs.List.{list_all}
 use Rattle.st_chunk.specs.Texts.{mark, most}
 use Rattle.st_chunk.specs.Feeding.{State}
-use Rattle.st_chunk.specs.Groups.{begins, is_name, trimmed, Header, header_text}
+use Rattle.st_chunk.specs.Groups.{begins, is_name, trimmed, GroupHeader, header_text}
 use Rattle.st_chunk.specs.Definitions.{Definition, IsDefinition, line_feed}
 use Rattle.st_chunk.specs.declared.request.Request.{Request}
 use Rattle.st_chunk.specs.declared.request.Request.TheVariants.{Browse, Define}
@@ -12,7 +12,7 @@ use Rattle.st_chunk.specs.Lines.{without_return}
 use Rattle.st_chunk.specs.Reading.{Place, Browsed, InHeader, InMethods, Defined, CutOff, Reading, line_from, line_behind, Told, line_ended, read, end_read}
 
 -- the definition that a method's chunk is, below this header
-abbrev pub method_of : Header → State → Definition
+abbrev pub method_of : GroupHeader → State → Definition
 method_of h s = record { class = h.class; meta = h.meta; category = h.category; text = trimmed s.bytes }
 
 -- something was asked to be looked at last
@@ -91,7 +91,7 @@ line_read n text = line_ended (record (line_from n) { line = line_behind line_fe
 -- WHAT A DEFINITION MEETS
 
 -- a header whose definitions may be stored
-pub record IsHeading (h : Header) : Type 0 where
+pub record IsHeading (h : GroupHeader) : Type 0 where
   pub named : IsTrue (is_name h.class)
   pub short : length (header_text h) ≤ most
 

@@ -1,6 +1,6 @@
 /// A class's side.
 #[derive(Clone, Copy)]
-pub struct Side<'a> {
+pub struct LentSide<'a> {
     /// The name of the class: letters and digits, a letter first.
     pub class: &'a [u8],
     /// Whether the class side is meant.
@@ -9,7 +9,7 @@ pub struct Side<'a> {
 
 /// What a line asks to look at. A selector is any word: a byte or more, and no space.
 #[derive(Clone, Copy)]
-pub enum Ask<'a> {
+pub enum LentAsk<'a> {
     /// `object ID`: the object of this pointer, which is even and from 2 to 65534.
     Object(u16),
     /// `display`: the Form that is shown.
@@ -17,13 +17,13 @@ pub enum Ask<'a> {
     /// `classes`: the names of all classes.
     Classes,
     /// `methods C`: the selectors of a class's methods.
-    Methods(Side<'a>),
+    Methods(LentSide<'a>),
     /// `source C S`: the text of a class's method of this selector.
-    Source(Side<'a>, &'a [u8]),
+    Source(LentSide<'a>, &'a [u8]),
     /// `bytecodes C S`: the bytecodes of a class's method of this selector.
-    Bytecodes(Side<'a>, &'a [u8]),
+    Bytecodes(LentSide<'a>, &'a [u8]),
     /// `senders S`: the methods that send this selector.
     Senders(&'a [u8]),
     /// `until N C S`: the first bytecode of a class's method of this selector, within so many cycles, at most 1,000,000,000.
-    Until(u32, Side<'a>, &'a [u8]),
+    Until(u32, LentSide<'a>, &'a [u8]),
 }

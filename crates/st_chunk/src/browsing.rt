@@ -8,7 +8,7 @@ ghost use Rattle.st_chunk.specs.Asks.{side_of, ask_of};
 ghost use Rattle.st_chunk.specs.Lines.{word_end, first_word, arguments, pointer_in, selector_in, class_in, side_in, method_in, until_in};
 ghost use Rattle.st_chunk.specs.Lines.{ask_with, ask_alone, line_ask};
 
-use crate::ask::{Ask, Side};
+use crate::ask::{LentAsk, LentSide};
 use crate::line::{arguments, first_word, read_number, word_end};
 
 /// An object's pointer: an even number from 2 to 65534.
@@ -58,68 +58,68 @@ fn class_in(text: &[u8]) -> Option<&[u8]>
 }
 
 /// A class's side: `NAME`, or `NAME class`.
-fn side_in(text: &[u8]) -> Option<Side<'_>>
+fn side_in(text: &[u8]) -> Option<LentSide<'_>>
     ensures { option_map side_of result ≡ side_in text.now }
 {
     let class = class_in(text)?;
     let Some(word) = arguments(text) else {
-        return Some(Side { class, meta: false });
+        return Some(LentSide { class, meta: false });
     };
     if word == b"class".as_slice() {
-        Some(Side { class, meta: true })
+        Some(LentSide { class, meta: true })
     } else {
         None
     }
 }
 
 /// A class's side and a selector: `NAME S`, or `NAME class S`.
-fn method_in(text: &[u8]) -> Option<(Side<'_>, &[u8])>
+fn method_in(text: &[u8]) -> Option<(LentSide<'_>, &[u8])>
     ensures { option_map (λ m. (side_of m.0, m.1.now)) result ≡ method_in text.now }
 {
     let class = class_in(text)?;
     let others = arguments(text)?;
     let Some(behind) = arguments(others) else {
         let selector = selector_in(others)?;
-        return Some((Side { class, meta: false }, selector));
+        return Some((LentSide { class, meta: false }, selector));
     };
     if first_word(others) == b"class".as_slice() {
         let selector = selector_in(behind)?;
-        Some((Side { class, meta: true }, selector))
+        Some((LentSide { class, meta: true }, selector))
     } else {
         None
     }
 }
 
 /// A method to run up to, within so many cycles: `N NAME S`, or `N NAME class S`.
-fn until_in(text: &[u8]) -> Option<Ask<'_>>
+fn until_in(text: &[u8]) -> Option<LentAsk<'_>>
     ensures { option_map ask_of result ≡ until_in text.now }
 {
     let cycles = read_number(1_000_000_000, first_word(text))?;
     let (side, selector) = method_in(arguments(text)?)?;
-    Some(Ask::Until(cycles, side, selector))
+    Some(LentAsk::Until(cycles, side, selector))
 }
 
 /// What a line of a word and its arguments asks to look at.
 #[tactic(auto, unfolding(crate::specs::Lines::ask_with))]
-fn ask_with<'a>(word: &[u8], text: &'a [u8]) -> Option<Ask<'a>>
+fn ask_with<'a>(word: &[u8], text: &'a [u8]) -> Option<LentAsk<'a>>
     ensures { option_map ask_of result ≡ ask_with word.now text.now }
 {
     if word == b"object".as_slice() {
-        return Some(Ask::Object(pointer_in(text)?));
+        return Some(LentAsk::Object(pointer_in(text)?));
     }
     if word == b"methods".as_slice() {
-        return Some(Ask::Methods(side_in(text)?));
+        return Some(LentAsk::Methods(side_in(text)?));
     }
     if word == b"source".as_slice() {
         let (side, selector) = method_in(text)?;
-        return Some(Ask::Source(side, selector));
+        return Some(LentAsk::Source(side, selector));
     }
     if word == b"bytecodes".as_slice() {
         let (side, selector) = method_in(text)?;
-        return Some(Ask::Bytecodes(side, selector));
+        return Some(LentAsk::Bytecodes(side, selector));
     }
     if word == b"senders".as_slice() {
-        return Some(Ask::Senders(selector_in(text)?));
+        return Some(LentAsk::Senders(selector_in(text)?));
     }
     if word == b"until".as_slice() {
         return until_in(text);
@@ -129,21 +129,21 @@ fn ask_with<'a>(word: &[u8], text: &'a [u8]) -> Option<Ask<'a>>
 
 /// What a line of one word asks to look at.
 #[tactic(auto, unfolding(crate::specs::Lines::ask_alone))]
-fn ask_alone(word: &[u8]) -> Option<Ask<'_>>
+fn ask_alone(word: &[u8]) -> Option<LentAsk<'_>>
     ensures { option_map ask_of result ≡ ask_alone word.now }
 {
     if word == b"display".as_slice() {
-        return Some(Ask::Display);
+        return Some(LentAsk::Display);
     }
     if word == b"classes".as_slice() {
-        return Some(Ask::Classes);
+        return Some(LentAsk::Classes);
     }
     None
 }
 
 /// What a line asks to look at, if it does.
 #[tactic(auto, unfolding(crate::specs::Lines::line_ask))]
-pub(crate) fn line_ask(text: &[u8]) -> Option<Ask<'_>>
+pub(crate) fn line_ask(text: &[u8]) -> Option<LentAsk<'_>>
     ensures { option_map ask_of result ≡ line_ask text.now }
 {
     let word = first_word(text);

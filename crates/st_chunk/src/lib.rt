@@ -16,13 +16,13 @@ mod reader;
 mod request;
 mod script_laws;
 
-pub use ask::{Ask, Side};
+pub use ask::{LentAsk, LentSide};
 pub use buffer::Buffer;
 pub use cutting::{Chunks, Fed};
 pub use doubling::doubled;
 pub use heading::{Heading, after_blanks, read_heading, trimmed, word_length};
 pub use laws::{chunks_by_bytes, entries_read_back, method_read_back, whole_text};
 pub use line::{is_blank, is_empty, read_number};
-pub use reader::{Definition, Reader};
+pub use reader::{LentDefinition, Reader};
 pub use request::Request;
 pub use script_laws::lines_by_bytes;

@@ -6,7 +6,7 @@ ghost use Rattle.st_chunk.specs.Lines.{IsInRange};
 ghost use Rattle.st_chunk.specs.Reading.{line_from, read, end_read};
 ghost use Rattle.st_chunk.specs.Scripts.{IsBrowsed, HasAsk, IsDefined, HasDefinition};
 
-use crate::ask::Ask;
+use crate::ask::LentAsk;
 use crate::browsing::line_ask;
 use crate::buffer::Buffer;
 use crate::chunk::Chunk;
@@ -18,7 +18,7 @@ use std::marker::Model;
 
 /// A method of a group, in the reader's memory.
 #[derive(Clone, Copy)]
-pub struct Definition<'a> {
+pub struct LentDefinition<'a> {
     /// The name of the class.
     pub class: &'a [u8],
     /// Whether it is a method of the class side.
@@ -93,7 +93,7 @@ impl Reader {
 
     /// What was asked to be looked at, until the next byte.
     #[tactic(auto, using(crate::proofs::Held::held))]
-    pub fn ask(&self) -> Ask<'_>
+    pub fn ask(&self) -> LentAsk<'_>
         requires { IsBrowsed self.now.place }
         ensures { HasAsk self.now.place (ask_of result) }
     {
@@ -101,14 +101,14 @@ impl Reader {
     }
 
     /// The definition that was asked for, until the next byte.
-    pub fn definition(&self) -> Definition<'_>
+    pub fn definition(&self) -> LentDefinition<'_>
         requires { IsDefined self.now.place }
         ensures is { HasDefinition self.now.place (definition_of result) }
         ensures good { IsDefinition (definition_of result) }
     {
         let progress = &self.progress;
         let text = progress.text.as_slice();
-        Definition {
+        LentDefinition {
             class: &text[..progress.class_length],
             meta: progress.meta,
             category: &text[progress.class_length..],

@@ -2,7 +2,7 @@
 use Rattle.std.proofs.Common.{◌≡◌, ℕ, ◌+◌, ◌*◌, List, length, Option, sym, ap, ◌∙◌}
 use Rattle.std.proofs.lemmas.List.{length-map}
 use Rattle.st_scan.specs.Views.{MethodView}
-use Rattle.st_emit.specs.declared.step.Step.{Step}
+use Rattle.st_emit.specs.declared.instruction.Instruction.{Instruction}
 use Rattle.st_emit.specs.declared.level.Level.{Level}
 use Rattle.st_emit.specs.Names.{NamesView}
 use Rattle.st_emit.specs.Literals.{LiteralView}
@@ -16,7 +16,7 @@ use Rattle.st_code.specs.inside.MethodDrafts.{IsWhole, header_of}
 use Rattle.st_code.proofs.ShortCode.{simple_by_nodes}
 
 -- what a method's instructions say of it
-pub simple_steps : (tree : MethodView) (names : NamesView) (ss : List Step) → ss ≡ steps tree names → simple_by ss ≡ simple (body tree names).part
+pub simple_steps : (tree : MethodView) (names : NamesView) (ss : List Instruction) → ss ≡ steps tree names → simple_by ss ≡ simple (body tree names).part
 simple_steps tree names ss e = ap simple_by e ∙ simple_by_nodes (body tree names).part
 
 abbrev head : MethodView → Option Simple → ℕ → Level → ℕ → ℕ

@@ -1,10 +1,10 @@
 -- A method's instructions say whether it is simple, as its nodes do: every other one has more instructions.
 use Rattle.std.proofs.Common.{◌≡◌, ◌≤◌, Bool, List, [], ◌∷◌, ◌++◌, length, None, refl, arith}
 use Rattle.std.proofs.lemmas.List.{length-append}
-use Rattle.st_emit.specs.declared.step.Constant.TheVariants.{Receiver, True, False, Nil, Context}
-use Rattle.st_emit.specs.declared.step.Place.TheVariants.{Field, Temporary, Literal, Shared}
-use Rattle.st_emit.specs.declared.step.Step.{Step}
-use Rattle.st_emit.specs.declared.step.Step.TheVariants.{PushConstant, Store, PopStore, Pop}
+use Rattle.st_emit.specs.declared.instruction.Constant.TheVariants.{Receiver, True, False, Nil, Context}
+use Rattle.st_emit.specs.declared.instruction.InstructionOperand.TheVariants.{Field, Temporary, Literal, Shared}
+use Rattle.st_emit.specs.declared.instruction.Instruction.{Instruction}
+use Rattle.st_emit.specs.declared.instruction.Instruction.TheVariants.{PushConstant, Store, PopStore, Pop}
 use Rattle.st_emit.specs.declared.form.TwoSided.TheVariants.{TrueFirst, FalseFirst}
 use Rattle.st_emit.specs.Nodes.{Node, Body, nothing, last, next, returned, Messages, only, also}
 use Rattle.st_emit.specs.Nodes as nodes
@@ -14,19 +14,19 @@ use Rattle.st_code.specs.inside.Simple.{simple_by}
 
 -- SOME INSTRUCTIONS
 
-some_behind : (xs ys : List Step) → 1 ≤ length ys → 1 ≤ length (xs ++ ys)
+some_behind : (xs ys : List Instruction) → 1 ≤ length ys → 1 ≤ length (xs ++ ys)
 some_behind xs ys h = omega (arith, length-append xs ys)
 
-two_behind : (xs ys : List Step) → 2 ≤ length ys → 2 ≤ length (xs ++ ys)
+two_behind : (xs ys : List Instruction) → 2 ≤ length ys → 2 ≤ length (xs ++ ys)
 two_behind xs ys h = omega (arith, length-append xs ys)
 
-cons_behind : (xs : List Step) (y : Step) (ys : List Step) → 1 ≤ length (xs ++ y ∷ ys)
+cons_behind : (xs : List Instruction) (y : Instruction) (ys : List Instruction) → 1 ≤ length (xs ++ y ∷ ys)
 cons_behind xs y ys = some_behind xs (y ∷ ys) (omega arith)
 
-one_more : (xs : List Step) (y : Step) → 1 ≤ length xs → 2 ≤ length (xs ++ y ∷ [])
+one_more : (xs : List Instruction) (y : Instruction) → 1 ≤ length xs → 2 ≤ length (xs ++ y ∷ [])
 one_more xs y h = omega (arith, length-append xs (y ∷ []))
 
-two_of : (xs ys : List Step) → 1 ≤ length xs → 1 ≤ length ys → 2 ≤ length (xs ++ ys)
+two_of : (xs ys : List Instruction) → 1 ≤ length xs → 1 ≤ length ys → 2 ≤ length (xs ++ ys)
 two_of xs ys h k = omega (arith, length-append xs ys)
 
 messages_some : (above : Bool) (ms : Messages) → 1 ≤ length (messages_code above ms)
@@ -34,7 +34,7 @@ messages_some above (only s ns) = cons_behind _ _ _
 messages_some above (also s ns ms) = omega arith
 
 -- a value of more than one instruction, whatever stands behind it
-choice_two : (xs first second : List Step) (on over : Step) → 2 ≤ length (xs ++ on ∷ (first ++ over ∷ second))
+choice_two : (xs first second : List Instruction) (on over : Instruction) → 2 ≤ length (xs ++ on ∷ (first ++ over ∷ second))
 choice_two xs first second on over = two_behind xs (on ∷ (first ++ over ∷ second)) (omega (arith, length-append first (over ∷ second)))
 
 value_some : (n : Node) → 1 ≤ length (code_of for_value n)
@@ -75,14 +75,14 @@ method_some (returned n) = returned_some n
 -- SIMPLE METHODS
 
 -- more than two instructions
-none_by : (xs ys : List Step) → 2 ≤ length xs → 1 ≤ length ys → simple_by (xs ++ ys) ≡ None
+none_by : (xs ys : List Instruction) → 2 ≤ length xs → 1 ≤ length ys → simple_by (xs ++ ys) ≡ None
 none_by [] ys h k = absurd (omega arith)
 none_by (x ∷ []) ys h k = absurd (omega arith)
 none_by (x ∷ y ∷ []) [] h k = absurd (omega arith)
 none_by (x ∷ y ∷ []) (z ∷ zs) h k = refl
 none_by (x ∷ y ∷ z ∷ zs) ys h k = refl
 
-none_by_end : (xs : List Step) (y : Step) → 2 ≤ length xs → simple_by (xs ++ y ∷ []) ≡ None
+none_by_end : (xs : List Instruction) (y : Instruction) → 2 ≤ length xs → simple_by (xs ++ y ∷ []) ≡ None
 none_by_end xs y h = none_by xs (y ∷ []) h (omega arith)
 
 pub simple_by_nodes : (b : Body) → simple_by (method_code b) ≡ simple b

@@ -6,9 +6,9 @@ use Rattle.st_emit.specs.Bounds.{most_literals, most_variables, small_room, larg
 use Rattle.st_code.specs.declared.fault.Fault.{Fault}
 use Rattle.st_code.specs.declared.fault.Cause.{Cause}
 use Rattle.st_code.specs.declared.fault.Cause.TheVariants.{Literals, Temporaries, Depth, Jump, Primitive, Symbols, Size}
-use Rattle.st_emit.specs.declared.step.Constant.TheVariants.{Receiver}
-use Rattle.st_emit.specs.declared.step.Place.TheVariants.{Field}
-use Rattle.st_emit.specs.declared.step.Step.{Step}
+use Rattle.st_emit.specs.declared.instruction.Constant.TheVariants.{Receiver}
+use Rattle.st_emit.specs.declared.instruction.InstructionOperand.TheVariants.{Field}
+use Rattle.st_emit.specs.declared.instruction.Instruction.{Instruction}
 use Rattle.st_emit.specs.Names.{NamesView, Scope, declared, or_else}
 use Rattle.st_emit.specs.Literals.{LiteralView, number, owner, Named}
 use Rattle.st_emit.specs.Nodes.{constant, variable, Body, nothing, returned}
@@ -68,7 +68,7 @@ primitive_number (Some n) = n.size
 abbrev pub extension : MethodView → LiteralView
 extension m = number (record { minus = false; size = length m.arguments * 256 + primitive_number m.primitive })
 
-abbrev pub last_of : MethodView → (flag : ℕ) → List Step → List LiteralView
+abbrev pub last_of : MethodView → (flag : ℕ) → List Instruction → List LiteralView
 last_of m flag steps = if flag == 7 then extension m ∷ owner ∷ [] else (if sends_super steps then owner ∷ [] else [])
 
 -- WHOLE METHODS
@@ -95,7 +95,7 @@ abbrev pub primitive_fault : Option Signed → Option Fault
 primitive_fault primitive = fault_if (not (is_primitive primitive)) Primitive
 
 -- what passes the bounds of a method
-abbrev pub bounds_fault : (literals variables : ℕ) → Level → List Step → Option Fault
+abbrev pub bounds_fault : (literals variables : ℕ) → Level → List Instruction → Option Fault
 bounds_fault literals variables depth steps =
     or_else (fault_if (nat_lt most_literals literals) Literals)
     (or_else (fault_if (nat_lt most_variables variables) Temporaries)
@@ -128,7 +128,7 @@ module _ (tree : MethodView) (names : NamesView) where
   abbrev pub body : Named Body
   body = statements_body tree.body context []
 
-  abbrev pub steps : List Step
+  abbrev pub steps : List Instruction
   steps = method_code body.part
 
   abbrev pub depth : Level

@@ -6,7 +6,7 @@ ghost use Rattle.st_emit.specs.Steps.{constant_byte, small_byte, return_byte, se
 ghost use Rattle.st_emit.specs.Steps.{long_jump, jump_bytes, bytes_of, all_bytes};
 ghost use Rattle.st_code.specs.inside.Coded.{code_view};
 
-use st_emit::{Constant, Place, Step};
+use st_emit::{Constant, Instruction, InstructionOperand};
 use st_scan::Text;
 use std::alloc::{AllocError, Global};
 
@@ -24,20 +24,20 @@ pub enum Code {
 }
 
 /// Whether an instruction, if it jumps, comes to its place.
-fn reaches(step: Step) -> bool
+fn reaches(step: Instruction) -> bool
     ensures { result ≡ reaches step }
 {
     match step {
-        Step::Jump(d) => d <= MOST_FORWARD,
-        Step::JumpIf(_, d) => d <= MOST_FORWARD,
-        Step::JumpPast(d) => d <= MOST_FORWARD,
-        Step::JumpBack(d) => d <= MOST_BACK,
+        Instruction::Jump(d) => d <= MOST_FORWARD,
+        Instruction::JumpIf(_, d) => d <= MOST_FORWARD,
+        Instruction::JumpPast(d) => d <= MOST_FORWARD,
+        Instruction::JumpBack(d) => d <= MOST_BACK,
         _ => true,
     }
 }
 
 /// Whether all jumps come to their places.
-pub fn all_reach(steps: &[Step]) -> bool
+pub fn all_reach(steps: &[Instruction]) -> bool
     ensures { result ≡ all_reach steps.now }
 {
     for step in steps {
@@ -49,11 +49,11 @@ pub fn all_reach(steps: &[Step]) -> bool
 }
 
 /// Whether a message is sent to super.
-pub fn sends_super(steps: &[Step]) -> bool
+pub fn sends_super(steps: &[Instruction]) -> bool
     ensures { result ≡ sends_super steps.now }
 {
     for step in steps {
-        if let Step::SendSuper { .. } = *step {
+        if let Instruction::SendSuper { .. } = *step {
             return true;
         }
     }
@@ -61,14 +61,14 @@ pub fn sends_super(steps: &[Step]) -> bool
 }
 
 /// What the long codes name: the type in the upper two bits, the number in the lower six.
-fn long_place(place: Place) -> u8
+fn long_place(place: InstructionOperand) -> u8
     ensures { result ≡ long_place place }
 {
     match place {
-        Place::Field(n) => (n % 64) as u8,
-        Place::Temporary(n) => 64 + (n % 64) as u8,
-        Place::Literal(n) => 128 + (n % 64) as u8,
-        Place::Shared(n) => 192 + (n % 64) as u8,
+        InstructionOperand::Field(n) => (n % 64) as u8,
+        InstructionOperand::Temporary(n) => 64 + (n % 64) as u8,
+        InstructionOperand::Literal(n) => 128 + (n % 64) as u8,
+        InstructionOperand::Shared(n) => 192 + (n % 64) as u8,
     }
 }
 
@@ -108,25 +108,25 @@ fn return_byte(constant: Constant) -> u8
 }
 
 /// A push, by one byte where the number allows.
-fn push_code(place: Place) -> Code
+fn push_code(place: InstructionOperand) -> Code
     ensures { code_view result ≡ push_bytes place }
 {
     match place {
-        Place::Field(n) if n < 16 => Code::One(n as u8),
-        Place::Temporary(n) if n < 16 => Code::One(16 + n as u8),
-        Place::Literal(n) if n < 32 => Code::One(32 + n as u8),
-        Place::Shared(n) if n < 32 => Code::One(64 + n as u8),
+        InstructionOperand::Field(n) if n < 16 => Code::One(n as u8),
+        InstructionOperand::Temporary(n) if n < 16 => Code::One(16 + n as u8),
+        InstructionOperand::Literal(n) if n < 32 => Code::One(32 + n as u8),
+        InstructionOperand::Shared(n) if n < 32 => Code::One(64 + n as u8),
         _ => Code::Two(128, long_place(place)),
     }
 }
 
 /// A store that pops, by one byte where the number allows.
-fn pop_code(place: Place) -> Code
+fn pop_code(place: InstructionOperand) -> Code
     ensures { code_view result ≡ pop_bytes place }
 {
     match place {
-        Place::Field(n) if n < 8 => Code::One(96 + n as u8),
-        Place::Temporary(n) if n < 8 => Code::One(104 + n as u8),
+        InstructionOperand::Field(n) if n < 8 => Code::One(96 + n as u8),
+        InstructionOperand::Temporary(n) if n < 8 => Code::One(104 + n as u8),
         _ => Code::Two(130, long_place(place)),
     }
 }
@@ -174,35 +174,35 @@ fn jump_code(short: u8, long: u8, d: usize) -> Code
 }
 
 /// The bytes of an instruction that comes to its place.
-fn code_of(step: Step) -> Code
+fn code_of(step: Instruction) -> Code
     requires { reaches step ≡ true }
     ensures { code_view result ≡ bytes_of step }
 {
     match step {
-        Step::Push(place) => push_code(place),
-        Step::PushConstant(constant) => Code::One(constant_byte(constant)),
-        Step::PushNumber(n) => Code::One(small_byte(n)),
-        Step::Store(place) => Code::Two(129, long_place(place)),
-        Step::PopStore(place) => pop_code(place),
-        Step::Pop => Code::One(135),
-        Step::Duplicate => Code::One(136),
-        Step::Send {
+        Instruction::Push(place) => push_code(place),
+        Instruction::PushConstant(constant) => Code::One(constant_byte(constant)),
+        Instruction::PushNumber(n) => Code::One(small_byte(n)),
+        Instruction::Store(place) => Code::Two(129, long_place(place)),
+        Instruction::PopStore(place) => pop_code(place),
+        Instruction::Pop => Code::One(135),
+        Instruction::Duplicate => Code::One(136),
+        Instruction::Send {
             arguments,
             selector,
         } => send_code(arguments, selector),
-        Step::SendSuper {
+        Instruction::SendSuper {
             arguments,
             selector,
         } => long_send(133, 134, arguments, selector),
-        Step::SendSpecial(code) => Code::One(code),
-        Step::ReturnConstant(constant) => Code::One(return_byte(constant)),
-        Step::ReturnTop => Code::One(124),
-        Step::ReturnBlock => Code::One(125),
-        Step::Jump(d) => jump_code(144, 164, d),
-        Step::JumpBack(d) => long_jump(160, MOST_BACK - d),
-        Step::JumpIf(true, d) => long_jump(168, d),
-        Step::JumpIf(false, d) => jump_code(152, 172, d),
-        Step::JumpPast(d) => long_jump(164, d),
+        Instruction::SendSpecial(code) => Code::One(code),
+        Instruction::ReturnConstant(constant) => Code::One(return_byte(constant)),
+        Instruction::ReturnTop => Code::One(124),
+        Instruction::ReturnBlock => Code::One(125),
+        Instruction::Jump(d) => jump_code(144, 164, d),
+        Instruction::JumpBack(d) => long_jump(160, MOST_BACK - d),
+        Instruction::JumpIf(true, d) => long_jump(168, d),
+        Instruction::JumpIf(false, d) => jump_code(152, 172, d),
+        Instruction::JumpPast(d) => long_jump(164, d),
     }
 }
 
@@ -218,7 +218,7 @@ fn put(bytes: &mut Text, code: Code) -> Result<(), AllocError>
 }
 
 /// The bytes of instructions that all come to their places.
-pub fn all_bytes(alloc: Global, steps: &[Step]) -> Result<Text, AllocError>
+pub fn all_bytes(alloc: Global, steps: &[Instruction]) -> Result<Text, AllocError>
     requires { all_reach steps.now ≡ true }
     ensures { IfOk result (λ bytes. bytes.items ≡ all_bytes steps.now) }
 {

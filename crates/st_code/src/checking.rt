@@ -15,7 +15,7 @@ ghost use Rattle.st_code.specs.inside.Arounds.{looked_up, walked, once_fault, bl
 
 use crate::fault::{Cause, CodeFault, Fault};
 use st_emit::{
-    Around, Frame, Variable, constant_named, inner_scope, is_among, is_declared, places_of,
+    Around, DeclaredNames, Variable, constant_named, inner_scope, is_among, is_declared, places_of,
     variable_named,
 };
 use st_scan::{Content, Element, Expression, Link, Message, Name, Signed, Statement};
@@ -75,7 +75,12 @@ fn stored(around: Around<'_>, n: &Name) -> Result<(), CodeFault>
 }
 
 /// A name that is declared may not be in scope already, nor among the first ones of its frame.
-fn once(scope: &[Frame<'_>], frame: Frame<'_>, before: usize, n: &Name) -> Result<(), CodeFault>
+fn once(
+    scope: &[DeclaredNames<'_>],
+    frame: DeclaredNames<'_>,
+    before: usize,
+    n: &Name,
+) -> Result<(), CodeFault>
     ensures { Reports (once_fault scope.now frame.entry before n.now) result }
 {
     if is_declared(scope, &n.text) {
@@ -96,7 +101,7 @@ fn once(scope: &[Frame<'_>], frame: Frame<'_>, before: usize, n: &Name) -> Resul
 }
 
 /// Names that are declared one after the other: none may be in scope already.
-pub fn declare(scope: &[Frame<'_>], frame: Frame<'_>) -> Result<(), CodeFault>
+pub fn declare(scope: &[DeclaredNames<'_>], frame: DeclaredNames<'_>) -> Result<(), CodeFault>
     ensures { Reports (declare_fault 0 (list_view frame.entry.names.now) (scope_view scope.now)) result }
 {
     let names = frame.names;
@@ -221,7 +226,7 @@ fn block(
     ensures { Reports (block_around around.entry arguments.now body.now) result }
 {
     let places = places_of(alloc, arguments)?;
-    let frame = Frame {
+    let frame = DeclaredNames {
         names: arguments,
         places: &places,
         first: 0,

@@ -9,7 +9,7 @@ ghost use Rattle.st_code.specs.Reported.{Reports};
 
 use crate::checking::{declare, statements};
 use crate::fault::CodeFault;
-use st_emit::{Around, Draft, Frame, Names, inner_scope, method_body, places_of, sum};
+use st_emit::{Around, DeclaredNames, Draft, Names, inner_scope, method_body, places_of, sum};
 use st_scan::MethodTree;
 use std::alloc::{AllocError, Global};
 
@@ -23,9 +23,9 @@ pub struct MethodDraft {
 /// A scope of the arguments and the temporaries of a method.
 fn scope_of<'f>(
     alloc: Global,
-    arguments: Frame<'f>,
-    temporaries: Frame<'f>,
-) -> Result<Vec<Frame<'f>>, AllocError>
+    arguments: DeclaredNames<'f>,
+    temporaries: DeclaredNames<'f>,
+) -> Result<Vec<DeclaredNames<'f>>, AllocError>
     ensures { IfOk result (λ s.
         scope_view s.items ≡ frame_view arguments.entry ++ frame_view temporaries.entry) }
 {
@@ -36,8 +36,8 @@ fn scope_of<'f>(
 /// The temporaries of a method, which are declared behind its arguments.
 fn declare_behind<'f>(
     alloc: Global,
-    arguments: Frame<'f>,
-    temporaries: Frame<'f>,
+    arguments: DeclaredNames<'f>,
+    temporaries: DeclaredNames<'f>,
 ) -> Result<(), CodeFault>
     ensures { Reports
         (declare_fault 0 (list_view temporaries.entry.names.now) (frame_view arguments.entry)) result }
@@ -52,7 +52,7 @@ pub fn names_fault<'t>(alloc: Global, t: &'t MethodTree, names: &'t Names) -> Re
     ensures { Reports (method_fault (names_view names.now) (method_view t.now)) result }
 {
     let argument_places = places_of(alloc, &t.arguments)?;
-    let arguments = Frame {
+    let arguments = DeclaredNames {
         names: &t.arguments,
         places: &argument_places,
         first: 0,
@@ -60,7 +60,7 @@ pub fn names_fault<'t>(alloc: Global, t: &'t MethodTree, names: &'t Names) -> Re
     };
     declare(&[], arguments)?;
     let temporary_places = places_of(alloc, &t.temporaries)?;
-    let temporaries = Frame {
+    let temporaries = DeclaredNames {
         names: &t.temporaries,
         places: &temporary_places,
         first: 0,
@@ -86,14 +86,14 @@ pub fn drafted<'t>(
 {
     let first = t.arguments.len();
     let argument_places = places_of(alloc, &t.arguments)?;
-    let arguments = Frame {
+    let arguments = DeclaredNames {
         names: &t.arguments,
         places: &argument_places,
         first: 0,
         assignable: false,
     };
     let temporary_places = places_of(alloc, &t.temporaries)?;
-    let temporaries = Frame {
+    let temporaries = DeclaredNames {
         names: &t.temporaries,
         places: &temporary_places,
         first,

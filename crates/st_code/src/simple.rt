@@ -5,7 +5,7 @@ ghost use Rattle.st_scan.specs.Views.{method_view};
 ghost use Rattle.st_code.specs.Methods.{simple_flag, flag_of, count_of};
 ghost use Rattle.st_code.specs.inside.Simple.{simple_by};
 
-use st_emit::{Constant, Place, Step};
+use st_emit::{Constant, Instruction, InstructionOperand};
 use st_scan::MethodTree;
 
 /// What a simple method returns: its receiver, or a variable of the receiver by its number.
@@ -16,12 +16,12 @@ pub enum Simple {
 }
 
 /// What a method with these instructions returns, if it does no more.
-pub fn simple_by(steps: &[Step]) -> Option<Simple>
+pub fn simple_by(steps: &[Instruction]) -> Option<Simple>
     ensures { result ≡ simple_by steps.now }
 {
     match steps {
-        [Step::ReturnConstant(Constant::Receiver)] => Some(Simple::Itself),
-        [Step::Push(Place::Field(n)), _] => Some(Simple::ItsField(*n)),
+        [Instruction::ReturnConstant(Constant::Receiver)] => Some(Simple::Itself),
+        [Instruction::Push(InstructionOperand::Field(n)), _] => Some(Simple::ItsField(*n)),
         _ => None,
     }
 }

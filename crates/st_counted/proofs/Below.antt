@@ -4,8 +4,8 @@ use Rattle.std.specs.Prelude.{◌==◌, ◌&&◌, nat_lt}
 use Rattle.std.proofs.lemmas.Bool.{cases_lt, and_parts, and_right}
 use Rattle.std.proofs.lemmas.Bool.Decides.{nat_tests}
 use Rattle.st_model.specs.Table.{Table, entry}
-use Rattle.st_heap.specs.declared.store.Store.{Store}
-use Rattle.st_heap.specs.declared.objects.Objects.{Objects}
+use Rattle.st_heap.specs.declared.store.BlockStore.{BlockStore}
+use Rattle.st_heap.specs.declared.objects.HeapObjects.{HeapObjects}
 use Rattle.st_heap.specs.inside.Tables.{objects_of}
 use Rattle.st_counted.specs.inside.Counts.{is_unused}
 use Rattle.st_counted.specs.inside.Links.{Holds, IsEnd, with_member}
@@ -64,16 +64,16 @@ below_all cs n o long = elim (cases_lt o n) [
     by_case false e g = e
 
 -- the list goes on
-pub listed_used : (s : Store) (first : ℕ) (cs : List (Option ℕ)) (k : ℕ) → is_unused cs k ≡ false → Holds s first (unused_below cs k) → Holds s first (unused_below cs (k + 1))
+pub listed_used : (s : BlockStore) (first : ℕ) (cs : List (Option ℕ)) (k : ℕ) → is_unused cs k ≡ false → Holds s first (unused_below cs k) → Holds s first (unused_below cs (k + 1))
 listed_used s first cs k used h = holds_alike s first (unused_below cs k) (unused_below cs (k + 1)) h (λ o. below_used cs k o used)
 
-pub listed_more : (s : Store) (first : ℕ) (cs : List (Option ℕ)) (k : ℕ) → is_unused cs k ≡ true → Holds s first (with_member k (unused_below cs k)) → Holds s first (unused_below cs (k + 1))
+pub listed_more : (s : BlockStore) (first : ℕ) (cs : List (Option ℕ)) (k : ℕ) → is_unused cs k ≡ true → Holds s first (with_member k (unused_below cs k)) → Holds s first (unused_below cs (k + 1))
 listed_more s first cs k unused h = holds_alike s first (with_member k (unused_below cs k)) (unused_below cs (k + 1)) h (λ o. below_more cs k o unused)
 
-pub listed_all : (s : Store) (first : ℕ) (cs : List (Option ℕ)) (n : ℕ) → length cs ≡ n → Holds s first (unused_below cs n) → Holds s first (is_unused cs)
+pub listed_all : (s : BlockStore) (first : ℕ) (cs : List (Option ℕ)) (n : ℕ) → length cs ≡ n → Holds s first (unused_below cs n) → Holds s first (is_unused cs)
 listed_all s first cs n long h = holds_alike s first (unused_below cs n) (is_unused cs) h (λ o. below_all cs n o long)
 
 -- what is first in it stands somewhere
-pub below_end : (o : Objects) (t : Table) (f : ℕ → ℕ) (cs : List (Option ℕ)) (first k : ℕ) → objects_of o ≡ t → IsTallied t f cs → Holds o.store first (unused_below cs k) → IsEnd o first
+pub below_end : (o : HeapObjects) (t : Table) (f : ℕ → ℕ) (cs : List (Option ℕ)) (first k : ℕ) → objects_of o ≡ t → IsTallied t f cs → Holds o.store first (unused_below cs k) → IsEnd o first
 below_end o t f cs first k is tally h = λ ne.
     ap (λ (u : Table). is_some (entry u first)) is ∙ (no_reference t f cs first tally (and_parts (nat_lt first k) (is_unused cs first) (first_passes o.store first (unused_below cs k) h ne)).1).0

@@ -13,7 +13,7 @@ use Rattle.st_model.proofs.Pointers.{IsWord-value_of}
 use Rattle.st_model.proofs.WholeLemmas.{whole_unit, whole_stored}
 use Rattle.st_memory.specs.inside.Copied.{with_units_in}
 use Rattle.st_cells.specs.inside.Words.{with_run}
-use Rattle.st_heap.specs.declared.objects.Objects.{Objects}
+use Rattle.st_heap.specs.declared.objects.HeapObjects.{HeapObjects}
 use Rattle.st_heap.specs.inside.Links.{SameLinks}
 use Rattle.st_heap.specs.inside.Tables.{objects_of, room_of}
 use Rattle.st_counted.specs.declared.contents.Contents.{Contents}
@@ -37,7 +37,7 @@ abbrev pub Filled : Contents → Type 0
 Filled l = record { loading : IsLoading (counted_view l); room : HasRoom l; uncounted : (k : ℕ) → count_at (numbers_of l) k ≡ None }
 
 -- the objects change, and no reference does
-pub kept_beside : (m : CountedMemory) (now : Objects) (t : Table) → objects_of now ≡ t → IsWhole (counted_view (record m.contents { objects = now })) → IsCounted t (all_roots (counted_view m.contents)) [] (numbers_of m.contents)
+pub kept_beside : (m : CountedMemory) (now : HeapObjects) (t : Table) → objects_of now ≡ t → IsWhole (counted_view (record m.contents { objects = now })) → IsCounted t (all_roots (counted_view m.contents)) [] (numbers_of m.contents)
     → room_of now ≡ room_of m.contents.objects → SameLinks m.contents.objects.store now.store → Kept (record m.contents { objects = now })
 kept_beside m now t is whole counted room links =
     let v = counted_view m.contents in
@@ -51,14 +51,14 @@ kept_beside m now t is whole counted room links =
     }
 
 -- a word or a byte is stored
-pub kept_unit : (m : CountedMemory) (now : Objects) (x : Value) (i u : ℕ) → is_live (objects_of m.contents.objects) x ≡ true → u < unit_limit (object_of (objects_of m.contents.objects) x).kind
+pub kept_unit : (m : CountedMemory) (now : HeapObjects) (x : Value) (i u : ℕ) → is_live (objects_of m.contents.objects) x ≡ true → u < unit_limit (object_of (objects_of m.contents.objects) x).kind
     → objects_of now ≡ with_unit (objects_of m.contents.objects) x i u → room_of now ≡ room_of m.contents.objects → SameLinks m.contents.objects.store now.store → Kept (record m.contents { objects = now })
 kept_unit m now x i u live small is =
     let v = counted_view m.contents in
     kept_beside m now (with_unit v.objects x i u) is (whole_unit v (counted_view (record m.contents { objects = now })) x i u m.whole live small is refl refl) (counted_unit v.objects (all_roots v) [] (numbers_of m.contents) x i u m.counted live)
 
 -- a stretch of words or bytes is written
-pub kept_run : (m : CountedMemory) (now : Objects) (o : Oop) (at : ℕ) (us : List ℕ) → is_live (objects_of m.contents.objects) (value o) ≡ true → ((j : ℕ) → get_or us j 0 < unit_limit (object_of (objects_of m.contents.objects) (value o)).kind)
+pub kept_run : (m : CountedMemory) (now : HeapObjects) (o : Oop) (at : ℕ) (us : List ℕ) → is_live (objects_of m.contents.objects) (value o) ≡ true → ((j : ℕ) → get_or us j 0 < unit_limit (object_of (objects_of m.contents.objects) (value o)).kind)
     → objects_of now ≡ changed (objects_of m.contents.objects) (o.0 / 2) (with_units (object_of (objects_of m.contents.objects) (value o)) (with_run (object_of (objects_of m.contents.objects) (value o)).units at us)) → room_of now ≡ room_of m.contents.objects
     → SameLinks m.contents.objects.store now.store → Kept (record m.contents { objects = now })
 kept_run m now o at us live small written =
@@ -78,14 +78,14 @@ kept_field m l x i y live known header word objects held head room counted liste
 }
 
 -- a loader's objects change
-pub filled : (l : CountedLoader) (now : Objects) → IsLoading (counted_view (record l.contents { objects = now })) → room_of now ≡ room_of l.contents.objects → Filled (record l.contents { objects = now })
+pub filled : (l : CountedLoader) (now : HeapObjects) → IsLoading (counted_view (record l.contents { objects = now })) → room_of now ≡ room_of l.contents.objects → Filled (record l.contents { objects = now })
 filled l now loading room = record { loading = loading; room = room ∙ l.room; uncounted = l.uncounted }
 
-pub filled_unit : (l : CountedLoader) (now : Objects) (x : Value) (i u : ℕ) → is_live (objects_of l.contents.objects) x ≡ true → u < unit_limit (object_of (objects_of l.contents.objects) x).kind
+pub filled_unit : (l : CountedLoader) (now : HeapObjects) (x : Value) (i u : ℕ) → is_live (objects_of l.contents.objects) x ≡ true → u < unit_limit (object_of (objects_of l.contents.objects) x).kind
     → objects_of now ≡ with_unit (objects_of l.contents.objects) x i u → room_of now ≡ room_of l.contents.objects → Filled (record l.contents { objects = now })
 filled_unit l now x i u live small objects = filled l now (loading_unit (counted_view l.contents) (counted_view (record l.contents { objects = now })) x i l.loading live refl refl u small objects)
 
-pub filled_field : (l : CountedLoader) (now : Objects) (x : Value) (i : ℕ) (y : Oop) → is_live (objects_of l.contents.objects) x ≡ true → IsHeader (object_of (objects_of l.contents.objects) x) i (value y) → y.0 < 65536
+pub filled_field : (l : CountedLoader) (now : HeapObjects) (x : Value) (i : ℕ) (y : Oop) → is_live (objects_of l.contents.objects) x ≡ true → IsHeader (object_of (objects_of l.contents.objects) x) i (value y) → y.0 < 65536
     → objects_of now ≡ with_stored (objects_of l.contents.objects) x i (value y) → room_of now ≡ room_of l.contents.objects → Filled (record l.contents { objects = now })
 filled_field l now x i y live header word objects =
     filled l now (loading_stored (counted_view l.contents) (counted_view (record l.contents { objects = now })) x i l.loading live refl refl (value y) header (IsWord-value_of y.0 word) objects)

@@ -6,18 +6,18 @@ use Rattle.st_model.specs.Values.{Value, Small, Ref}
 use Rattle.st_model.specs.Table.{Table, entry}
 use Rattle.st_model.specs.View.{is_live}
 use Rattle.st_memory.specs.inside.Places.{KeepsPlaces, KeepsPlacesIn}
-use Rattle.st_heap.specs.declared.objects.Objects.{Objects}
+use Rattle.st_heap.specs.declared.objects.HeapObjects.{HeapObjects}
 use Rattle.st_heap.specs.inside.Places.{SamePlaces, SameOtherPlaces, Stands}
 use Rattle.st_heap.specs.inside.Tables.{objects_of}
 use Rattle.st_counted.specs.inside.Links.{SameObjects}
 use Rattle.st_counted.proofs.Referring.{entry-set_other}
 
-pub all_stand : (o o' : Objects) → SamePlaces o.store o'.store → KeepsPlaces (Stands o) (Stands o')
+pub all_stand : (o o' : HeapObjects) → SamePlaces o.store o'.store → KeepsPlaces (Stands o) (Stands o')
 all_stand o o' same (Small n) at s = absurd s
 all_stand o o' same (Ref n) at s = same n ∙ s
 
 -- one change of links after another
-pub same_then : (o o' o'' : Objects) → SameObjects o o' → SameObjects o' o'' → SameObjects o o''
+pub same_then : (o o' o'' : HeapObjects) → SameObjects o o' → SameObjects o' o'' → SameObjects o o''
 same_then o o' o'' first second = record {
   objects = second.objects ∙ first.objects;
   room = second.room ∙ first.room;
@@ -29,7 +29,7 @@ gone [] k = refl
 gone (e ∷ t) zero = refl
 gone (e ∷ t) (suc k) = gone t k
 
-module _ (o o' : Objects) (k : ℕ) (is : objects_of o' ≡ slice_set (objects_of o) k None) where
+module _ (o o' : HeapObjects) (k : ℕ) (is : objects_of o' ≡ slice_set (objects_of o) k None) where
   left_other : (n : ℕ) → is_live (objects_of o') (Ref n) ≡ true → n ≢ k
   unfolding is_live
   left_other n live q = absurd (false≢true (sym (ap is_some (gone (objects_of o) k)) ∙ ap (λ (t : Table). is_some (entry t k)) (sym is) ∙ subst (λ m. is_some (entry (objects_of o') m) ≡ true) q live))

@@ -4,14 +4,14 @@ use Rattle.std.specs.Prelude.{◌==◌, Option, Some, None, unwrap_or}
 use mathlib.Core.Bool.{Bool-set}
 use Rattle.std.proofs.Math.Logic.{∥∥₁_elim, ∥∥₁_map}
 use Rattle.std.proofs.lemmas.List.{get_or-set_same, get_or-set_other}
-use Rattle.st_heap.specs.declared.store.Store.{Store}
+use Rattle.st_heap.specs.declared.store.BlockStore.{BlockStore}
 use Rattle.st_heap.specs.inside.Links.{next_of, before_of}
 use Rattle.st_counted.specs.inside.Links.{times, IsLinked, Listed, Holds}
 use Rattle.st_counted.specs.inside.Counts.{count_at, number_at, is_counted, is_zero, is_unused}
 use Rattle.st_counted.proofs.Linked.{same_test, other_test, test_other, begins}
 
 -- the same places pass
-pub holds_alike : (s : Store) (first : ℕ) (p q : ℕ → Bool) → Holds s first p → ((o : ℕ) → q o ≡ p o) → Holds s first q
+pub holds_alike : (s : BlockStore) (first : ℕ) (p q : ℕ → Bool) → Holds s first p → ((o : ℕ) → q o ≡ p o) → Holds s first q
 holds_alike s first p q h same = ∥∥₁_map h (λ h. record { list = h.list; chain = h.chain; exact = λ o. h.exact o ∙ ap (λ t. cond t 1 0) (sym (same o)) })
 
 pub counted_within : (cs : List (Option ℕ)) (k : ℕ) → is_counted cs k ≡ true → k < length cs
@@ -42,11 +42,11 @@ unused_set cs k o x b within e = by_case (k == o) refl
         ap is_zero (get_or-set_other cs k o x None (λ w. other_test k o q (sym w))) ∙ ap (λ t. cond t b (is_unused cs o)) (sym q)
 
 -- the list was changed with the count
-pub relisted : (s : Store) (first : ℕ) (cs : List (Option ℕ)) (k : ℕ) (x : Option ℕ) (b : Bool) → k < length cs → is_zero x ≡ b → Holds s first (λ o. cond (k == o) b (is_unused cs o)) → Holds s first (is_unused (set cs k x))
+pub relisted : (s : BlockStore) (first : ℕ) (cs : List (Option ℕ)) (k : ℕ) (x : Option ℕ) (b : Bool) → k < length cs → is_zero x ≡ b → Holds s first (λ o. cond (k == o) b (is_unused cs o)) → Holds s first (is_unused (set cs k x))
 relisted s first cs k x b within e h = holds_alike s first _ _ h (λ o. unused_set cs k o x b within e)
 
 -- the list stays where the count is 0 as before, or is not as before
-pub listed_still : (s : Store) (first : ℕ) (cs : List (Option ℕ)) (k : ℕ) (x : Option ℕ) (b : Bool) → k < length cs → is_zero x ≡ b → is_unused cs k ≡ b → Holds s first (is_unused cs) → Holds s first (is_unused (set cs k x))
+pub listed_still : (s : BlockStore) (first : ℕ) (cs : List (Option ℕ)) (k : ℕ) (x : Option ℕ) (b : Bool) → k < length cs → is_zero x ≡ b → is_unused cs k ≡ b → Holds s first (is_unused cs) → Holds s first (is_unused (set cs k x))
 listed_still s first cs k x b within e was h = relisted s first cs k x b within e (holds_alike s first _ _ h (λ o. by_case o (k == o) refl))
   where
     by_case : (o : ℕ) (t : Bool) → (k == o) ≡ t → cond (k == o) b (is_unused cs o) ≡ is_unused cs o
@@ -60,18 +60,18 @@ pub none_still : (cs : List (Option ℕ)) (k : ℕ) (x : Option ℕ) → count_a
 none_still cs k x none ne = get_or-set_other cs k 0 x None (λ e. ne (sym e)) ∙ none
 
 -- the first of the list passes
-first_of : (s : Store) (first : ℕ) (p : ℕ → Bool) → Listed s first p → first ≢ 0 → p first ≡ true
+first_of : (s : BlockStore) (first : ℕ) (p : ℕ → Bool) → Listed s first p → first ≢ 0 → p first ≡ true
 first_of s first p h ne = by_case (p first) (begins _ _ _ _ first h.list h.chain ne) (h.exact first)
   where
     by_case : (t : Bool) → 1 ≤ times first h.list → times first h.list ≡ cond t 1 0 → t ≡ true
     by_case true there e = refl
     by_case false there e = absurd (omega (arith, there, e))
 
-pub first_passes : (s : Store) (first : ℕ) (p : ℕ → Bool) → Holds s first p → first ≢ 0 → p first ≡ true
+pub first_passes : (s : BlockStore) (first : ℕ) (p : ℕ → Bool) → Holds s first p → first ≢ 0 → p first ≡ true
 first_passes s first p h ne = ∥∥₁_elim h (hlevel (Bool-set)) (λ h. first_of s first p h ne)
 
 -- where the list has no first, nothing passes
-none_of : (s : Store) (first : ℕ) (p : ℕ → Bool) (k : ℕ) → Listed s first p → first ≡ 0 → p k ≡ false
+none_of : (s : BlockStore) (first : ℕ) (p : ℕ → Bool) (k : ℕ) → Listed s first p → first ≡ 0 → p k ≡ false
 none_of s first p k h e = by_list h.list h.chain (p k) (h.exact k)
   where
     by_list : (zs : List ℕ) → IsLinked 32768 (next_of s) (before_of s) 0 first zs → (t : Bool) → times k zs ≡ cond t 1 0 → t ≡ false
@@ -79,7 +79,7 @@ none_of s first p k h e = by_list h.list h.chain (p k) (h.exact k)
     by_list [] chain false q = refl
     by_list (y ∷ ys) chain t q = absurd (chain.1 (sym chain.0 ∙ e))
 
-pub none_passes : (s : Store) (first : ℕ) (p : ℕ → Bool) (k : ℕ) → Holds s first p → first ≡ 0 → p k ≡ false
+pub none_passes : (s : BlockStore) (first : ℕ) (p : ℕ → Bool) (k : ℕ) → Holds s first p → first ≡ 0 → p k ≡ false
 none_passes s first p k h e = ∥∥₁_elim h (hlevel (Bool-set)) (λ h. none_of s first p k h e)
 
 pub nothing_counted : (n k : ℕ) → count_at (replicate n None) k ≡ None
@@ -88,7 +88,7 @@ nothing_counted (suc n) zero = refl
 nothing_counted (suc n) (suc k) = nothing_counted n k
 
 -- an empty list holds what never passes
-pub holds_nothing : (s : Store) (first : ℕ) (p : ℕ → Bool) → first ≡ 0 → ((k : ℕ) → p k ≡ false) → Listed s first p
+pub holds_nothing : (s : BlockStore) (first : ℕ) (p : ℕ → Bool) → first ≡ 0 → ((k : ℕ) → p k ≡ false) → Listed s first p
 holds_nothing s first p e none = record { list = []; chain = e; exact = λ k. ap (λ t. cond t 1 0) (sym (none k)) }
 
 pub test_of : (a b : ℕ) → a ≡ b → (a == b) ≡ true

@@ -14,7 +14,7 @@ use crate::counting::{count_store, lower, names_unused, raise};
 use crate::counts::Counts;
 use crate::links::pointer_of;
 use crate::roots::Roots;
-use st_heap::Objects;
+use st_heap::HeapObjects;
 use st_model::{Demand, Kind, Oop, RootPlace};
 use std::alloc::{AllocError, Global};
 
@@ -33,7 +33,7 @@ pub struct Head {
 #[derive(Drop)]
 pub struct Contents {
     /// The objects.
-    pub objects: Objects,
+    pub objects: HeapObjects,
     /// What is held.
     pub roots: Roots,
     /// What the head of the image said.
@@ -54,7 +54,7 @@ impl Contents {
         ensures room { IfOk result HasRoom }
         ensures head { IfOk result (λ c. c.head ≡ head) }
     {
-        let objects = Objects::new(alloc, head.capacity.words)?;
+        let objects = HeapObjects::new(alloc, head.capacity.words)?;
         let roots = Roots::new(alloc)?;
         let counts = Counts::new(alloc)?;
         Ok(Contents {
@@ -232,7 +232,7 @@ impl Contents {
 }
 
 /// Counts so many references to nil more.
-fn raise_nil(counts: &mut Counts, objects: &mut Objects, by: u32)
+fn raise_nil(counts: &mut Counts, objects: &mut HeapObjects, by: u32)
     requires listed { IsListed objects.old counts.old }
     requires counted { is_counted (counts_of counts.old) 1 ≡ true }
     requires room { number_at (counts_of counts.old) 1 + by < 4294967296 }

@@ -7,7 +7,7 @@ ghost use Rattle.st_counted.specs.inside.Contents.{counts_of};
 ghost use Rattle.st_counted.specs.inside.References.{raised_by, lowered_by};
 
 use crate::counts::Counts;
-use st_heap::Objects;
+use st_heap::HeapObjects;
 use st_model::Oop;
 
 /// Counts so many references more to what a word names, and leaves the list; a SmallInteger names nothing.
@@ -24,7 +24,7 @@ pub fn add(counts: &mut Counts, v: Oop, by: u32)
 
 /// Counts so many references more to what a word names, at least one; a SmallInteger names nothing.
 #[inline(always)]
-pub fn raise(counts: &mut Counts, objects: &mut Objects, v: Oop, by: u32)
+pub fn raise(counts: &mut Counts, objects: &mut HeapObjects, v: Oop, by: u32)
     requires some { 0 < by }
     requires counted { is_small (value v) ≡ false → is_counted (counts_of counts.old) (place v) ≡ true }
     requires room { number_at (counts_of counts.old) (place v) + by < 4294967296 }
@@ -50,7 +50,7 @@ pub fn names_unused(counts: &Counts, v: Oop) -> bool
 
 /// Counts one reference less to what a word names; a SmallInteger names nothing.
 #[inline(always)]
-pub fn lower(counts: &mut Counts, objects: &mut Objects, v: Oop)
+pub fn lower(counts: &mut Counts, objects: &mut HeapObjects, v: Oop)
     requires counted { is_small (value v) ≡ false → is_counted (counts_of counts.old) (place v) ≡ true }
     requires some { is_small (value v) ≡ false → number_at (counts_of counts.old) (place v) ≢ 0 }
     requires listed { IsListed objects.old counts.old }
@@ -66,7 +66,7 @@ pub fn lower(counts: &mut Counts, objects: &mut Objects, v: Oop)
 /// Counts what a store changes: one reference more to what it stores, and then one less to what stood there. It stands apart for
 /// objects to which nothing referred, so that a store of any other one calls nothing.
 #[inline(never)]
-pub fn count_store(counts: &mut Counts, objects: &mut Objects, new: Oop, old: Oop)
+pub fn count_store(counts: &mut Counts, objects: &mut HeapObjects, new: Oop, old: Oop)
     requires counted { is_small (value new) ≡ false → is_counted (counts_of counts.old) (place new) ≡ true }
     requires room { number_at (counts_of counts.old) (place new) + 1 < 4294967296 }
     requires listed { IsListed objects.old counts.old }

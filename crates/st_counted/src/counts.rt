@@ -6,7 +6,7 @@ ghost use Rattle.st_counted.specs.inside.Counts.{count_at, is_counted, number_at
 ghost use Rattle.st_counted.specs.inside.Slots.{counts_in, no_count};
 
 use crate::links::{link, pointer_of, unlink};
-use st_heap::Objects;
+use st_heap::HeapObjects;
 use st_model::Oop;
 use std::alloc::{AllocError, Global};
 
@@ -68,7 +68,7 @@ impl Counts {
     }
 
     /// Counts an object from now on, to which nothing refers.
-    pub fn enter(&mut self, objects: &mut Objects, k: usize)
+    pub fn enter(&mut self, objects: &mut HeapObjects, k: usize)
         requires place { k < 32768 }
         requires absent { is_counted (counts_of self.old) k ≡ false }
         requires stored { is_some (entry (objects_of objects.old) k) ≡ true }
@@ -102,7 +102,7 @@ impl Counts {
 
     /// Puts an object that is not in the list at its head. It stands apart, so that counting calls nothing where nothing is listed.
     #[inline(never)]
-    pub fn list(&mut self, objects: &mut Objects, k: usize)
+    pub fn list(&mut self, objects: &mut HeapObjects, k: usize)
         requires place { k < 32768 }
         requires stored { is_some (entry (objects_of objects.old) k) ≡ true }
         requires head { IsEnd objects.old (place self.old.first) }
@@ -115,7 +115,7 @@ impl Counts {
     }
 
     /// Counts a place to which nothing refers no more.
-    pub fn leave(&mut self, objects: &mut Objects, k: usize)
+    pub fn leave(&mut self, objects: &mut HeapObjects, k: usize)
         requires unused { is_unused (counts_of self.old) k ≡ true }
         requires listed { IsListed objects.old self.old }
         ensures listed { IsListed objects.new self.new }
@@ -128,7 +128,7 @@ impl Counts {
 
     /// Counts so many references to a place more, at least one.
     #[inline(always)]
-    pub fn raise(&mut self, objects: &mut Objects, k: usize, by: u32)
+    pub fn raise(&mut self, objects: &mut HeapObjects, k: usize, by: u32)
         requires counted { is_counted (counts_of self.old) k ≡ true }
         requires some { 0 < by }
         requires room { number_at (counts_of self.old) k + by < 4294967296 }
@@ -146,7 +146,7 @@ impl Counts {
 
     /// Counts so many references to a place less, at least one and no more than there are.
     #[inline(always)]
-    pub fn lower(&mut self, objects: &mut Objects, k: usize, by: u32)
+    pub fn lower(&mut self, objects: &mut HeapObjects, k: usize, by: u32)
         requires counted { is_counted (counts_of self.old) k ≡ true }
         requires some { 0 < by }
         requires most { by ≤ number_at (counts_of self.old) k }

@@ -7,7 +7,7 @@ ghost use Rattle.st_heap.specs.inside.Links.{next_of, before_of};
 ghost use Rattle.st_heap.specs.inside.Tables.{objects_of};
 ghost use Rattle.st_counted.specs.inside.Links.{SameObjects, Holds, IsEnd, with_member, without_member};
 
-use st_heap::Objects;
+use st_heap::HeapObjects;
 use st_model::Oop;
 
 /// The pointer of a place.
@@ -19,7 +19,7 @@ pub fn pointer_of(k: usize) -> Oop
 }
 
 /// Puts an object that is not in the list at its head, and answers the head.
-pub fn link(objects: &mut Objects, first: Oop, o: Oop) -> Oop
+pub fn link(objects: &mut HeapObjects, first: Oop, o: Oop) -> Oop
     requires stored { is_some (entry (objects_of objects.old) (place o)) ≡ true }
     requires head { IsEnd objects.old (place first) }
     ensures head { result ≡ o }
@@ -35,7 +35,7 @@ pub fn link(objects: &mut Objects, first: Oop, o: Oop) -> Oop
 
 /// Takes an object that is in the list out of it, and answers the head.
 #[inline(never)]
-pub fn unlink(objects: &mut Objects, first: Oop, o: Oop) -> Oop
+pub fn unlink(objects: &mut HeapObjects, first: Oop, o: Oop) -> Oop
     requires live { is_live (objects_of objects.old) (value o) ≡ true }
     requires next { IsEnd objects.old (next_of objects.old.store (place o)) }
     requires before { IsEnd objects.old (before_of objects.old.store (place o)) }
@@ -50,7 +50,7 @@ pub fn unlink(objects: &mut Objects, first: Oop, o: Oop) -> Oop
 }
 
 /// Has `to` follow an object, or come first where there is none, and answers the head.
-fn follow(objects: &mut Objects, first: Oop, from: Oop, to: Oop) -> Oop
+fn follow(objects: &mut HeapObjects, first: Oop, from: Oop, to: Oop) -> Oop
     requires { IsEnd objects.old (place from) }
     ensures head { result ≡ (if place from == 0 then to else first) }
     ensures rest { SameObjects objects.old objects.new }
@@ -66,7 +66,7 @@ fn follow(objects: &mut Objects, first: Oop, from: Oop, to: Oop) -> Oop
 }
 
 /// Has `to` precede an object, if there is one.
-fn precede(objects: &mut Objects, at: Oop, to: Oop)
+fn precede(objects: &mut HeapObjects, at: Oop, to: Oop)
     requires { IsEnd objects.old (place at) }
     ensures rest { SameObjects objects.old objects.new }
     ensures here { place at ≢ 0 → before_of objects.new.store (place at) ≡ place to }

@@ -2,9 +2,9 @@
 use Rattle.std.proofs.Common.{◌≡◌, ℕ, zero, suc, ◌+◌, ◌-◌, ◌%◌, ◌≤◌, ◌<◌, ◌==◌, Bool, true, false, ◌&&◌, List, [], ◌∷◌, Option, Some, None, refl, sym, ap, ap₂, ◌∙◌, arith}
 use Rattle.std.proofs.lemmas.Bool.Decides.{nat_tests}
 use Rattle.std.specs.Prelude.{if◌then◌else◌, nat_lt, nat_le, map, slice_get}
-use Rattle.st_emit.specs.declared.step.Place.{Place}
-use Rattle.st_emit.specs.declared.step.Step.{Step}
-use Rattle.st_emit.specs.declared.step.Step.TheVariants.{Push, PushConstant, PushNumber, Store, PopStore, Pop, Duplicate, Send, SendSuper, SendSpecial, ReturnConstant, ReturnTop, ReturnBlock, Jump, JumpBack, JumpIf, JumpPast}
+use Rattle.st_emit.specs.declared.instruction.InstructionOperand.{InstructionOperand}
+use Rattle.st_emit.specs.declared.instruction.Instruction.{Instruction}
+use Rattle.st_emit.specs.declared.instruction.Instruction.TheVariants.{Push, PushConstant, PushNumber, Store, PopStore, Pop, Duplicate, Send, SendSuper, SendSpecial, ReturnConstant, ReturnTop, ReturnBlock, Jump, JumpBack, JumpIf, JumpPast}
 use Rattle.st_emit.specs.Steps.{size_of, is_short, long_send_size, long_if}
 use Rattle.st_emit.specs.Literals.{LiteralView}
 use Rattle.st_emit.specs.Resolving.{special_selectors, first_special, block_copy}
@@ -64,7 +64,7 @@ super_size n s false e =
     let i : (nat_lt s 32 && nat_le n 7) ≡ false = and_right (nat_lt s 32) (nat_le n 7) (many n (omega (arith, h))) in
     ap (λ (b : Bool). if b then 2 else 3) (long_three (n % 256) s) ∙ sym (ap (λ (b : Bool). if b then 2 else 3) i)
 
-size_same : (x : Step) → size_of (read_as x) ≡ size_of x
+size_same : (x : Instruction) → size_of (read_as x) ≡ size_of x
 size_same (Send n s) = count_size n s (nat_lt n 256) refl
 size_same (SendSuper n s) = super_size n s (nat_lt n 256) refl
 size_same (JumpPast d) = two_bytes d (is_short d) refl
@@ -85,19 +85,19 @@ size_same (JumpIf on d) = refl
 
 -- CUTS
 
-abbrev as_read : List Step → List Step
+abbrev as_read : List Instruction → List Instruction
 as_read ss = map read_as ss
 
-front_same : (ss : List Step) (d : ℕ) → front d (as_read ss) ≡ as_read (front d ss)
+front_same : (ss : List Instruction) (d : ℕ) → front d (as_read ss) ≡ as_read (front d ss)
 front_same [] d = refl
 front_same (s ∷ ss) d = by_test (d == 0) (front_same ss (d - size_of s))
   where
     by_test : (b : Bool) → front (d - size_of s) (as_read ss) ≡ as_read (front (d - size_of s) ss)
         → (if b then [] else read_as s ∷ front (d - size_of (read_as s)) (as_read ss)) ≡ as_read (if b then [] else s ∷ front (d - size_of s) ss)
     by_test true h = refl
-    by_test false h = ap (λ (n : ℕ). read_as s ∷ front (d - n) (as_read ss)) (size_same s) ∙ ap (λ (l : List Step). read_as s ∷ l) h
+    by_test false h = ap (λ (n : ℕ). read_as s ∷ front (d - n) (as_read ss)) (size_same s) ∙ ap (λ (l : List Instruction). read_as s ∷ l) h
 
-behind_same : (ss : List Step) (d : ℕ) → behind d (as_read ss) ≡ as_read (behind d ss)
+behind_same : (ss : List Instruction) (d : ℕ) → behind d (as_read ss) ≡ as_read (behind d ss)
 behind_same [] d = refl
 behind_same (s ∷ ss) d = by_test (d == 0) (behind_same ss (d - size_of s))
   where
@@ -106,7 +106,7 @@ behind_same (s ∷ ss) d = by_test (d == 0) (behind_same ss (d - size_of s))
     by_test true h = refl
     by_test false h = ap (λ (n : ℕ). behind (d - n) (as_read ss)) (size_same s) ∙ h
 
-passed_same : (ss : List Step) (f : ℕ → List Step → Option Acted) → ((d : ℕ) (inside : List Step) → f d (as_read inside) ≡ f d inside) → passed (as_read ss) f ≡ passed ss f
+passed_same : (ss : List Instruction) (f : ℕ → List Instruction → Option Acted) → ((d : ℕ) (inside : List Instruction) → f d (as_read inside) ≡ f d inside) → passed (as_read ss) f ≡ passed ss f
 passed_same [] f h = refl
 passed_same (JumpPast d ∷ ss) f h = by_test (is_short d)
   where
@@ -130,15 +130,15 @@ passed_same (ReturnBlock ∷ ss) f h = refl
 passed_same (JumpBack d ∷ ss) f h = refl
 passed_same (JumpIf on d ∷ ss) f h = refl
 
-module _ (name_of : Place → List ℕ) (literals : List LiteralView) where
-  module _ (reg : ℕ → List Step → Option (List Item)) (alike : (at : ℕ) (ss : List Step) → reg at (as_read ss) ≡ reg at ss) where
-    reg_front : (at d : ℕ) (ss : List Step) → reg at (front d (as_read ss)) ≡ reg at (front d ss)
+module _ (name_of : InstructionOperand → List ℕ) (literals : List LiteralView) where
+  module _ (reg : ℕ → List Instruction → Option (List Item)) (alike : (at : ℕ) (ss : List Instruction) → reg at (as_read ss) ≡ reg at ss) where
+    reg_front : (at d : ℕ) (ss : List Instruction) → reg at (front d (as_read ss)) ≡ reg at (front d ss)
     reg_front at d ss = ap (reg at) (front_same ss d) ∙ alike at (front d ss)
 
-    decided_same : (on : Bool) (at d : ℕ) (ss : List Step) (items a : List Item) → decided name_of literals reg on at d (as_read ss) items a ≡ decided name_of literals reg on at d ss items a
+    decided_same : (on : Bool) (at d : ℕ) (ss : List Instruction) (items a : List Item) → decided name_of literals reg on at d (as_read ss) items a ≡ decided name_of literals reg on at d ss items a
     decided_same on at d ss items (over e ∷ a) =
         ap (λ (o : Option (List Item)). on_some o (λ b. on_piece items (λ x rest. passes (d + e) (choice_piece on x (statements_of a) (statements_of b)) rest)))
-        (ap (λ (l : List Step). reg (at + d) (front e l)) (behind_same ss d) ∙ reg_front (at + d) e (behind d ss))
+        (ap (λ (l : List Instruction). reg (at + d) (front e l)) (behind_same ss d) ∙ reg_front (at + d) e (behind d ss))
     decided_same on at d ss items (back e ∷ a) = refl
     decided_same on at d ss items [] = refl
     decided_same on at d ss items (piece p ∷ a) = refl
@@ -147,11 +147,11 @@ module _ (name_of : Place → List ℕ) (literals : List LiteralView) where
     decided_same on at d ss items (answered ∷ a) = refl
     decided_same on at d ss items (argument p ∷ a) = refl
 
-    on_decided : (on : Bool) (at d : ℕ) (ss : List Step) (items : List Item) (o : Option (List Item)) → on_some o (decided name_of literals reg on at d (as_read ss) items) ≡ on_some o (decided name_of literals reg on at d ss items)
+    on_decided : (on : Bool) (at d : ℕ) (ss : List Instruction) (items : List Item) (o : Option (List Item)) → on_some o (decided name_of literals reg on at d (as_read ss) items) ≡ on_some o (decided name_of literals reg on at d ss items)
     on_decided on at d ss items None = refl
     on_decided on at d ss items (Some a) = decided_same on at d ss items a
 
-    block_same : (at : ℕ) (ss : List Step) (items : List Item) → makes_block name_of literals reg at (as_read ss) items ≡ makes_block name_of literals reg at ss items
+    block_same : (at : ℕ) (ss : List Instruction) (items : List Item) → makes_block name_of literals reg at (as_read ss) items ≡ makes_block name_of literals reg at ss items
     block_same at ss (piece n ∷ piece x ∷ rest) =
         passed_same ss (λ d inside. on_some (reg (at + 2) (front d inside)) (λ made. passes (2 + d) (block_piece name_of literals reg x.start (statements_of made)) rest))
         (λ d inside. ap (λ (o : Option (List Item)). on_some o (λ made. passes (2 + d) (block_piece name_of literals reg x.start (statements_of made)) rest)) (reg_front (at + 2) d inside))
@@ -170,17 +170,17 @@ module _ (name_of : Place → List ℕ) (literals : List LiteralView) where
     block_same at ss (over d ∷ rest) = refl
     block_same at ss (back d ∷ rest) = refl
 
-    special_same : (b : Bool) (code at : ℕ) (ss : List Step) (items : List Item)
+    special_same : (b : Bool) (code at : ℕ) (ss : List Instruction) (items : List Item)
         → (if b then makes_block name_of literals reg at (as_read ss) items else on_some (slice_get special_selectors (code - first_special)) (λ s. sends false s items))
         ≡ (if b then makes_block name_of literals reg at ss items else on_some (slice_get special_selectors (code - first_special)) (λ s. sends false s items))
     special_same true code at ss items = block_same at ss items
     special_same false code at ss items = refl
 
-    past_same : (d at after : ℕ) (ss : List Step) (items : List Item) (b : Bool) → act name_of literals reg (if b then JumpPast d else Jump d) at after ss items ≡ goes_on (over d ∷ items)
+    past_same : (d at after : ℕ) (ss : List Instruction) (items : List Item) (b : Bool) → act name_of literals reg (if b then JumpPast d else Jump d) at after ss items ≡ goes_on (over d ∷ items)
     past_same d at after ss items true = refl
     past_same d at after ss items false = refl
 
-    act_same : (x : Step) (at after : ℕ) (ss : List Step) (items : List Item) → act name_of literals reg (read_as x) at after (as_read ss) items ≡ act name_of literals reg x at after ss items
+    act_same : (x : Instruction) (at after : ℕ) (ss : List Instruction) (items : List Item) → act name_of literals reg (read_as x) at after (as_read ss) items ≡ act name_of literals reg x at after ss items
     act_same (JumpIf on d) at after ss items =
         ap (λ (o : Option (List Item)). on_some o (decided name_of literals reg on after d (as_read ss) items)) (reg_front after d ss) ∙ on_decided on after d ss items (reg after (front d ss))
     act_same (SendSpecial code) at after ss items = special_same (code == first_special + block_copy) code after ss items
@@ -200,7 +200,7 @@ module _ (name_of : Place → List ℕ) (literals : List LiteralView) where
     act_same (Jump d) at after ss items = refl
     act_same (JumpBack d) at after ss items = refl
 
-    run_same : (ss : List Step) (skip at : ℕ) (items : List Item) → run name_of literals reg skip at (as_read ss) items ≡ run name_of literals reg skip at ss items
+    run_same : (ss : List Instruction) (skip at : ℕ) (items : List Item) → run name_of literals reg skip at (as_read ss) items ≡ run name_of literals reg skip at ss items
     run_same [] skip at items = refl
     run_same (s ∷ ss) skip at items =
         ap (λ (n : ℕ). if skip == 0 then on_some (act name_of literals reg (read_as s) at (at + n) (as_read ss) items) (λ a. run name_of literals reg a.skip (at + n) (as_read ss) a.items) else run name_of literals reg (skip - n) (at + n) (as_read ss) items) (size_same s)
@@ -214,6 +214,6 @@ module _ (name_of : Place → List ℕ) (literals : List LiteralView) where
         by_test true (Some a) h = h a.skip a.items
         by_test false o h = h (skip - size_of s) items
 
-  pub region_same : (f at : ℕ) (ss : List Step) → region name_of literals f at (as_read ss) ≡ region name_of literals f at ss
+  pub region_same : (f at : ℕ) (ss : List Instruction) → region name_of literals f at (as_read ss) ≡ region name_of literals f at ss
   region_same zero at ss = refl
   region_same (suc f) at ss = run_same (region name_of literals f) (λ at' ss'. region_same f at' ss') ss 0 at []

@@ -2,7 +2,7 @@
 use Rattle.std.proofs.Common.{◌≡◌, ◌≤◌, ℕ, List, sym, ap, subst, arith}
 use Rattle.std.specs.Prelude.{Ok}
 use Rattle.st_scan.specs.Views.{MethodView}
-use Rattle.st_emit.specs.declared.step.Place.{Place}
+use Rattle.st_emit.specs.declared.instruction.InstructionOperand.{InstructionOperand}
 use Rattle.st_emit.specs.Names.{NamesView}
 use Rattle.st_code.specs.Methods.{PartsView, code}
 use Rattle.st_grammar.specs.Leaves.{leaves_of}
@@ -26,7 +26,7 @@ means_shallow text t m =
     let same : statements_nesting t.body ≤ highest 0 (leaves_of text m.tokens) = subst (λ (v : MethodView). statements_nesting v.body ≤ highest 0 (leaves_of text m.tokens)) is (omega (arith, deep, ap (highest 0) e)) in
     omega (arith, same, m.shallow)
 
-module _ (name_of : Place → List ℕ) (names : NamesView) (words : AreWords name_of) where
+module _ (name_of : InstructionOperand → List ℕ) (names : NamesView) (words : AreWords name_of) where
   -- what is read of the parts; the tree that its printed text means, which is that one but for places; and its code
   pub record IsAnswered (p : PartsView) : Type 0 where
     pub read : IsRead name_of names words most p

@@ -2,8 +2,8 @@
 use Rattle.std.proofs.Common.{◌≡◌, ℕ, suc, List, Option, Some, None, refl, sym, ap, ap₂, ◌∙◌}
 use Rattle.st_scan.specs.declared.token.Signed.{Signed}
 use Rattle.st_scan.specs.Views.{NameView, StatementsView, MethodView}
-use Rattle.st_emit.specs.declared.step.Place.{Place}
-use Rattle.st_emit.specs.declared.step.Step.{Step}
+use Rattle.st_emit.specs.declared.instruction.InstructionOperand.{InstructionOperand}
+use Rattle.st_emit.specs.declared.instruction.Instruction.{Instruction}
 use Rattle.st_emit.specs.Literals.{LiteralView}
 use Rattle.st_code.specs.Methods.{PartsView}
 use Rattle.st_resolved.specs.Instructions.{on_some, steps_of}
@@ -22,9 +22,9 @@ on_both : {A B C : Type 0} (o : Option A) (f : A → Option B) (g : B → Option
 on_both None f g = refl
 on_both (Some x) f g = refl
 
-pub candidate_by : (f : Place → List ℕ) (p : PartsView) (literals : List LiteralView) (bytes : List ℕ) (items : Option (List Item)) → literals ≡ p.literals → bytes ≡ p.bytes → items ≡ on_some (steps_of bytes) (λ ss. region f literals (suc most_high) 0 ss)
+pub candidate_by : (f : InstructionOperand → List ℕ) (p : PartsView) (literals : List LiteralView) (bytes : List ℕ) (items : Option (List Item)) → literals ≡ p.literals → bytes ≡ p.bytes → items ≡ on_some (steps_of bytes) (λ ss. region f literals (suc most_high) 0 ss)
     → on_some items (λ xs. Some (method_of f p (statements_of xs))) ≡ candidate f p
 candidate_by f p literals bytes items e b h =
     ap (λ (o : Option (List Item)). on_some o (λ xs. Some (method_of f p (statements_of xs))))
     (h ∙ ap₂ (λ (ls : List LiteralView) (bs : List ℕ). on_some (steps_of bs) (λ ss. region f ls (suc most_high) 0 ss)) e b)
-    ∙ on_both (steps_of p.bytes) (λ (ss : List Step). region f p.literals (suc most_high) 0 ss) (λ (xs : List Item). Some (method_of f p (statements_of xs)))
+    ∙ on_both (steps_of p.bytes) (λ (ss : List Instruction). region f p.literals (suc most_high) 0 ss) (λ (xs : List Item). Some (method_of f p (statements_of xs)))

@@ -2,7 +2,7 @@
 use Rattle.std.proofs.Common.{◌≡◌, ℕ, zero, suc, ◌+◌, ◌≤◌, min, Bool, false, List, [], ◌∷◌, inl, inr, sym, ap, ◌∙◌, arith}
 use Rattle.st_scan.specs.Views.{ExpressionView, ExpressionsView, StatementsView, MessagesView, is_super, no_statements, no_expressions}
 use Rattle.st_scan.specs.Views as views
-use Rattle.st_emit.specs.declared.step.Place.{Place}
+use Rattle.st_emit.specs.declared.instruction.InstructionOperand.{InstructionOperand}
 use Rattle.st_emit.specs.Names.{NamesView, Scope}
 use Rattle.st_emit.specs.Literals.{LiteralView, Named}
 use Rattle.st_emit.specs.Nodes.{Node, Body, Messages, Nodes}
@@ -21,7 +21,7 @@ AsLong views.no_expressions views.no_expressions = Unit {0}
 AsLong (views.expression e es) (views.expression f fs) = AsLong es fs
 AsLong a b = ⊥
 
-module _ (name_of : Place → List ℕ) (names : NamesView) (literals : List LiteralView) where
+module _ (name_of : InstructionOperand → List ℕ) (names : NamesView) (literals : List LiteralView) where
   abbrev pub at_next : Scope → ℕ → Context
   at_next s n = record { names = names; scope = s; next = n }
 

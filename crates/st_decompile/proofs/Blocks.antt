@@ -2,8 +2,8 @@
 use Rattle.std.proofs.Common.{◌≡◌, ℕ, zero, suc, ◌+◌, Bool, false, List, [], ◌∷◌, ◌++◌, length, map, inl, inr, refl, sym, ap, ◌∙◌, subst, arith, append_assoc, append-nil}
 use Rattle.st_scan.specs.Views.{NameView, ExpressionView, StatementsView, is_super}
 use Rattle.st_scan.specs.Views as views
-use Rattle.st_emit.specs.declared.step.Place.{Place}
-use Rattle.st_emit.specs.declared.step.Place.TheVariants.{Temporary}
+use Rattle.st_emit.specs.declared.instruction.InstructionOperand.{InstructionOperand}
+use Rattle.st_emit.specs.declared.instruction.InstructionOperand.TheVariants.{Temporary}
 use Rattle.st_emit.specs.Names.{NamesView, Scope, numbered}
 use Rattle.st_emit.specs.Literals.{LiteralView, Named}
 use Rattle.st_emit.specs.Nodes.{Node, Body, block}
@@ -20,7 +20,7 @@ use Rattle.st_decompile.proofs.Renamed.{renamed-append}
 use Rattle.st_decompile.proofs.Backs.{Back, BodyBack, at_next, again_at, body_back}
 
 -- places in their order
-abbrev pub places_up : (first n : ℕ) → List Place
+abbrev pub places_up : (first n : ℕ) → List InstructionOperand
 places_up first zero = []
 places_up first (suc n) = Temporary first ∷ places_up (first + 1) n
 
@@ -28,20 +28,20 @@ up_more : (first n : ℕ) → places_up first (suc n) ≡ places_up first n ++ T
 up_more first zero = let same : first ≡ first + 0 = omega arith in ap (λ (k : ℕ). Temporary k ∷ []) same
 up_more first (suc n) =
     let same : first + 1 + n ≡ first + suc n = omega arith in
-    ap (λ (l : List Place). Temporary first ∷ l) (up_more (first + 1) n) ∙ ap (λ (k : ℕ). Temporary first ∷ (places_up (first + 1) n ++ Temporary k ∷ [])) same
+    ap (λ (l : List InstructionOperand). Temporary first ∷ l) (up_more (first + 1) n) ∙ ap (λ (k : ℕ). Temporary first ∷ (places_up (first + 1) n ++ Temporary k ∷ [])) same
 
-from_up : (first n : ℕ) (ps : List Place) → places_from first n ps ≡ places_up first n ++ ps
+from_up : (first n : ℕ) (ps : List InstructionOperand) → places_from first n ps ≡ places_up first n ++ ps
 from_up first zero ps = refl
 from_up first (suc n) ps =
-    from_up first n (Temporary (first + n) ∷ ps) ∙ sym (append_assoc (places_up first n) (Temporary (first + n) ∷ []) ps) ∙ ap (λ (l : List Place). l ++ ps) (sym (up_more first n))
+    from_up first n (Temporary (first + n) ∷ ps) ∙ sym (append_assoc (places_up first n) (Temporary (first + n) ∷ []) ps) ∙ ap (λ (l : List InstructionOperand). l ++ ps) (sym (up_more first n))
 
 pops_again : (first other n : ℕ) → IsNext n first other → pop_arguments other n ≡ pop_arguments first n
 pops_again first other zero h = refl
 pops_again first other (suc n) (inl e) = absurd (omega (arith, e))
 pops_again first other (suc n) (inr e) = ap (λ (k : ℕ). pop_arguments k (suc n)) e
 
-module _ (name_of : Place → List ℕ) (names : NamesView) (literals : List LiteralView) (are : AreNames name_of names literals) where
-  abbrev pub named' : Place → NameView
+module _ (name_of : InstructionOperand → List ℕ) (names : NamesView) (literals : List LiteralView) (are : AreNames name_of names literals) where
+  abbrev pub named' : InstructionOperand → NameView
   named' p = called (name_of p)
 
   abbrev pub names_of : ℕ → ℕ → List NameView
@@ -78,7 +78,7 @@ module _ (name_of : Place → List ℕ) (names : NamesView) (literals : List Lit
   plain_again (x ∷ xs) next a b = ap (λ (l : List NameView). is_plain (views.block l a)) (names_up next (length (x ∷ xs)))
 
   least_first : (ns : List NameView) (next l : ℕ) → least_among (places_from next (length ns) []) l ≡ least_among (places_up next (length ns)) l
-  least_first ns next l = ap (λ (ps : List Place). least_among ps l) (from_up next (length ns) [] ∙ append-nil (places_up next (length ns)))
+  least_first ns next l = ap (λ (ps : List InstructionOperand). least_among ps l) (from_up next (length ns) [] ∙ append-nil (places_up next (length ns)))
 
   least_block : (ns : List NameView) (next count l : ℕ) → l ≡ least_in count (next + length ns) → least_among (places_up next (length ns)) l ≡ least_in (length ns + count) next
   least_block [] next count l h = let a : next + 0 ≡ next = omega arith in let b : 0 + count ≡ count = omega arith in h ∙ ap (least_in count) a ∙ ap (λ (k : ℕ). least_in k next) (sym b)

@@ -4,10 +4,10 @@ use Rattle.std.proofs.lemmas.Slice.Eq.{bytes_eq-Decides}
 use Rattle.std.specs.Prelude.{if◌then◌else◌, codes}
 use Rattle.st_scan.specs.Views.{ExpressionView, StatementsView, no_statements, statement}
 use Rattle.st_scan.specs.Views as views
-use Rattle.st_emit.specs.declared.step.Constant.TheVariants.{Receiver}
-use Rattle.st_emit.specs.declared.step.Place.{Place}
-use Rattle.st_emit.specs.declared.step.Step.{Step}
-use Rattle.st_emit.specs.declared.step.Step.TheVariants.{ReturnConstant}
+use Rattle.st_emit.specs.declared.instruction.Constant.TheVariants.{Receiver}
+use Rattle.st_emit.specs.declared.instruction.InstructionOperand.{InstructionOperand}
+use Rattle.st_emit.specs.declared.instruction.Instruction.{Instruction}
+use Rattle.st_emit.specs.declared.instruction.Instruction.TheVariants.{ReturnConstant}
 use Rattle.st_emit.specs.declared.level.Level.{Level}
 use Rattle.st_emit.specs.Names.{NamesView, Scope, constant_named}
 use Rattle.st_emit.specs.Literals.{LiteralView, Named}
@@ -46,14 +46,14 @@ before_level n (returned m) l = refl
 
 same_before : (x y : Node) (a b : Body) → Same x y → SameMethod a b → SameMethod (before x a) (before y b)
 same_before x y a b s h = record {
-  code = before_code x a ∙ ap₂ (λ (c d : List Step). c ++ d) (s.code for_effect) h.code ∙ sym (before_code y b);
+  code = before_code x a ∙ ap₂ (λ (c d : List Instruction). c ++ d) (s.code for_effect) h.code ∙ sym (before_code y b);
   greatest = λ l. ap (λ (v : Level). v.greatest) (before_level x a l ∙ ap (method_level a) (s.level for_effect l)) ∙ h.greatest (level_of for_effect y l) ∙ sym (ap (λ (v : Level). v.greatest) (before_level y b l));
   blocks = λ l. ap (λ (v : Level). v.blocks) (before_level x a l ∙ ap (method_level a) (s.level for_effect l)) ∙ h.blocks (level_of for_effect y l) ∙ sym (ap (λ (v : Level). v.blocks) (before_level y b l));
 }
 
 same_last : (x y : Node) → Same x y → SameMethod (last x) (last y)
 same_last x y s = record {
-  code = ap (λ (c : List Step). c ++ ReturnConstant Receiver ∷ []) (s.code for_effect);
+  code = ap (λ (c : List Instruction). c ++ ReturnConstant Receiver ∷ []) (s.code for_effect);
   greatest = λ l. ap (λ (v : Level). v.greatest) (s.level for_effect l);
   blocks = λ l. ap (λ (v : Level). v.blocks) (s.level for_effect l);
 }
@@ -78,7 +78,7 @@ self_is (views.block ns b) c acc h = absurd cc
 self_is (views.assign t e) c acc h = absurd cc
 self_is (views.send r ms) c acc h = absurd cc
 
-module _ (name_of : Place → List ℕ) (names : NamesView) (literals : List LiteralView) (are : AreNames name_of names literals) where
+module _ (name_of : InstructionOperand → List ℕ) (names : NamesView) (literals : List LiteralView) (are : AreNames name_of names literals) where
   abbrev ctx : Scope → ℕ → Context
   ctx s n = at_next name_of names literals s n
 

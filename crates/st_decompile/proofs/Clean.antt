@@ -6,10 +6,10 @@ use Rattle.std.specs.Prelude.{if◌then◌else◌, nat_lt, is_some, bytes_eq, op
 use Rattle.st_scan.specs.declared.token.Signed.{Signed}
 use Rattle.st_scan.specs.Views.{NameView, ContentView, ElementsView, ExpressionView, StatementsView, MessagesView, ExpressionsView, no_statements, statement, no_expressions}
 use Rattle.st_scan.specs.Views as views
-use Rattle.st_emit.specs.declared.step.Constant.{Constant}
-use Rattle.st_emit.specs.declared.step.Constant.TheVariants.{Receiver, True, False, Nil, Context as Active}
-use Rattle.st_emit.specs.declared.step.Place.{Place}
-use Rattle.st_emit.specs.declared.step.Place.TheVariants.{Field, Temporary, Literal, Shared}
+use Rattle.st_emit.specs.declared.instruction.Constant.{Constant}
+use Rattle.st_emit.specs.declared.instruction.Constant.TheVariants.{Receiver, True, False, Nil, Context as Active}
+use Rattle.st_emit.specs.declared.instruction.InstructionOperand.{InstructionOperand}
+use Rattle.st_emit.specs.declared.instruction.InstructionOperand.TheVariants.{Field, Temporary, Literal, Shared}
 use Rattle.st_emit.specs.declared.form.TwoSided.TheVariants.{TrueFirst, FalseFirst}
 use Rattle.st_emit.specs.Names.{NamesView, Scope, Declared, Variable, temporary, field, shared, constant_named, declared_as, field_named, shared_named, variable_named, own_variable, or_else, numbered, declared}
 use Rattle.st_emit.specs.Literals.{LiteralView, literal_of, members_of}
@@ -60,7 +60,7 @@ mutual
 literal_clean : (l : LiteralView) → IsWritten l → content_fault 0 (content_of l) ≡ None
 literal_clean l w = ap (λ (x : LiteralView). content_fault 0 (content_of x)) (sym w.is) ∙ content_clean w.what w.place w.right
 
-module _ (from to : ℕ) (name_of : Place → List ℕ) (names : NamesView) (final : List LiteralView) (are : AreNames name_of names final) where
+module _ (from to : ℕ) (name_of : InstructionOperand → List ℕ) (names : NamesView) (final : List LiteralView) (are : AreNames name_of names final) where
   abbrev own_declared : ℕ → Declared
   own_declared k = record { text = name_of (Temporary k); number = 0; assignable = assigns from to k }
 
@@ -113,7 +113,7 @@ module _ (from to : ℕ) (name_of : Place → List ℕ) (names : NamesView) (fin
       ∙ ap (λ (k : Option Constant). if is_some k then None else (if is_some (variable_named names (own_scope ks) n.text) then None else fault_at n.place Unknown)) plain
       ∙ ap (λ (b : Bool). if b then None else fault_at n.place Unknown) known
 
-  place_clean : (p : Place) (ks : List ℕ) (f : Scope) → Declares f ks → SeenPlace from to names final ks p → read_fault names f (called (name_of p)) ≡ None
+  place_clean : (p : InstructionOperand) (ks : List ℕ) (f : Scope) → Declares f ks → SeenPlace from to names final ks p → read_fault names f (called (name_of p)) ≡ None
   place_clean (Temporary k) ks f h s =
       let r = own_found ks k s in
       read_known ks (called (name_of (Temporary k))) (are.own_constant k) (ap (λ (o : Option Declared). is_some (or_else (own_variable o) (class_variable (name_of (Temporary k))))) r.1) f h
@@ -134,7 +134,7 @@ module _ (from to : ℕ) (name_of : Place → List ℕ) (names : NamesView) (fin
       ap (λ (k : Option Constant). if is_some k then fault_at n.place Store else stored_fault n.place (variable_named names f n.text)) plain
       ∙ sym (stored_unnumbered names f n) ∙ ap (λ (s : Scope). stored_fault n.place (variable_named names s n.text)) h ∙ known
 
-  target_clean : (p : Place) (ks : List ℕ) (f : Scope) → Declares f ks → StoredPlace from to names final ks p → store_fault names f (called (name_of p)) ≡ None
+  target_clean : (p : InstructionOperand) (ks : List ℕ) (f : Scope) → Declares f ks → StoredPlace from to names final ks p → store_fault names f (called (name_of p)) ≡ None
   target_clean (Temporary k) ks f h s =
       let r = own_found ks k s.0 in
       store_known ks (called (name_of (Temporary k))) (are.own_constant k)
@@ -168,7 +168,7 @@ module _ (from to : ℕ) (name_of : Place → List ℕ) (names : NamesView) (fin
       by_option None = refl
       by_option (Some d) = refl
 
-  abbrev named'' : Place → NameView
+  abbrev named'' : InstructionOperand → NameView
   named'' p = called (name_of p)
 
   one_more : (f : Scope) (ks : List ℕ) (k i : ℕ) → to ≤ k → Declares f ks → Declares (f ++ numbered false i (called (name_of (Temporary k)) ∷ [])) (ks ++ k ∷ [])

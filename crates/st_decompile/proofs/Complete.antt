@@ -5,8 +5,8 @@ use Rattle.std.specs.Prelude.{if◌then◌else◌, nat_lt, nat_le, is_some, Ok, 
 use Rattle.st_scan.specs.declared.token.Signed.{Signed}
 use Rattle.st_scan.specs.Views.{MethodView}
 use Rattle.st_emit.specs.Bounds.{most_literals, small_room}
-use Rattle.st_emit.specs.declared.step.Place.{Place}
-use Rattle.st_emit.specs.declared.step.Step.{Step}
+use Rattle.st_emit.specs.declared.instruction.InstructionOperand.{InstructionOperand}
+use Rattle.st_emit.specs.declared.instruction.Instruction.{Instruction}
 use Rattle.st_emit.specs.Names.{NamesView}
 use Rattle.st_emit.specs.Literals.{LiteralView, number, owner}
 use Rattle.st_emit.specs.Nodes.{Body}
@@ -134,7 +134,7 @@ own_back variables own (suc count) least k b e z v h l =
     let other : own == 64 ≡ false = ne_eqb own 64 (λ i. absurd (omega (arith, i, h))) in
     ap (λ (x : ℕ). own_in (if k == 6 then 0 else variables) x) l ∙ ap (λ (c : Bool). if c then (if k == 6 then 0 else variables) else own) other
 
-module _ (name_of : Place → List ℕ) (names : NamesView) (tree : MethodView) (are : AreNames name_of names (literals tree names)) (sound : fault tree names ≡ None)
+module _ (name_of : InstructionOperand → List ℕ) (names : NamesView) (tree : MethodView) (are : AreNames name_of names (literals tree names)) (sound : fault tree names ≡ None)
     (right : RightStatements tree.body) (counted : arity tree.selector ≡ length tree.arguments) (low : body_high (body tree names).part 0 ≤ most_high) where
   abbrev b : Body
   b = (body tree names).part
@@ -162,7 +162,7 @@ module _ (name_of : Place → List ℕ) (names : NamesView) (tree : MethodView) 
   -- what they are read as
   read : on_some (steps_of (all_bytes (steps tree names))) (λ ss. region name_of (literals tree names) (suc most_high) 0 ss) ≡ Some (method_items name_of b 0 [])
   read =
-      ap (λ (o : Option (List Step)). on_some o (λ ss. region name_of (literals tree names) (suc most_high) 0 ss)) (steps_back (steps tree names) fits)
+      ap (λ (o : Option (List Instruction)). on_some o (λ ss. region name_of (literals tree names) (suc most_high) 0 ss)) (steps_back (steps tree names) fits)
       ∙ region_same name_of (literals tree names) (suc most_high) 0 (steps tree names)
       ∙ method_read name_of (literals tree names) b most_high (placed names tree sound right) (low, omega arith)
 
@@ -256,7 +256,7 @@ module _ (name_of : Place → List ℕ) (names : NamesView) (tree : MethodView) 
   pub candidate_is : candidate name_of (parts tree names) ≡ Some (tree_again name_of names tree are)
   candidate_is = split (steps_of (all_bytes (steps tree names))) read
     where
-      split : (o : Option (List Step)) → on_some o (λ ss. region name_of (literals tree names) (suc most_high) 0 ss) ≡ Some (method_items name_of b 0 [])
+      split : (o : Option (List Instruction)) → on_some o (λ ss. region name_of (literals tree names) (suc most_high) 0 ss) ≡ Some (method_items name_of b 0 [])
           → on_some o (λ ss. on_some (region name_of (literals tree names) (suc most_high) 0 ss) (λ items. Some (method_of name_of (parts tree names) (statements_of items)))) ≡ Some (tree_again name_of names tree are)
       split None h = absurd cc
       split (Some ss) h =

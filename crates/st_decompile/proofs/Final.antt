@@ -3,8 +3,8 @@ use Rattle.std.proofs.Common.{◌≡◌, ℕ, ◌+◌, ◌<◌, ◌≤◌, Bool,
 use Rattle.std.proofs.lemmas.Bool.Decides.{nat_tests}
 use Rattle.std.specs.Prelude.{nat_lt, Ok}
 use Rattle.st_scan.specs.Views.{NameView, MethodView}
-use Rattle.st_emit.specs.declared.step.Place.{Place}
-use Rattle.st_emit.specs.declared.step.Place.TheVariants.{Temporary}
+use Rattle.st_emit.specs.declared.instruction.InstructionOperand.{InstructionOperand}
+use Rattle.st_emit.specs.declared.instruction.InstructionOperand.TheVariants.{Temporary}
 use Rattle.st_emit.specs.Names.{NamesView, Scope, numbered, declared}
 use Rattle.st_code.specs.Faults.{declare_fault, method_fault}
 use Rattle.st_code.specs.Methods.{scope_from, own_variables, body, literals, last_literals, parts, fault, code}
@@ -17,7 +17,7 @@ use Rattle.st_decompile.proofs.Blocks.{names_up}
 use Rattle.st_decompile.proofs.Clean.{Declares, own_scope, up_clean, up_declares, statements_clean, or_both}
 use Rattle.st_decompile.proofs.Wholes.{tree_again, scope_again, code_again}
 
-module _ (name_of : Place → List ℕ) (names : NamesView) (tree : MethodView) (are : AreNames name_of names (literals tree names)) (sound : fault tree names ≡ None) where
+module _ (name_of : InstructionOperand → List ℕ) (names : NamesView) (tree : MethodView) (are : AreNames name_of names (literals tree names)) (sound : fault tree names ≡ None) where
   abbrev pub n : ℕ
   n = length tree.arguments
 

@@ -4,8 +4,8 @@ use Rattle.std.proofs.lemmas.Slice.Eq.{bytes_eq-Decides}
 use Rattle.std.specs.Prelude.{codes, bytes_eq}
 use Rattle.st_scan.specs.Views.{NameView, ExpressionView, ExpressionsView, StatementsView, MessagesView, is_super, no_statements, statement}
 use Rattle.st_scan.specs.Views as views
-use Rattle.st_emit.specs.declared.step.Constant.TheVariants.{Receiver}
-use Rattle.st_emit.specs.declared.step.Place.{Place}
+use Rattle.st_emit.specs.declared.instruction.Constant.TheVariants.{Receiver}
+use Rattle.st_emit.specs.declared.instruction.InstructionOperand.{InstructionOperand}
 use Rattle.st_emit.specs.declared.form.OneSided.{OneSided}
 use Rattle.st_emit.specs.declared.form.OneSided.TheVariants.{IfTrue, IfFalse, And, Or}
 use Rattle.st_emit.specs.declared.form.TwoSided.TheVariants.{TrueFirst, FalseFirst}
@@ -47,7 +47,7 @@ plain_send r (views.message s es (views.message t fs ms)) c acc h = refl
 plain_send r (views.message s es views.no_messages) c acc h =
     ap (λ (t : Naming Tail). let n = expression_node r c acc in let u = t n.literals in record { part = with_tail n.part u.part; literals = u.literals }) (single_plain (is_super r) (is_plain r) s es (behind c (names_in r)) h)
 
-module _ (name_of : Place → List ℕ) (names : NamesView) (literals : List LiteralView) (are : AreNames name_of names literals) where
+module _ (name_of : InstructionOperand → List ℕ) (names : NamesView) (literals : List LiteralView) (are : AreNames name_of names literals) where
   -- several messages are no form
   pub several : (r : ExpressionView) (s : List ℕ) (es : ExpressionsView) (ms : Messages) → IsPlainSend r (views.message s es (messages_list name_of ms))
   several r s es (only t ns) = tt

@@ -3,9 +3,9 @@ use Rattle.std.proofs.Common.{◌≡◌, ℕ, Bool, true, false, List, Option, S
 use Rattle.std.specs.Prelude.{if◌then◌else◌, is_some, bytes_eq, codes}
 use Rattle.st_scan.specs.Views.{NameView, ContentView, ExpressionView}
 use Rattle.st_scan.specs.Views as views
-use Rattle.st_emit.specs.declared.step.Constant.{Constant}
-use Rattle.st_emit.specs.declared.step.Constant.TheVariants.{Receiver, True, False, Nil, Context as Active}
-use Rattle.st_emit.specs.declared.step.Place.{Place}
+use Rattle.st_emit.specs.declared.instruction.Constant.{Constant}
+use Rattle.st_emit.specs.declared.instruction.Constant.TheVariants.{Receiver, True, False, Nil, Context as Active}
+use Rattle.st_emit.specs.declared.instruction.InstructionOperand.{InstructionOperand}
 use Rattle.st_emit.specs.Names.{NamesView, Scope, Variable, constant_named, variable_named}
 use Rattle.st_emit.specs.Literals.{LiteralView, Named, small_number}
 use Rattle.st_scan.specs.declared.token.Signed.{Signed}
@@ -34,7 +34,7 @@ not_super t h = by_tests (bytes_eq t (codes "self")) (bytes_eq t (codes "super")
     by_tests false true e h = absurd cc
     by_tests false false e h = e
 
-module _ (name_of : Place → List ℕ) (names : NamesView) (literals : List LiteralView) (are : AreNames name_of names literals) where
+module _ (name_of : InstructionOperand → List ℕ) (names : NamesView) (literals : List LiteralView) (are : AreNames name_of names literals) where
   abbrev IsBack : Named Node → ℕ → ℕ → Bool → Context → List LiteralView → Type 0
   IsBack = Back name_of names literals
 
@@ -51,7 +51,7 @@ module _ (name_of : Place → List ℕ) (names : NamesView) (literals : List Lit
   constant_back Active next c acc = record { same = same (constant Active); ends = refl; counted = refl; block = refl; no_super = refl; lowest = refl }
 
   module _ (n : NameView) (s : Scope) (next other : ℕ) (acc : List LiteralView) where
-    abbrev variable_node : Named Place → Named Node
+    abbrev variable_node : Named InstructionOperand → Named Node
     variable_node p = record { part = variable p.part; literals = p.literals }
 
     by_variable : (o : Option Variable) → variable_named names s n.text ≡ o → constant_named n.text ≡ None → (if is_some o then None else fault_at n.place Unknown) ≡ None → Extends (place_named o acc).literals literals
@@ -114,7 +114,7 @@ module _ (name_of : Place → List ℕ) (names : NamesView) (literals : List Lit
     abbrev value : Named Node
     value = expression_node e (at_next name_of names literals s next) acc
 
-    abbrev assigned_node : Named Node → Named Place → Named Node
+    abbrev assigned_node : Named Node → Named InstructionOperand → Named Node
     assigned_node x p = record { part = assign p.part x.part; literals = p.literals }
 
     by_target : (o : Option Variable) → variable_named names s target.text ≡ o → constant_named target.text ≡ None → stored_fault target.place o ≡ None → Extends (place_named o value.literals).literals literals
@@ -128,8 +128,8 @@ module _ (name_of : Place → List ℕ) (names : NamesView) (literals : List Lit
         let x = expression_node (tree_of name_of value.part) c acc in
         let there : place_of_name c t x.literals ≡ p = ap (λ (ls : List LiteralView). place_of_name c t ls) b.ends ∙ a.place in
         record {
-          same = subst (λ (q : Named Place). Same (assign q.part x.part) (assign p.part value.part)) (sym there) (same_assign p.part x.part value.part b.same);
-          ends = ap (λ (q : Named Place). q.literals) there;
+          same = subst (λ (q : Named InstructionOperand). Same (assign q.part x.part) (assign p.part value.part)) (sym there) (same_assign p.part x.part value.part b.same);
+          ends = ap (λ (q : Named InstructionOperand). q.literals) there;
           counted = b.counted;
           block = refl;
           no_super = refl;

@@ -3,7 +3,7 @@ use Rattle.std.proofs.Common.{◌≡◌, ◌<◌, ◌≤◌, ℕ, zero, suc, ◌
 use Rattle.std.proofs.lemmas.Bool.{ltb-true, ltb-false, lt-ltb}
 use Rattle.std.specs.List.Sorted.{IsPartitionPoint, IsPartitionedBy}
 use Rattle.std.proofs.lemmas.Bool.Decides.{nat_tests}
-use Rattle.st_emit.specs.declared.step.Step.{Step}
+use Rattle.st_emit.specs.declared.instruction.Instruction.{Instruction}
 use Rattle.st_emit.specs.Steps.{size_of}
 use Rattle.st_decompile.specs.declared.located.Located.{Located}
 use Rattle.st_decompile.specs.Reading.{front, behind}
@@ -12,24 +12,24 @@ use Rattle.st_decompile.proofs.Running.{front_none, front_turn, behind_none, beh
 
 -- LOCATED
 
-pub located_steps : (at : ℕ) (ss : List Step) → steps_in (located_from at ss) ≡ ss
+pub located_steps : (at : ℕ) (ss : List Instruction) → steps_in (located_from at ss) ≡ ss
 located_steps at [] = refl
-located_steps at (s ∷ ss) = ap (λ (xs : List Step). s ∷ xs) (located_steps (at + size_of s) ss)
+located_steps at (s ∷ ss) = ap (λ (xs : List Instruction). s ∷ xs) (located_steps (at + size_of s) ss)
 
-located_are : (at : ℕ) (ss : List Step) → AreFrom at (located_from at ss)
+located_are : (at : ℕ) (ss : List Instruction) → AreFrom at (located_from at ss)
 located_are at [] = tt
 located_are at (s ∷ ss) = (refl, located_are (at + size_of s) ss)
 
-pub located_spaced : (at : ℕ) (ss : List Step) → AreSpaced (located_from at ss)
+pub located_spaced : (at : ℕ) (ss : List Instruction) → AreSpaced (located_from at ss)
 located_spaced at [] = tt
 located_spaced at (s ∷ ss) = located_are (at + size_of s) ss
 
 -- one more
-pub located_turn : (at next : ℕ) (ss : List Step) (s : Step) (rest : List Step) (ls new whole : List Located) → ss ≡ s ∷ rest → next ≡ at + size_of s → new ≡ ls ++ record { at = at; step = s } ∷ [] → ls ++ located_from at ss ≡ whole → new ++ located_from next rest ≡ whole
+pub located_turn : (at next : ℕ) (ss : List Instruction) (s : Instruction) (rest : List Instruction) (ls new whole : List Located) → ss ≡ s ∷ rest → next ≡ at + size_of s → new ≡ ls ++ record { at = at; step = s } ∷ [] → ls ++ located_from at ss ≡ whole → new ++ located_from next rest ≡ whole
 located_turn at next ss s rest ls new whole cut e pushed h =
     ap₂ (λ (xs : List Located) (n : ℕ). xs ++ located_from n rest) pushed e
     ∙ append_assoc ls (record { at = at; step = s } ∷ []) (located_from (at + size_of s) rest)
-    ∙ ap (λ (xs : List Step). ls ++ located_from at xs) (sym cut) ∙ h
+    ∙ ap (λ (xs : List Instruction). ls ++ located_from at xs) (sym cut) ∙ h
 
 -- the first one
 pub split_is : (ls rest : List Located) (l : Located) → Some (l, rest) ≡ split_of ls → ls ≡ l ∷ rest
@@ -70,7 +70,7 @@ module _ (distance n : ℕ) (ls : List Located) (within : AreWithin distance ls 
   front_is s = let f = from_some ls s in (sym within.0, spaced f.0 (take n ls) (from_take n f.0 ls f.1))
 
   pub behind_is : AreBehind distance ls (drop n ls)
-  behind_is = (sym within.1, λ at f. subst (λ (ss : List Step). AreFrom (end_of at ss) (drop n ls)) (sym within.0) (from_drop n at ls f))
+  behind_is = (sym within.1, λ at f. subst (λ (ss : List Instruction). AreFrom (end_of at ss) (drop n ls)) (sym within.0) (from_drop n at ls f))
 
 -- what stands behind the first bytes is spaced too
 pub spaced_behind : (distance : ℕ) (ls part : List Located) → AreSpaced ls → AreBehind distance ls part → AreSpaced part
@@ -114,7 +114,7 @@ within (suc n) distance at (l ∷ ls) f few b =
       λ k d h short. let more = b.1 (suc k) d (omega (arith, h)) (omega (arith, short)) in let up = not_before (at + size) ls k d f.1 short in omega (arith, more, up),
     ) in
     let rest = within n (distance - size) (at + size) ls f.1 (omega (arith, few)) begin in (
-      front_turn distance l.step (steps_in ls) not_none ∙ ap (λ (ss : List Step). l.step ∷ ss) rest.0,
+      front_turn distance l.step (steps_in ls) not_none ∙ ap (λ (ss : List Instruction). l.step ∷ ss) rest.0,
       behind_turn distance l.step (steps_in ls) not_none ∙ rest.1,
     )
 

@@ -4,8 +4,8 @@ use Rattle.std.specs.Prelude.{if◌then◌else◌}
 use Rattle.st_scan.specs.declared.token.Signed.{Signed}
 use Rattle.st_scan.specs.Views.{is_super, ContentView, ElementsView, ExpressionView, StatementsView, MessagesView, ExpressionsView}
 use Rattle.st_scan.specs.Views as views
-use Rattle.st_emit.specs.declared.step.Constant.{Constant}
-use Rattle.st_emit.specs.declared.step.Place.{Place}
+use Rattle.st_emit.specs.declared.instruction.Constant.{Constant}
+use Rattle.st_emit.specs.declared.instruction.InstructionOperand.{InstructionOperand}
 use Rattle.st_emit.specs.declared.form.TwoSided.TheVariants.{TrueFirst, FalseFirst}
 use Rattle.st_emit.specs.declared.form.Form.{Form}
 use Rattle.st_emit.specs.declared.form.Form.TheVariants.{One, Two, Repeated}
@@ -61,7 +61,7 @@ makes_content views.nil_object h = absurd h
 makes_content views.false_object h = absurd h
 makes_content views.true_object h = absurd h
 
-makes_name : (k : Option Constant) (m : Naming Place) → Makes Formed (constant_or k m)
+makes_name : (k : Option Constant) (m : Naming InstructionOperand) → Makes Formed (constant_or k m)
 makes_name (Some k) m = record { by = λ ls. tt }
 makes_name None m = record { by = λ ls. tt }
 
@@ -176,7 +176,7 @@ mutual
       makes_then (λ (x : Node). Unit {0}) Formed (count_node (length ns)) (λ n. statements_body body (inside c ns) >>= λ b. given (nodes.block c.next (length ns) n b)) (record { by = λ ls. tt })
       (λ n p. makes_end BodyFormed Formed (statements_body body (inside c ns)) (nodes.block c.next (length ns) n) (statements_make body (inside c ns) f.1) (λ b q. q))
   expression_makes (views.assign target e) c f =
-      makes_tailed (expression_node e c) (assign_tail c target) (expression_makes e c f.1) (makes_end (λ (p : Place). Unit {0}) TailFormed (place_of_name c target) nodes.assigned (record { by = λ ls. tt }) (λ p i. tt))
+      makes_tailed (expression_node e c) (assign_tail c target) (expression_makes e c f.1) (makes_end (λ (p : InstructionOperand). Unit {0}) TailFormed (place_of_name c target) nodes.assigned (record { by = λ ls. tt }) (λ p i. tt))
   expression_makes (views.send x ms) c f =
       makes_tailed (expression_node x c) (sends_tail (is_super x) (is_plain x) (messages_of ms (behind c (names_in x)))) (expression_makes x c f.0)
       (makes_sends (is_super x) (is_plain x) (messages_of ms (behind c (names_in x))) (some_make ms (behind c (names_in x)) f.1 f.2))

@@ -3,9 +3,9 @@ use Rattle.std.proofs.Common.{◌≡◌, ℕ, ◌+◌, ◌-◌, ◌≤◌, Bool,
 use Rattle.std.specs.Prelude.{if◌then◌else◌, slice_get}
 use Rattle.st_scan.specs.Views.{ExpressionView, ExpressionsView, MessagesView, no_messages, no_expressions, with_message}
 use Rattle.st_scan.specs.Views as views
-use Rattle.st_emit.specs.declared.step.Place.{Place}
-use Rattle.st_emit.specs.declared.step.Step.{Step}
-use Rattle.st_emit.specs.declared.step.Step.TheVariants.{Pop}
+use Rattle.st_emit.specs.declared.instruction.InstructionOperand.{InstructionOperand}
+use Rattle.st_emit.specs.declared.instruction.Instruction.{Instruction}
+use Rattle.st_emit.specs.declared.instruction.Instruction.TheVariants.{Pop}
 use Rattle.st_emit.specs.declared.form.By.{By}
 use Rattle.st_emit.specs.declared.form.By.TheVariants.{Special, SelectorAt}
 use Rattle.st_emit.specs.Steps.{size}
@@ -25,17 +25,17 @@ use Rattle.st_decompile.proofs.High.{low_is}
 use Rattle.st_decompile.proofs.Pieces.{nodes_items, nodes_taken}
 use Rattle.st_decompile.proofs.Moves as moves
 
-module _ (name_of : Place → List ℕ) (literals : List LiteralView) where
-  abbrev pub Follows : ℕ → ℕ → List Step → (old new : List Item) → Type 0
+module _ (name_of : InstructionOperand → List ℕ) (literals : List LiteralView) where
+  abbrev pub Follows : ℕ → ℕ → List Instruction → (old new : List Item) → Type 0
   Follows f at code old new = moves.Follows name_of literals f at code old new
 
-  abbrev pub acts : ℕ → Step → ℕ → List Step → List Item → Option Acted
+  abbrev pub acts : ℕ → Instruction → ℕ → List Instruction → List Item → Option Acted
   acts f s at ss items = moves.acts name_of literals f s at ss items
 
   abbrev taken : (above : Bool) → List ℕ → ℕ → List Item → Option Acted
   taken above text n items = with_arguments n no_expressions no_arguments 0 items (sent_low above text)
 
-  send_by : (f : ℕ) (above : Bool) (text : List ℕ) (by : By) (n : ℕ) → IsFound literals above text by → arity text ≡ n → (at : ℕ) (ss : List Step) (items : List Item)
+  send_by : (f : ℕ) (above : Bool) (text : List ℕ) (by : By) (n : ℕ) → IsFound literals above text by → arity text ≡ n → (at : ℕ) (ss : List Instruction) (items : List Item)
       → acts f (send_step above by n) at ss items ≡ taken above text n items
   send_by f true text (Special c) n h e at ss items = absurd h
   send_by f false text (Special c) n h e at ss items =
@@ -48,7 +48,7 @@ module _ (name_of : Place → List ℕ) (literals : List LiteralView) where
       ap (λ (o : Option LiteralView). on_some (on_some o symbol_of) (λ s. sends false s items)) h ∙ ap (λ (m : ℕ). taken false text m items) e
 
   -- a message behind its arguments
-  abbrev pub one_code : (above : Bool) → Sending → Nodes → List Step
+  abbrev pub one_code : (above : Bool) → Sending → Nodes → List Instruction
   one_code above s ns = nodes_code ns ++ send_step above s.by (count ns) ∷ []
 
   pub message_follows : (f at : ℕ) (above : Bool) (s : Sending) (ns : Nodes) (old new : List Item) → IsSent literals above s (count ns)
@@ -100,5 +100,5 @@ module _ (name_of : Place → List ℕ) (literals : List LiteralView) where
       (moves.one_follows name_of literals f at1 Pop (answered ∷ cascade r' more ∷ items) (cascade r' more ∷ items) (λ ss. refl))
       (q (at1 + 1) r' more)) in
       let code : one_code above s ns ++ Pop ∷ messages_code above ms ≡ nodes_code ns ++ send ∷ Pop ∷ messages_code above ms = append_assoc (nodes_code ns) (send ∷ []) (Pop ∷ messages_code above ms) in
-      subst (λ (c : List Step). Follows f at c (again ∷ cascade r done ∷ items) (piece (with_messages above r done (also s ns ms)) ∷ items)) code
+      subst (λ (c : List Instruction). Follows f at c (again ∷ cascade r done ∷ items) (piece (with_messages above r done (also s ns ms)) ∷ items)) code
       (subst (λ (x : Piece). Follows f at (one_code above s ns ++ Pop ∷ messages_code above ms) (again ∷ cascade r done ∷ items) (piece x ∷ items)) (twice above r done s ns ms) whole)

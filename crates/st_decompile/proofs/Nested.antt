@@ -5,8 +5,8 @@ use Rattle.std.proofs.lemmas.Bool.{and_parts}
 use Rattle.std.specs.Prelude.{if◌then◌else◌, bytes_eq, codes, nat_lt}
 use Rattle.st_scan.specs.Views.{is_super, NameView, ContentView, ElementsView, ExpressionView, StatementsView, MessagesView, ExpressionsView, no_statements, statement, no_expressions, no_messages}
 use Rattle.st_scan.specs.Views as views
-use Rattle.st_emit.specs.declared.step.Constant.{Constant}
-use Rattle.st_emit.specs.declared.step.Place.{Place}
+use Rattle.st_emit.specs.declared.instruction.Constant.{Constant}
+use Rattle.st_emit.specs.declared.instruction.InstructionOperand.{InstructionOperand}
 use Rattle.st_emit.specs.declared.form.OneSided.{OneSided}
 use Rattle.st_emit.specs.declared.form.TwoSided.TheVariants.{TrueFirst, FalseFirst}
 use Rattle.st_emit.specs.declared.form.Loop.{Loop}
@@ -197,7 +197,7 @@ plain_deep (views.literal e) h = absurd cc
 plain_deep (views.assign target e) h = absurd cc
 plain_deep (views.send r ms) h = absurd cc
 
-module _ (name_of : Place → List ℕ) where
+module _ (name_of : InstructionOperand → List ℕ) where
   abbrev sides : Body → ℕ
   sides b = statements_nesting (body_tree name_of b no_statements) + 1
 
@@ -336,7 +336,7 @@ module _ (name_of : Place → List ℕ) where
 
   -- LEAVES
 
-  leaf_nests : (e : ExpressionView) (k : Option Constant) (m : Naming Place) → rank_of e ≡ Unary → Makes (Nests e) (constant_or k m)
+  leaf_nests : (e : ExpressionView) (k : Option Constant) (m : Naming InstructionOperand) → rank_of e ≡ Unary → Makes (Nests e) (constant_or k m)
   leaf_nests e (Some k) m r = record { by = λ ls. record { low = omega arith; rank = sym r; inside = omega arith; height = omega arith; within = omega arith } }
   leaf_nests e None m r = record { by = λ ls. record { low = omega arith; rank = sym r; inside = omega arith; height = omega arith; within = omega arith } }
 
@@ -368,7 +368,7 @@ module _ (name_of : Place → List ℕ) where
   block_nests : (ns : List NameView) (ss : StatementsView) (first n : ℕ) (c : Node) (b : Body) → BodyNests ss b → Nests (views.block ns ss) (nodes.block first n c b)
   block_nests ns ss first n c b h = record { low = omega (arith, h.0); rank = refl; inside = omega (arith, h.0); height = omega (arith, h.1); within = omega (arith, h.1) }
 
-  assign_nests : (target : NameView) (e : ExpressionView) (p : Place) → TailNests e (views.assign target e) (nodes.assigned p)
+  assign_nests : (target : NameView) (e : ExpressionView) (p : InstructionOperand) → TailNests e (views.assign target e) (nodes.assigned p)
   assign_nests target e p n h = record { low = h.low; rank = refl; inside = omega arith; height = omega (arith, h.height, loose_few (rank_of e)); within = omega arith }
 
   -- the nodes of arguments, one by one
@@ -480,7 +480,7 @@ module _ (name_of : Place → List ℕ) where
         (λ n p. makes_end (BodyNests body) (Nests (views.block ns body)) (statements_body body (inside c ns)) (nodes.block c.next (length ns) n) (statements_nest body (inside c ns) f.1) (λ b q. block_nests ns body c.next (length ns) n b q))
     expression_nests (views.assign target e) c f =
         tailed_nests e (views.assign target e) (expression_node e c) (assign_tail c target) (expression_nests e c f.1)
-        (makes_end (λ (p : Place). Unit {0}) (TailNests e (views.assign target e)) (place_of_name c target) nodes.assigned (record { by = λ ls. tt }) (λ p i. assign_nests target e p))
+        (makes_end (λ (p : InstructionOperand). Unit {0}) (TailNests e (views.assign target e)) (place_of_name c target) nodes.assigned (record { by = λ ls. tt }) (λ p i. assign_nests target e p))
     expression_nests (views.send x views.no_messages) c f = absurd f.1
     expression_nests (views.send x (views.message s es views.no_messages)) c f =
         tailed_nests x (views.send x (views.message s es views.no_messages)) (expression_node x c) (sends_tail (is_super x) (is_plain x) (messages_of (views.message s es views.no_messages) (behind c (names_in x)))) (expression_nests x c f.0)

@@ -3,12 +3,12 @@ use Rattle.std.proofs.Common.{◌≡◌, ℕ, zero, suc, ◌+◌, ◌≤◌, max
 use Rattle.std.specs.Prelude.{option_map, map}
 use Rattle.st_scan.specs.Views.{ExpressionView, ExpressionsView, StatementsView, MessagesView, no_messages, no_expressions, no_statements, statement}
 use Rattle.st_scan.specs.Views as views
-use Rattle.st_emit.specs.declared.step.Constant.{Constant}
-use Rattle.st_emit.specs.declared.step.Constant.TheVariants.{Receiver, True, False, Nil, Context}
-use Rattle.st_emit.specs.declared.step.Place.{Place}
-use Rattle.st_emit.specs.declared.step.Place.TheVariants.{Field, Temporary, Literal, Shared}
-use Rattle.st_emit.specs.declared.step.Step.{Step}
-use Rattle.st_emit.specs.declared.step.Step.TheVariants.{Push, PushConstant, PushNumber, Store, PopStore, Pop, Duplicate, SendSpecial, ReturnConstant, ReturnTop, ReturnBlock, Jump, JumpIf, JumpPast}
+use Rattle.st_emit.specs.declared.instruction.Constant.{Constant}
+use Rattle.st_emit.specs.declared.instruction.Constant.TheVariants.{Receiver, True, False, Nil, Context}
+use Rattle.st_emit.specs.declared.instruction.InstructionOperand.{InstructionOperand}
+use Rattle.st_emit.specs.declared.instruction.InstructionOperand.TheVariants.{Field, Temporary, Literal, Shared}
+use Rattle.st_emit.specs.declared.instruction.Instruction.{Instruction}
+use Rattle.st_emit.specs.declared.instruction.Instruction.TheVariants.{Push, PushConstant, PushNumber, Store, PopStore, Pop, Duplicate, SendSpecial, ReturnConstant, ReturnTop, ReturnBlock, Jump, JumpIf, JumpPast}
 use Rattle.st_emit.specs.declared.form.TwoSided.TheVariants.{TrueFirst, FalseFirst}
 use Rattle.st_emit.specs.Steps.{size, size_of}
 use Rattle.st_emit.specs.Literals.{LiteralView}
@@ -27,31 +27,31 @@ use Rattle.st_decompile.proofs.Regions.{choice_follows, loop_follows, pops_follo
 use Rattle.st_decompile.proofs.High.{Fits, fits_both, fits_within, fits_messages, fits_count}
 use Rattle.st_decompile.proofs.Moves as moves
 
-module _ (name_of : Place → List ℕ) (literals : List LiteralView) where
-  abbrev pub Follows : ℕ → ℕ → List Step → (old new : List Item) → Type 0
+module _ (name_of : InstructionOperand → List ℕ) (literals : List LiteralView) where
+  abbrev pub Follows : ℕ → ℕ → List Instruction → (old new : List Item) → Type 0
   Follows f at code old new = moves.Follows name_of literals f at code old new
 
-  one : (f at : ℕ) (s : Step) (old new : List Item) → ((ss : List Step) → moves.acts name_of literals f s at ss old ≡ goes_on new) → Follows f at (s ∷ []) old new
+  one : (f at : ℕ) (s : Instruction) (old new : List Item) → ((ss : List Instruction) → moves.acts name_of literals f s at ss old ≡ goes_on new) → Follows f at (s ∷ []) old new
   one = moves.one_follows name_of literals
 
-  both : (f at at1 : ℕ) (a b : List Step) (old mid new : List Item) → at1 ≡ at + size a → Follows f at a old mid → Follows f at1 b mid new → Follows f at (a ++ b) old new
+  both : (f at at1 : ℕ) (a b : List Instruction) (old mid new : List Item) → at1 ≡ at + size a → Follows f at a old mid → Follows f at1 b mid new → Follows f at (a ++ b) old new
   both = moves.then_follows name_of literals
 
-  to_piece : (f at : ℕ) (code : List Step) (old : List Item) (p q : Piece) (items : List Item) → p ≡ q → Follows f at code old (piece p ∷ items) → Follows f at code old (piece q ∷ items)
+  to_piece : (f at : ℕ) (code : List Instruction) (old : List Item) (p q : Piece) (items : List Item) → p ≡ q → Follows f at code old (piece p ∷ items) → Follows f at code old (piece q ∷ items)
   to_piece f at code old p q items e h = subst (λ (x : Piece). Follows f at code old (piece x ∷ items)) e h
 
   -- a value that may not be used
-  used_follows : (u : Use) (f at : ℕ) (code : List Step) (old : List Item) (p : Piece) (items : List Item) → Follows f at code old (piece p ∷ items) → Follows f at (used u code) old (piece p ∷ items)
+  used_follows : (u : Use) (f at : ℕ) (code : List Instruction) (old : List Item) (p : Piece) (items : List Item) → Follows f at code old (piece p ∷ items) → Follows f at (used u code) old (piece p ∷ items)
   used_follows for_value f at code old p items h = h
   used_follows for_effect f at code old p items h =
       both f at (at + size code) code (Pop ∷ []) old (piece p ∷ items) (piece p ∷ items) refl h (one f (at + size code) Pop (piece p ∷ items) (piece p ∷ items) (λ ss. refl))
 
-  stored_follows : (u : Use) (f at : ℕ) (p : Place) (x : Piece) (items : List Item)
+  stored_follows : (u : Use) (f at : ℕ) (p : InstructionOperand) (x : Piece) (items : List Item)
       → Follows f at (stored u p ∷ []) (piece x ∷ items) (piece (record x { tree = views.assign (called (name_of p)) x.tree }) ∷ items)
   stored_follows for_value f at p x items = one f at (Store p) (piece x ∷ items) _ (λ ss. refl)
   stored_follows for_effect f at p x items = one f at (PopStore p) (piece x ∷ items) _ (λ ss. refl)
 
-  pushed_follows : (f at : ℕ) (p : Place) → IsVariable p → (items : List Item) → Follows f at (Push p ∷ []) items (piece (leaf (views.variable (called (name_of p))) at) ∷ items)
+  pushed_follows : (f at : ℕ) (p : InstructionOperand) → IsVariable p → (items : List Item) → Follows f at (Push p ∷ []) items (piece (leaf (views.variable (called (name_of p))) at) ∷ items)
   pushed_follows f at (Field n) v items = one f at (Push (Field n)) items _ (λ ss. refl)
   pushed_follows f at (Temporary n) v items = one f at (Push (Temporary n)) items _ (λ ss. refl)
   pushed_follows f at (Shared n) v items = one f at (Push (Shared n)) items _ (λ ss. refl)
@@ -139,7 +139,7 @@ module _ (name_of : Place → List ℕ) (literals : List LiteralView) where
       let ps : arguments_of arguments' ≡ places_from first arguments [] = arguments_are name_of first arguments [] in
       let same : block_piece name_of literals (moves.within name_of literals (suc f)) at (statements_of made) ≡ piece_of name_of (block first arguments n body) at =
       ap (block_piece name_of literals (moves.within name_of literals (suc f)) at) taken
-      ∙ ap (λ (l : List Place). record { returns = false; tree = views.block (map (λ p. called (name_of p)) l) (body_tree name_of body no_statements); start = at; least = least_among l (body_least body no_arguments); height = suc (body_high body 0) }) ps in
+      ∙ ap (λ (l : List InstructionOperand). record { returns = false; tree = views.block (map (λ p. called (name_of p)) l) (body_tree name_of body no_statements); start = at; least = least_among l (body_least body no_arguments); height = suc (body_high body 0) }) ps in
       let low' : suc (statements_of made).height ≤ most_high = subst (λ (t : Taken). suc t.height ≤ most_high) (sym taken) low in
       to_piece (suc f) at (block_code (code_of for_value n) inside) items _ _ items same
       (both (suc f) at at1 (PushConstant Context ∷ []) (code_of for_value n ++ copy) items (piece context ∷ items) _ refl (one (suc f) at (PushConstant Context) items (piece context ∷ items) (λ ss. refl))

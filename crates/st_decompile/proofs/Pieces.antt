@@ -2,9 +2,9 @@
 use Rattle.std.proofs.Common.{◌≡◌, ℕ, zero, suc, ◌+◌, ◌<◌, true, false, List, [], ◌∷◌, Option, Some, refl, ap, ◌∙◌, arith, ne_eqb, eq-eqb}
 use Rattle.st_scan.specs.Views.{ExpressionsView, StatementsView, MessagesView, no_statements, no_messages, no_expressions, with_message}
 use Rattle.st_scan.specs.Views as views
-use Rattle.st_emit.specs.declared.step.Constant.TheVariants.{Receiver, Nil}
-use Rattle.st_emit.specs.declared.step.Place.{Place}
-use Rattle.st_emit.specs.declared.step.Place.TheVariants.{Temporary}
+use Rattle.st_emit.specs.declared.instruction.Constant.TheVariants.{Receiver, Nil}
+use Rattle.st_emit.specs.declared.instruction.InstructionOperand.{InstructionOperand}
+use Rattle.st_emit.specs.declared.instruction.InstructionOperand.TheVariants.{Temporary}
 use Rattle.st_emit.specs.Steps.{size}
 use Rattle.st_emit.specs.Nodes.{Node, Body, nothing, last, next, returned, Messages, only, also, Nodes, none, node, count}
 use Rattle.st_emit.specs.Emitting.{for_value, for_effect, code_of}
@@ -14,7 +14,7 @@ use Rattle.st_expression_stack.specs.Choosing.{constant_tree}
 use Rattle.st_expression_stack.specs.Messages.{with_arguments, popped}
 use Rattle.st_decompile.specs.Back.{places_from, tree_of, body_tree, messages_tree, messages_list, nodes_tree, least, body_least, nodes_least, high, body_high, nodes_high, method_tree, method_least, method_high}
 
-module _ (name_of : Place → List ℕ) where
+module _ (name_of : InstructionOperand → List ℕ) where
   abbrev pub piece_of : Node → ℕ → Piece
   piece_of n at = record { returns = false; tree = tree_of name_of n; start = at; least = least n; height = high n }
 

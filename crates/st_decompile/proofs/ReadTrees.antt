@@ -2,7 +2,7 @@
 use Rattle.std.proofs.Common.{◌≡◌, ◌≤◌, ℕ, true, false, List, [], length, Option, Some, None, refl, sym, subst}
 use Rattle.std.specs.Prelude.{bytes_eq, codes, Result, Ok}
 use Rattle.st_scan.specs.Views.{MethodView}
-use Rattle.st_emit.specs.declared.step.Place.{Place}
+use Rattle.st_emit.specs.declared.instruction.InstructionOperand.{InstructionOperand}
 use Rattle.st_emit.specs.Names.{NamesView}
 use Rattle.st_code.specs.declared.fault.Fault.{Fault}
 use Rattle.st_code.specs.Methods.{PartsView, code, parts, fault, parts_or, context, body, literals}
@@ -24,11 +24,11 @@ abbrev as_result : PartsView → Result PartsView Fault
 as_result p = Ok p
 
 -- all variables are called by names, and none super
-pub record AreWords (name_of : Place → List ℕ) : Type 0 where
-  pub are_names : (p : Place) → is_name (name_of p) ≡ true
-  pub none_super : (p : Place) → bytes_eq (name_of p) (codes "super") ≡ false
+pub record AreWords (name_of : InstructionOperand → List ℕ) : Type 0 where
+  pub are_names : (p : InstructionOperand) → is_name (name_of p) ≡ true
+  pub none_super : (p : InstructionOperand) → bytes_eq (name_of p) (codes "super") ≡ false
 
-module _ (name_of : Place → List ℕ) (names : NamesView) (words : AreWords name_of) where
+module _ (name_of : InstructionOperand → List ℕ) (names : NamesView) (words : AreWords name_of) where
   pub well_again : (tree : MethodView) (are : AreNames name_of names (literals tree names)) → IsWellFormed tree → IsWellFormed (tree_again name_of names tree are)
   well_again tree are well = record {
     selector = subst (λ (n : ℕ). IsSelector tree.selector n) (sym (arguments_length name_of names tree are)) well.selector;

@@ -5,7 +5,7 @@ use Rattle.std.proofs.lemmas.Option.{slice_get-map}
 use Rattle.std.specs.Borrow.{Bor}
 use Rattle.std.specs.Prelude.{slice_get, option_map}
 use Rattle.std.specs.Slice.{IsItemAt}
-use Rattle.st_emit.specs.declared.step.Place.{Place}
+use Rattle.st_emit.specs.declared.instruction.InstructionOperand.{InstructionOperand}
 use Rattle.st_emit.specs.Selectors.{sends_now}
 use Rattle.st_resolved.specs.Instructions.{on_some}
 use Rattle.st_scan.specs.declared.tree.Name.{Name}
@@ -35,7 +35,7 @@ popped_none old new v f e h = sym (on_piece_none (stack_view old) f (subst (IsPo
 pub popped_some : (old new : List KeptItem) (v : Option Kept) (p : Kept) → v ≡ Some p → IsPopped old new v → stack_view old ≡ piece (piece_view p) ∷ stack_view new
 popped_some old new v p e h = (subst (IsPopped old new) e h).0
 
-module _ (r : Reading) (place : Place) where
+module _ (r : Reading) (place : InstructionOperand) where
   into_none : (xs : List Item) → IsPieceless xs → popped_into_by r place xs ≡ goes_on (argument place ∷ xs)
   into_none (piece x ∷ xs) h = absurd h
   into_none xs h = refl
@@ -58,7 +58,7 @@ module _ (r : Reading) where
   abbrev block_as : ℕ → Taken → Piece
   block_as at t = block_piece (name_by r) (literals_by r) (region_by r 0) at t
 
-  pub others_turn : (ns new : List Name) (name : Name) (xs ys : List Item) (p : Place) (whole : List NameView) → xs ≡ argument p ∷ ys → new ≡ ns ++ name ∷ [] → name_view name ≡ called (name_by r p) → names_view ns ++ arguments_by r xs ≡ whole
+  pub others_turn : (ns new : List Name) (name : Name) (xs ys : List Item) (p : InstructionOperand) (whole : List NameView) → xs ≡ argument p ∷ ys → new ≡ ns ++ name ∷ [] → name_view name ≡ called (name_by r p) → names_view ns ++ arguments_by r xs ≡ whole
       → names_view new ++ arguments_by r ys ≡ whole
   others_turn ns new name xs ys p whole e pushed is h =
       ap (λ (l : List NameView). l ++ arguments_by r ys) (ap names_view pushed ∙ map-append name_view ns (name ∷ []))
@@ -67,7 +67,7 @@ module _ (r : Reading) where
 
   pub others_end : (ns : List Name) (xs : List Item) (whole : List NameView) → IsArgumentless xs → names_view ns ++ arguments_by r xs ≡ whole → names_view ns ≡ whole
   others_end ns xs whole n h =
-      sym (append-nil (names_view ns)) ∙ ap (λ (ps : List Place). names_view ns ++ map (λ p. called (name_by r p)) ps) (sym (arguments_end xs n)) ∙ h
+      sym (append-nil (names_view ns)) ∙ ap (λ (ps : List InstructionOperand). names_view ns ++ map (λ p. called (name_by r p)) ps) (sym (arguments_end xs n)) ∙ h
 
   pub none_declared : (ns : List Name) (xs : List Item) → ns ≡ [] → IsArgumentless xs → names_view ns ≡ arguments_by r xs
   none_declared ns xs e n = ap names_view e ∙ ap (map (λ p. called (name_by r p))) (sym (arguments_end xs n))

@@ -2,8 +2,8 @@
 use Rattle.std.proofs.Common.{◌≡◌, ℕ, zero, suc, ◌+◌, ◌-◌, ◌≤◌, ◌<◌, ◌==◌, Bool, true, false, List, [], ◌∷◌, ◌++◌, map, take, drop, length, get_or, Option, Some, None, refl, sym, ap, ap₂, ◌∙◌, subst, arith}
 use Rattle.std.proofs.lemmas.Bool.Decides.{nat_tests}
 use Rattle.std.specs.Prelude.{if◌then◌else◌}
-use Rattle.st_emit.specs.declared.step.Place.{Place}
-use Rattle.st_emit.specs.declared.step.Step.{Step}
+use Rattle.st_emit.specs.declared.instruction.InstructionOperand.{InstructionOperand}
+use Rattle.st_emit.specs.declared.instruction.Instruction.{Instruction}
 use Rattle.st_emit.specs.Steps.{size_of}
 use Rattle.st_emit.specs.Literals.{LiteralView}
 use Rattle.st_resolved.specs.Instructions.{on_some}
@@ -20,24 +20,24 @@ use Rattle.st_decompile.proofs.Running.{front_none, front_turn, behind_none, beh
 
 -- PLACES
 
-end_up : (at : ℕ) (ss : List Step) → at ≤ end_of at ss
+end_up : (at : ℕ) (ss : List Instruction) → at ≤ end_of at ss
 end_up at [] = omega arith
 end_up at (s ∷ ss) = let more = end_up (at + size_of s) ss in omega (arith, more)
 
-end_shift : (a b : ℕ) (ss : List Step) → end_of (a + b) ss ≡ a + end_of b ss
+end_shift : (a b : ℕ) (ss : List Instruction) → end_of (a + b) ss ≡ a + end_of b ss
 end_shift a b [] = refl
 end_shift a b (s ∷ ss) = let e : (a + b) + size_of s ≡ a + (b + size_of s) = omega arith in ap (λ (n : ℕ). end_of n ss) e ∙ end_shift a (b + size_of s) ss
 
-module _ (name_of : Place → List ℕ) (literals : List LiteralView) (inner : ℕ → List Step → Option (List Item)) where
-  run_none : (at : ℕ) (ss : List Step) (xs : List Item) → run name_of literals inner 0 (end_of at (front 0 ss)) (behind 0 ss) xs ≡ run name_of literals inner 0 at ss xs
-  run_none at ss xs = ap₂ (λ (a b : List Step). run name_of literals inner 0 (end_of at a) b xs) (front_none ss) (behind_none ss)
+module _ (name_of : InstructionOperand → List ℕ) (literals : List LiteralView) (inner : ℕ → List Instruction → Option (List Item)) where
+  run_none : (at : ℕ) (ss : List Instruction) (xs : List Item) → run name_of literals inner 0 (end_of at (front 0 ss)) (behind 0 ss) xs ≡ run name_of literals inner 0 at ss xs
+  run_none at ss xs = ap₂ (λ (a b : List Instruction). run name_of literals inner 0 (end_of at a) b xs) (front_none ss) (behind_none ss)
 
-  run_passed : (skip at : ℕ) (ss : List Step) (xs : List Item) → run name_of literals inner 0 (end_of at (front skip ss)) (behind skip ss) xs ≡ run name_of literals inner skip at ss xs
+  run_passed : (skip at : ℕ) (ss : List Instruction) (xs : List Item) → run name_of literals inner 0 (end_of at (front skip ss)) (behind skip ss) xs ≡ run name_of literals inner skip at ss xs
   run_passed zero at ss xs = run_none at ss xs
   run_passed (suc k) at [] xs = refl
   run_passed (suc k) at (s ∷ ss) xs =
       let some : (suc k == 0) ≡ false = grind (arith, nat_tests) in
-      ap₂ (λ (a b : List Step). run name_of literals inner 0 (end_of at a) b xs) (front_turn (suc k) s ss some) (behind_turn (suc k) s ss some)
+      ap₂ (λ (a b : List Instruction). run name_of literals inner 0 (end_of at a) b xs) (front_turn (suc k) s ss some) (behind_turn (suc k) s ss some)
       ∙ run_passed (suc k - size_of s) (at + size_of s) ss xs
       ∙ passed_turn name_of literals inner (suc k) at s ss xs (run name_of literals inner (suc k) at (s ∷ ss) xs) some refl
 
@@ -47,7 +47,7 @@ module _ (name_of : Place → List ℕ) (literals : List LiteralView) (inner : �
     pub not_before : start ≤ place_or start ls
     pub left : run name_of literals inner 0 (at + (place_or start ls - start)) (steps_in ls) xs ≡ whole
 
-  moved : (at start b : ℕ) (ss : List Step) (ls : List Located) (xs : List Item) (whole : Option (List Item)) → AreFrom (end_of (start + b) ss) ls → run name_of literals inner 0 (end_of (at + b) ss) (steps_in ls) xs ≡ whole → LeftAt at start ls xs whole
+  moved : (at start b : ℕ) (ss : List Instruction) (ls : List Located) (xs : List Item) (whole : Option (List Item)) → AreFrom (end_of (start + b) ss) ls → run name_of literals inner 0 (end_of (at + b) ss) (steps_in ls) xs ≡ whole → LeftAt at start ls xs whole
   moved at start b ss [] xs whole f h = record { in_turn = tt; not_before = omega arith; left = h }
   moved at start b ss (l ∷ ls) xs whole f h =
       let here = f.0 in
@@ -88,7 +88,7 @@ module _ (name_of : Place → List ℕ) (literals : List LiteralView) (inner : �
         done_turn name_of literals inner 0 place skip first.step (steps_in later) xs new whole refl from_here
         (a ∙ ap (λ (n : ℕ). act name_of literals inner first.step place n (steps_in later) xs) there) in
         let left : run name_of literals inner 0 (end_of (at + gap) passed) (steps_in rest) (stack_view new) ≡ whole =
-        ap₂ (λ (n : ℕ) (ss : List Step). run name_of literals inner 0 (end_of n passed) ss (stack_view new)) (sym spot ∙ there) b.0
+        ap₂ (λ (n : ℕ) (ss : List Instruction). run name_of literals inner 0 (end_of n passed) ss (stack_view new)) (sym spot ∙ there) b.0
         ∙ run_passed skip (place + size) (steps_in later) (stack_view new) ∙ did in
         moved at start gap passed rest (stack_view new) whole (subst (λ (n : ℕ). AreFrom (end_of n passed) rest) kept (b.1 (first.at + size) l.in_turn)) left
 

@@ -3,8 +3,8 @@ use Rattle.std.proofs.Common.{◌≡◌, ◌+◌, ◌-◌, ℕ, Bool, true, fals
 use Rattle.std.specs.Borrow.{Bor}
 use Rattle.std.specs.Global.{Vec}
 use Rattle.st_scan.specs.Views.{no_statements}
-use Rattle.st_emit.specs.declared.step.Step.{Step}
-use Rattle.st_emit.specs.declared.step.Step.TheVariants.{Push, PushConstant, PushNumber, Store, PopStore, Pop, Duplicate, Send, SendSuper, SendSpecial, ReturnConstant, ReturnTop, ReturnBlock, Jump as JumpOver, JumpBack, JumpIf, JumpPast}
+use Rattle.st_emit.specs.declared.instruction.Instruction.{Instruction}
+use Rattle.st_emit.specs.declared.instruction.Instruction.TheVariants.{Push, PushConstant, PushNumber, Store, PopStore, Pop, Duplicate, Send, SendSuper, SendSpecial, ReturnConstant, ReturnTop, ReturnBlock, Jump as JumpOver, JumpBack, JumpIf, JumpPast}
 use Rattle.st_resolved.specs.Instructions.{on_some}
 use Rattle.st_expression_stack.specs.declared.item.Item.{Item as KeptItem}
 use Rattle.st_expression_stack.specs.declared.item.Item.TheVariants as kept
@@ -85,15 +85,15 @@ module _ (ls : List Located) where
     passed_first = ap (λ (xs : List Located). passed_by (steps_in xs)) (split_is ls rest.now first cut)
 
     pub passed_long : (d : ℕ) → AreSpaced ls → first.step ≡ JumpPast d → IsPassed ls (Some (d, rest))
-    passed_long d s is = (passed_first ∙ ap (λ (x : Step). passed_by (x ∷ steps_in rest.now)) is, later_spaced ls rest.now first cut s)
+    passed_long d s is = (passed_first ∙ ap (λ (x : Instruction). passed_by (x ∷ steps_in rest.now)) is, later_spaced ls rest.now first cut s)
 
     pub passed_short : (d : ℕ) → AreSpaced ls → first.step ≡ JumpOver d → IsPassed ls (Some (d, rest))
-    passed_short d s is = (passed_first ∙ ap (λ (x : Step). passed_by (x ∷ steps_in rest.now)) is, later_spaced ls rest.now first cut s)
+    passed_short d s is = (passed_first ∙ ap (λ (x : Instruction). passed_by (x ∷ steps_in rest.now)) is, later_spaced ls rest.now first cut s)
 
     pub passed_none : ((d : ℕ) → first.step ≡ JumpPast d → ⊥) → ((d : ℕ) → first.step ≡ JumpOver d → ⊥) → IsPassed ls None
     passed_none n m = passed_first ∙ not_passed first.step (steps_in rest.now) n m
       where
-        not_passed : (s : Step) (ss : List Step) → ((d : ℕ) → s ≡ JumpPast d → ⊥) → ((d : ℕ) → s ≡ JumpOver d → ⊥) → passed_by (s ∷ ss) ≡ None
+        not_passed : (s : Instruction) (ss : List Instruction) → ((d : ℕ) → s ≡ JumpPast d → ⊥) → ((d : ℕ) → s ≡ JumpOver d → ⊥) → passed_by (s ∷ ss) ≡ None
         not_passed (Push p) ss n m = refl
         not_passed (PushConstant k) ss n m = refl
         not_passed (PushNumber k) ss n m = refl
@@ -129,7 +129,7 @@ module _ (r : Reading) (start distance : ℕ) (body xs : List Item) where
       ap (λ (ys : Option (List Item)). on_some ys (λ z. Some (acted (2 + distance) z))) h
       ∙ ap (λ (o : Option (List Item)). block_made_by r start distance o xs) (ap (λ (y : List Item). Some y) same ∙ sym (ap stack_if e))
 
-passed_as : (ss : List Step) (f : ℕ → List Step → Option Acted) → passed ss f ≡ on_some (passed_by ss) (λ p. f p.0 p.1)
+passed_as : (ss : List Instruction) (f : ℕ → List Instruction → Option Acted) → passed ss f ≡ on_some (passed_by ss) (λ p. f p.0 p.1)
 passed_as [] f = refl
 passed_as (Push p ∷ ss) f = refl
 passed_as (PushConstant k ∷ ss) f = refl
@@ -149,15 +149,15 @@ passed_as (JumpBack d ∷ ss) f = refl
 passed_as (JumpIf on d ∷ ss) f = refl
 passed_as (JumpPast d ∷ ss) f = refl
 
-module _ (r : Reading) (depth next : ℕ) (ss : List Step) (old mid : List KeptItem) where
+module _ (r : Reading) (depth next : ℕ) (ss : List Instruction) (old mid : List KeptItem) where
   -- a block that starts there, behind a jump over its body
-  abbrev body_read : (start : ℕ) → List Item → ℕ → List Step → Option Acted
+  abbrev body_read : (start : ℕ) → List Item → ℕ → List Instruction → Option Acted
   body_read start rest d inside = block_made_by r start d (region_by r depth (next + 2) (front d inside)) rest
 
   pub block_none : IsBlockStart old mid None → None ≡ makes_block_by r depth next ss (stack_view old)
   block_none h = sym (h (λ x rest. passed ss (body_read x.start rest)))
 
-  abbrev body_passed : (start : ℕ) → Option (ℕ × List Step) → Option Acted
+  abbrev body_passed : (start : ℕ) → Option (ℕ × List Instruction) → Option Acted
   body_passed start o = on_some o (λ p. body_read start (stack_view mid) p.0 p.1)
 
   block_from : (start : ℕ) → IsBlockStart old mid (Some start) → makes_block_by r depth next ss (stack_view old) ≡ body_passed start (passed_by ss)
@@ -166,7 +166,7 @@ module _ (r : Reading) (depth next : ℕ) (ss : List Step) (old mid : List KeptI
   pub block_unpassed : (start : ℕ) → IsBlockStart old mid (Some start) → passed_by ss ≡ None → None ≡ makes_block_by r depth next ss (stack_view old)
   block_unpassed start h e = sym (block_from start h ∙ ap (body_passed start) e)
 
-  pub block_read : (start d at : ℕ) (inside part : List Step) (made : Option (Vec KeptItem)) → IsBlockStart old mid (Some start) → passed_by ss ≡ Some (d, inside) → at ≡ next + 2 → part ≡ front d inside → stack_if made ≡ region_by r depth at part
+  pub block_read : (start d at : ℕ) (inside part : List Instruction) (made : Option (Vec KeptItem)) → IsBlockStart old mid (Some start) → passed_by ss ≡ Some (d, inside) → at ≡ next + 2 → part ≡ front d inside → stack_if made ≡ region_by r depth at part
       → block_made_by r start d (stack_if made) (stack_view mid) ≡ makes_block_by r depth next ss (stack_view old)
   block_read start d at inside part made h e here cut is =
       ap (λ (o : Option (List Item)). block_made_by r start d o (stack_view mid)) (is ∙ ap₂ (region_by r depth) here cut)
@@ -197,24 +197,24 @@ module _ (r : Reading) (depth : ℕ) (on : Bool) (distance : ℕ) (s : Spot) (xs
   formed_none below first last e n m = sym (sym (formed_top below first last last e refl) ∙ not_formed last (stack_view below) n m)
 
   -- the first side is read
-  pub side_read : (part : List Step) (o : Option (Vec KeptItem)) (first : Vec KeptItem) → part ≡ front distance (steps_in s.rest.now) → stack_if o ≡ region_by r depth s.next part → o ≡ Some first
+  pub side_read : (part : List Instruction) (o : Option (Vec KeptItem)) (first : Vec KeptItem) → part ≡ front distance (steps_in s.rest.now) → stack_if o ≡ region_by r depth s.next part → o ≡ Some first
       → formed (stack_view first.items) ≡ act_by r depth (JumpIf on distance) s.at s.next (steps_in s.rest.now) xs
   side_read part o first cut is e = ap (λ (y : Option (List Item)). on_some y formed) (sym (ap stack_if e) ∙ is ∙ ap (region_by r depth s.next) cut)
 
-  pub side_none : (part : List Step) (o : Option (Vec KeptItem)) → part ≡ front distance (steps_in s.rest.now) → stack_if o ≡ region_by r depth s.next part → o ≡ None
+  pub side_none : (part : List Instruction) (o : Option (Vec KeptItem)) → part ≡ front distance (steps_in s.rest.now) → stack_if o ≡ region_by r depth s.next part → o ≡ None
       → None ≡ act_by r depth (JumpIf on distance) s.at s.next (steps_in s.rest.now) xs
   side_none part o cut is e = ap (λ (y : Option (List Item)). on_some y formed) (sym (ap stack_if e) ∙ is ∙ ap (region_by r depth s.next) cut)
 
 module _ (r : Reading) (depth : ℕ) (j : Jump) (s : Spot) (first xs : List Item) where
   -- the second side is read
-  pub second_read : (at : ℕ) (rest part : List Step) (second : Option (Vec KeptItem)) → at ≡ s.next + j.distance → rest ≡ behind j.distance (steps_in s.rest.now) → part ≡ front j.end rest → stack_if second ≡ region_by r depth at part
+  pub second_read : (at : ℕ) (rest part : List Instruction) (second : Option (Vec KeptItem)) → at ≡ s.next + j.distance → rest ≡ behind j.distance (steps_in s.rest.now) → part ≡ front j.end rest → stack_if second ≡ region_by r depth at part
       → choice_made_by j first (stack_if second) xs ≡ decided_by r depth j.on j.distance s (over j.end ∷ first) xs
   second_read at rest part second here cut ends is =
       ap (λ (o : Option (List Item)). choice_made_by j first o xs) (is ∙ ap₂ (region_by r depth) here (ends ∙ ap (front j.end) cut))
 
 -- ONE INSTRUCTION
 
-pub is_plain : (s : Step) → ((on : Bool) (d : ℕ) → s ≡ JumpIf on d → ⊥) → ((k : ℕ) → s ≡ SendSpecial k → ⊥) → IsPlain s
+pub is_plain : (s : Instruction) → ((on : Bool) (d : ℕ) → s ≡ JumpIf on d → ⊥) → ((k : ℕ) → s ≡ SendSpecial k → ⊥) → IsPlain s
 is_plain (JumpIf on d) n m = absurd (n on d refl)
 is_plain (SendSpecial k) n m = absurd (m k refl)
 is_plain s n m = tt

@@ -1,11 +1,11 @@
 -- How conditional forms, loops and blocks are read, given how what stands in them is.
 use Rattle.std.proofs.Common.{◌≡◌, ℕ, zero, suc, ◌+◌, ◌-◌, ◌≤◌, Bool, List, [], ◌∷◌, ◌++◌, Option, Some, refl, sym, ap, ◌∙◌, arith, append_assoc}
 use Rattle.st_scan.specs.Views.{no_statements}
-use Rattle.st_emit.specs.declared.step.Constant.TheVariants.{Nil}
-use Rattle.st_emit.specs.declared.step.Place.{Place}
-use Rattle.st_emit.specs.declared.step.Place.TheVariants.{Temporary}
-use Rattle.st_emit.specs.declared.step.Step.{Step}
-use Rattle.st_emit.specs.declared.step.Step.TheVariants.{PushConstant, PopStore, Pop, SendSpecial, Jump, JumpBack, JumpIf, JumpPast}
+use Rattle.st_emit.specs.declared.instruction.Constant.TheVariants.{Nil}
+use Rattle.st_emit.specs.declared.instruction.InstructionOperand.{InstructionOperand}
+use Rattle.st_emit.specs.declared.instruction.InstructionOperand.TheVariants.{Temporary}
+use Rattle.st_emit.specs.declared.instruction.Instruction.{Instruction}
+use Rattle.st_emit.specs.declared.instruction.Instruction.TheVariants.{PushConstant, PopStore, Pop, SendSpecial, Jump, JumpBack, JumpIf, JumpPast}
 use Rattle.st_emit.specs.Steps.{size, size_of}
 use Rattle.st_emit.specs.Literals.{LiteralView}
 use Rattle.st_emit.specs.Resolving.{first_special, block_copy}
@@ -20,25 +20,25 @@ use Rattle.st_decompile.proofs.Pieces.{body_items, body_taken, body_from, body_p
 use Rattle.st_decompile.proofs.High.{passes_is}
 use Rattle.st_decompile.proofs.Moves as moves
 
-module _ (name_of : Place → List ℕ) (literals : List LiteralView) where
-  abbrev pub Follows : ℕ → ℕ → List Step → (old new : List Item) → Type 0
+module _ (name_of : InstructionOperand → List ℕ) (literals : List LiteralView) where
+  abbrev pub Follows : ℕ → ℕ → List Instruction → (old new : List Item) → Type 0
   Follows f at code old new = moves.Follows name_of literals f at code old new
 
-  abbrev pub within : ℕ → ℕ → List Step → Option (List Item)
+  abbrev pub within : ℕ → ℕ → List Instruction → Option (List Item)
   within f = moves.within name_of literals f
 
-  abbrev pub acts : ℕ → Step → ℕ → List Step → List Item → Option Acted
+  abbrev pub acts : ℕ → Instruction → ℕ → List Instruction → List Item → Option Acted
   acts f s at ss items = moves.acts name_of literals f s at ss items
 
   -- the first instructions, which are those of a part
-  front_of : (d : ℕ) (a b whole : List Step) → d ≡ size a → whole ≡ a ++ b → front d whole ≡ a
+  front_of : (d : ℕ) (a b whole : List Instruction) → d ≡ size a → whole ≡ a ++ b → front d whole ≡ a
   front_of d a b whole h e = ap (λ (n : ℕ). front n whole) h ∙ ap (front (size a)) e ∙ front_is a b
 
-  behind_of : (d : ℕ) (a b whole : List Step) → d ≡ size a → whole ≡ a ++ b → behind d whole ≡ b
+  behind_of : (d : ℕ) (a b whole : List Instruction) → d ≡ size a → whole ≡ a ++ b → behind d whole ≡ b
   behind_of d a b whole h e = ap (λ (n : ℕ). behind n whole) h ∙ ap (behind (size a)) e ∙ behind_is a b
 
   -- a region with one instruction more
-  with_last : (f at : ℕ) (a : List Step) (s : Step) (sa : List Item) (i : Item) → Follows f at a [] sa → ((ss : List Step) (at1 : ℕ) → acts f s at1 ss sa ≡ goes_on (i ∷ sa)) → within (suc f) at (a ++ s ∷ []) ≡ Some (i ∷ sa)
+  with_last : (f at : ℕ) (a : List Instruction) (s : Instruction) (sa : List Item) (i : Item) → Follows f at a [] sa → ((ss : List Instruction) (at1 : ℕ) → acts f s at1 ss sa ≡ goes_on (i ∷ sa)) → within (suc f) at (a ++ s ∷ []) ≡ Some (i ∷ sa)
   with_last f at a s sa i p h =
       moves.region_is name_of literals f at (a ++ s ∷ []) (i ∷ sa)
       (moves.then_follows name_of literals f at (at + size a) a (s ∷ []) [] sa (i ∷ sa) refl p
@@ -46,8 +46,8 @@ module _ (name_of : Place → List ℕ) (literals : List LiteralView) where
 
   -- CONDITIONAL FORMS
 
-  module _ (f at : ℕ) (on : Bool) (a b : List Step) (sa sb : List Item) (x : Piece) (items : List Item) where
-    abbrev end_jump : Step
+  module _ (f at : ℕ) (on : Bool) (a b : List Instruction) (sa sb : List Item) (x : Piece) (items : List Item) where
+    abbrev end_jump : Instruction
     end_jump = Jump (size b)
 
     abbrev passing : ℕ
@@ -62,7 +62,7 @@ module _ (name_of : Place → List ℕ) (literals : List LiteralView) where
     abbrev chosen_items : List Item
     chosen_items = piece chosen_piece ∷ items
 
-    pub choice_acts : chosen_piece.height ≤ most_high → Follows f at_a a [] sa → Follows f (at_a + passing) b [] sb → (rest : List Step)
+    pub choice_acts : chosen_piece.height ≤ most_high → Follows f at_a a [] sa → Follows f (at_a + passing) b [] sb → (rest : List Instruction)
         → acts (suc f) (JumpIf on passing) at ((a ++ end_jump ∷ b) ++ rest) (piece x ∷ items) ≡ Some (record { skip = passing + size b; items = chosen_items })
     choice_acts low p q rest =
         let whole = (a ++ end_jump ∷ b) ++ rest in
@@ -87,7 +87,7 @@ module _ (name_of : Place → List ℕ) (literals : List LiteralView) where
     abbrev leaving : ℕ
     leaving = size (body_code b) + 3
 
-    abbrev turn : Step
+    abbrev turn : Instruction
     turn = JumpBack (size (body_code x) + size_of (JumpIf on leaving) + size (body_code b) + 3)
 
     abbrev turned : ℕ
@@ -100,7 +100,7 @@ module _ (name_of : Place → List ℕ) (literals : List LiteralView) where
     abbrev at_body : ℕ
     at_body = at_leave + size_of (JumpIf on leaving)
 
-    abbrev tail : List Step
+    abbrev tail : List Instruction
     tail = body_code b ++ Pop ∷ turn ∷ PushConstant Nil ∷ []
 
     abbrev looped_piece : Piece
@@ -119,7 +119,7 @@ module _ (name_of : Place → List ℕ) (literals : List LiteralView) where
         (moves.one_follows name_of literals f behind_body Pop done done (λ ss. ap goes_on (body_popped name_of b at_body [])))
         (moves.one_follows name_of literals f (behind_body + 1) turn done (back turned ∷ done) (λ ss. refl))))
 
-    loop_acts : looped_piece.height ≤ most_high → Follows f at_body (body_code b) [] (body_items name_of b at_body []) → (rest : List Step)
+    loop_acts : looped_piece.height ≤ most_high → Follows f at_body (body_code b) [] (body_items name_of b at_body []) → (rest : List Instruction)
         → acts (suc f) (JumpIf on leaving) at_leave (tail ++ rest) (body_items name_of x at items) ≡ Some (record { skip = leaving + 1; items = loop_items })
     loop_acts low p rest =
         let whole = tail ++ rest in
@@ -157,7 +157,7 @@ module _ (name_of : Place → List ℕ) (literals : List LiteralView) where
       popped_bare (piece p ∷ st) h = absurd h
       popped_bare st h = refl
 
-  module _ (f at : ℕ) (inside : List Step) (made : List Item) (count_piece context : Piece) (items : List Item) where
+  module _ (f at : ℕ) (inside : List Instruction) (made : List Item) (count_piece context : Piece) (items : List Item) where
     abbrev made_piece : Piece
     made_piece = block_piece name_of literals (within (suc f)) context.start (statements_of made)
 

@@ -1,9 +1,9 @@
 -- Nodes that have the same code.
 use Rattle.std.proofs.Common.{◌≡◌, ℕ, ◌+◌, Bool, false, List, [], ◌∷◌, ◌++◌, refl, ap, ap₂, ◌∙◌}
-use Rattle.st_emit.specs.declared.step.Constant.TheVariants.{Nil}
-use Rattle.st_emit.specs.declared.step.Place.{Place}
-use Rattle.st_emit.specs.declared.step.Step.{Step}
-use Rattle.st_emit.specs.declared.step.Step.TheVariants.{PushConstant, Pop, Duplicate, ReturnTop}
+use Rattle.st_emit.specs.declared.instruction.Constant.TheVariants.{Nil}
+use Rattle.st_emit.specs.declared.instruction.InstructionOperand.{InstructionOperand}
+use Rattle.st_emit.specs.declared.instruction.Instruction.{Instruction}
+use Rattle.st_emit.specs.declared.instruction.Instruction.TheVariants.{PushConstant, Pop, Duplicate, ReturnTop}
 use Rattle.st_emit.specs.declared.level.Level.{Level}
 use Rattle.st_emit.specs.declared.form.OneSided.{OneSided}
 use Rattle.st_emit.specs.declared.form.TwoSided.TheVariants.{TrueFirst, FalseFirst}
@@ -50,22 +50,22 @@ same_on x y z a b = record {
 }
 
 -- code that is returned by a 124
-abbrev top : List Step → List Step
+abbrev top : List Instruction → List Instruction
 top c = c ++ ReturnTop ∷ []
 
-pub same_assign : (p : Place) (x y : Node) → Same x y → Same (assign p x) (assign p y)
+pub same_assign : (p : InstructionOperand) (x y : Node) → Same x y → Same (assign p x) (assign p y)
 same_assign p x y s =
     record {
-      code = λ u. ap (λ (c : List Step). c ++ stored u p ∷ []) (s.code for_value);
+      code = λ u. ap (λ (c : List Instruction). c ++ stored u p ∷ []) (s.code for_value);
       level = λ u l. ap (level_used u) (s.level for_value l);
-      back = ap (λ (c : List Step). top (c ++ stored for_value p ∷ [])) (s.code for_value);
+      back = ap (λ (c : List Instruction). top (c ++ stored for_value p ∷ [])) (s.code for_value);
       back_level = λ l. ap ended (s.level for_value l);
       inner = body_same nothing;
     }
 
 pub same_send : (above : Bool) (x y : Node) (ms ns : Messages) → Same x y → SameMessages ms ns → Same (send above x ms) (send above y ns)
 same_send above x y ms ns s m =
-    let code = λ (u : Use). ap₂ (λ (a b : List Step). used u (a ++ b)) (s.code for_value) (m.code above) in
+    let code = λ (u : Use). ap₂ (λ (a b : List Instruction). used u (a ++ b)) (s.code for_value) (m.code above) in
     let level = λ (l : Level). ap (messages_level ms) (s.level for_value l) ∙ m.level (level_of for_value y l) in
     record {
       code = code;
@@ -78,10 +78,10 @@ same_send above x y ms ns s m =
 pub same_block : (first other n : ℕ) (x y : Node) (a b : Body) → pop_arguments first n ≡ pop_arguments other n → Same x y → SameBody a b → Same (block first n x a) (block other n y b)
 same_block first other n x y a b p s h =
     let inside : pop_arguments first n ++ (body_code a ++ block_end (returns a)) ≡ pop_arguments other n ++ (body_code b ++ block_end (returns b)) =
-    ap (λ (q : List Step). q ++ (body_code a ++ block_end (returns a))) p
-    ∙ ap (λ (c : List Step). pop_arguments other n ++ (c ++ block_end (returns a))) h.code
+    ap (λ (q : List Instruction). q ++ (body_code a ++ block_end (returns a))) p
+    ∙ ap (λ (c : List Instruction). pop_arguments other n ++ (c ++ block_end (returns a))) h.code
     ∙ ap (λ (r : Bool). pop_arguments other n ++ (body_code b ++ block_end r)) h.returns in
-    let code = λ (u : Use). ap₂ (λ (c i : List Step). used u (block_code c i)) (s.code for_value) inside in
+    let code = λ (u : Use). ap₂ (λ (c i : List Instruction). used u (block_code c i)) (s.code for_value) inside in
     let outside = λ (l : Level). ap (popped 1) (s.level for_value (pushed l)) in
     let level = λ (l : Level).
     ap (λ (o : Level). around o (body_level a (popped n (within n o)))) (outside l)
@@ -96,7 +96,7 @@ same_block first other n x y a b p s h =
 
 pub same_sided : (side : OneSided) (x y : Node) (a b : Body) → Same x y → SameBody a b → Same (one_sided side x a) (one_sided side y b)
 same_sided side x y a b s h =
-    let code = λ (u : Use). ap₂ (λ (c d : List Step). used u (choice (passes_on side) c d (PushConstant (other_side side) ∷ []))) (s.code for_value) h.code in
+    let code = λ (u : Use). ap₂ (λ (c d : List Instruction). used u (choice (passes_on side) c d (PushConstant (other_side side) ∷ []))) (s.code for_value) h.code in
     let level = λ (l : Level).
     ap (λ (v : Level). let start = popped 1 v in let first = body_level a start in joined first (pushed (beside start first))) (s.level for_value l)
     ∙ ap (λ (first : Level). joined first (pushed (beside (popped 1 (level_of for_value y l)) first))) (h.level (popped 1 (level_of for_value y l))) in
@@ -111,8 +111,8 @@ same_sided side x y a b s h =
 pub same_chosen : (x y : Node) (a a' b b' : Body) → Same x y → SameBody a a' → SameBody b b' → Same (two_sided TrueFirst x a b) (two_sided TrueFirst y a' b')
 same_chosen x y a a' b b' s h k =
     let code = λ (u : Use).
-    ap₂ (λ (c d : List Step). used u (choice false c d (body_code b))) (s.code for_value) h.code
-    ∙ ap (λ (d : List Step). used u (choice false (code_of for_value y) (body_code a') d)) k.code in
+    ap₂ (λ (c d : List Instruction). used u (choice false c d (body_code b))) (s.code for_value) h.code
+    ∙ ap (λ (d : List Instruction). used u (choice false (code_of for_value y) (body_code a') d)) k.code in
     let level = λ (l : Level).
     let start = popped 1 (level_of for_value y l) in
     ap (λ (v : Level). let s = popped 1 v in let first = body_level a s in joined first (body_level b (beside s first))) (s.level for_value l)
@@ -138,7 +138,7 @@ same_constant side x a e =
 
 pub same_loop : (kind : Loop) (x y a b : Body) → SameBody x y → SameBody a b → Same (loop kind x a) (loop kind y b)
 same_loop kind x y a b s h =
-    let code = λ (u : Use). ap₂ (λ (c d : List Step). used u (repeat (leaves_on kind) c d)) s.code h.code in
+    let code = λ (u : Use). ap₂ (λ (c d : List Instruction). used u (repeat (leaves_on kind) c d)) s.code h.code in
     let level = λ (l : Level).
     let start = popped 1 (body_level y l) in
     ap (λ (v : Level). let s = popped 1 v in pushed (beside s (body_level a s))) (s.level l) ∙ ap (λ (first : Level). pushed (beside start first)) (h.level start) in
@@ -170,7 +170,7 @@ before_some n (returned m) = tt
 
 pub same_next : (x y : Node) (a b : Body) → Same x y → SameBody a b → SameBody (next x a) (next y b)
 same_next x y a b s h = record {
-  code = ap₂ (λ (c d : List Step). c ++ d) (s.code for_effect) h.code;
+  code = ap₂ (λ (c d : List Instruction). c ++ d) (s.code for_effect) h.code;
   level = λ l. ap (body_level a) (s.level for_effect l) ∙ h.level (level_of for_effect y l);
   returns = h.returns;
 }
@@ -188,22 +188,22 @@ same_nothing = record { code = refl; level = λ l. refl; returns = refl }
 
 pub same_node : (x y : Node) (ms ns : Nodes) → Same x y → SameNodes ms ns → SameNodes (node x ms) (node y ns)
 same_node x y ms ns s h = record {
-  code = ap₂ (λ (c d : List Step). c ++ d) (s.code for_value) h.code;
+  code = ap₂ (λ (c d : List Instruction). c ++ d) (s.code for_value) h.code;
   level = λ l. ap (nodes_level ms) (s.level for_value l) ∙ h.level (level_of for_value y l);
   count = ap (λ (k : ℕ). k + 1) h.count;
 }
 
 pub same_only : (t : Sending) (ms ns : Nodes) → SameNodes ms ns → SameMessages (only t ms) (only t ns)
 same_only t ms ns h = record {
-  code = λ above. ap₂ (λ (c : List Step) (k : ℕ). c ++ send_step above t.by k ∷ []) h.code h.count;
+  code = λ above. ap₂ (λ (c : List Instruction) (k : ℕ). c ++ send_step above t.by k ∷ []) h.code h.count;
   level = λ l. ap₂ (λ (k : ℕ) (v : Level). popped k v) h.count (h.level l);
 }
 
 pub same_also : (t : Sending) (ms ns : Nodes) (xs ys : Messages) → SameNodes ms ns → SameMessages xs ys → SameMessages (also t ms xs) (also t ns ys)
 same_also t ms ns xs ys h k = record {
   code = λ above.
-      ap₂ (λ (c : List Step) (i : ℕ). Duplicate ∷ (c ++ send_step above t.by i ∷ Pop ∷ messages_code above xs)) h.code h.count
-      ∙ ap (λ (d : List Step). Duplicate ∷ (nodes_code ns ++ send_step above t.by (count ns) ∷ Pop ∷ d)) (k.code above);
+      ap₂ (λ (c : List Instruction) (i : ℕ). Duplicate ∷ (c ++ send_step above t.by i ∷ Pop ∷ messages_code above xs)) h.code h.count
+      ∙ ap (λ (d : List Instruction). Duplicate ∷ (nodes_code ns ++ send_step above t.by (count ns) ∷ Pop ∷ d)) (k.code above);
   level = λ l.
       ap₂ (λ (i : ℕ) (v : Level). messages_level xs (popped 1 (popped i v))) h.count (h.level (pushed l))
       ∙ k.level (popped 1 (popped (count ns) (nodes_level ns (pushed l))));

@@ -1,8 +1,8 @@
 -- What holds of the selectors of the forms with one side.
 use Rattle.std.proofs.Common.{ℕ, Bool, true, false, List, Option, Some, None}
 use Rattle.std.specs.Prelude.{codes}
-use Rattle.st_emit.specs.declared.step.Constant.{Constant}
-use Rattle.st_emit.specs.declared.step.Constant.TheVariants.{True, False, Nil}
+use Rattle.st_emit.specs.declared.instruction.Constant.{Constant}
+use Rattle.st_emit.specs.declared.instruction.Constant.TheVariants.{True, False, Nil}
 use Rattle.st_expression_stack.specs.Choosing.{one_sided_by}
 
 abbrev pub IfNamed : (List ℕ → Type 0) → Option (List ℕ) → Type 0

@@ -2,7 +2,7 @@
 use Rattle.std.proofs.Common.{◌≡◌, ℕ, zero, suc, ◌+◌, ◌≤◌, min, Bool, true, false, not, ◌&&◌, List, [], ◌∷◌, ◌++◌, None, length, refl, sym, ap, ap₂, ◌∙◌, subst, arith, append-nil}
 use Rattle.st_scan.specs.Views.{NameView, ExpressionView, ExpressionsView, StatementsView, MessagesView, is_super, no_statements}
 use Rattle.st_scan.specs.Views as views
-use Rattle.st_emit.specs.declared.step.Place.{Place}
+use Rattle.st_emit.specs.declared.instruction.InstructionOperand.{InstructionOperand}
 use Rattle.st_emit.specs.declared.form.TwoSided.TheVariants.{TrueFirst, FalseFirst}
 use Rattle.st_emit.specs.declared.form.Form.{Form}
 use Rattle.st_emit.specs.declared.form.Form.TheVariants.{Message as Plain, One, Two, Repeated}
@@ -35,7 +35,7 @@ pub some_body : (r : Bool) (e : ExpressionView) (ss : StatementsView) (c : Conte
 some_body true e ss c acc = tt
 some_body false e ss c acc = before_some (expression_node e c acc).part (statements_body ss (behind c (names_in e)) (expression_node e c acc).literals).part
 
-module _ (name_of : Place → List ℕ) (names : NamesView) (literals : List LiteralView) (are : AreNames name_of names literals) where
+module _ (name_of : InstructionOperand → List ℕ) (names : NamesView) (literals : List LiteralView) (are : AreNames name_of names literals) where
   abbrev ctx : Scope → ℕ → Context
   ctx s n = at_next name_of names literals s n
 

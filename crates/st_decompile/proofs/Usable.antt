@@ -8,9 +8,9 @@ use Rattle.std.proofs.lemmas.Slice.Eq.{bytes_eq-Decides}
 use Rattle.std.specs.Char.{is_ascii_digit}
 use Rattle.std.specs.Prelude.{if◌then◌else◌, is_some, option_map, nat_lt, find, slice_get, bytes_eq, codes}
 use Rattle.st_scan.specs.Pieces.{is_name}
-use Rattle.st_emit.specs.declared.step.Constant.{Constant}
-use Rattle.st_emit.specs.declared.step.Place.{Place}
-use Rattle.st_emit.specs.declared.step.Place.TheVariants.{Field, Temporary, Literal, Shared}
+use Rattle.st_emit.specs.declared.instruction.Constant.{Constant}
+use Rattle.st_emit.specs.declared.instruction.InstructionOperand.{InstructionOperand}
+use Rattle.st_emit.specs.declared.instruction.InstructionOperand.TheVariants.{Field, Temporary, Literal, Shared}
 use Rattle.st_emit.specs.Names.{NamesView, SharedName, field, shared, constant_named, field_from, if_named, field_named, shared_named, variable_named, or_else}
 use Rattle.st_emit.specs.Literals.{LiteralView, named}
 use Rattle.st_decompile.specs.inside.Calling.{IsOutside, IsFieldName, IsSharedName, AreNames}
@@ -256,7 +256,7 @@ word_literals names (l ∷ ls) (suc p) = word_literals names ls p
 -- ALL OF THEM
 
 module _ (names : NamesView) (literals : List LiteralView) where
-  abbrev pub called_by : Place → List ℕ
+  abbrev pub called_by : InstructionOperand → List ℕ
   called_by = name_in (calling_of names literals)
 
   abbrev taken : List ℕ → Bool
@@ -265,7 +265,7 @@ module _ (names : NamesView) (literals : List LiteralView) where
   abbrev count : ℕ
   count = length (texts_in names)
 
-  called_word : (p : Place) → IsWord (called_by p)
+  called_word : (p : InstructionOperand) → IsWord (called_by p)
   called_word (Field n) = word_field names.fields n
   called_word (Temporary k) = numbered_word (own_number taken count k)
   called_word (Literal n) = word_unused

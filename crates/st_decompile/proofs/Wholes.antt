@@ -3,8 +3,8 @@ use Rattle.std.proofs.Common.{◌≡◌, ℕ, ◌+◌, ◌*◌, ◌≤◌, ◌==
 use Rattle.std.specs.Prelude.{if◌then◌else◌, nat_lt, is_some, Ok}
 use Rattle.st_scan.specs.Views.{NameView, MethodView}
 use Rattle.st_emit.specs.Bounds.{most_literals, most_variables, most_flagged, most_bytes, small_room, large_room}
-use Rattle.st_emit.specs.declared.step.Place.{Place}
-use Rattle.st_emit.specs.declared.step.Step.{Step}
+use Rattle.st_emit.specs.declared.instruction.InstructionOperand.{InstructionOperand}
+use Rattle.st_emit.specs.declared.instruction.Instruction.{Instruction}
 use Rattle.st_emit.specs.Names.{NamesView, Scope, numbered, declared, or_else}
 use Rattle.st_emit.specs.Literals.{LiteralView, Named, number, owner}
 use Rattle.st_emit.specs.Nodes.{Body}
@@ -31,7 +31,7 @@ pub no_fault_if : (b : Bool) (x : _) → fault_if b x ≡ None → b ≡ false
 no_fault_if true x e = absurd cc
 no_fault_if false x e = refl
 
-module _ (name_of : Place → List ℕ) (names : NamesView) (tree : MethodView) (are : AreNames name_of names (literals tree names)) where
+module _ (name_of : InstructionOperand → List ℕ) (names : NamesView) (tree : MethodView) (are : AreNames name_of names (literals tree names)) where
   abbrev was : Named Body
   was = body tree names
 
@@ -98,7 +98,7 @@ module _ (name_of : Place → List ℕ) (names : NamesView) (tree : MethodView) 
 
     last_again : last_of tree_again (flag tree_again names) (steps tree_again names) ≡ last_of tree (flag tree names) (steps tree names)
     last_again =
-        ap₂ (λ (f : ℕ) (ss : List Step). last_of tree_again f ss) flag_again steps_again
+        ap₂ (λ (f : ℕ) (ss : List Instruction). last_of tree_again f ss) flag_again steps_again
         ∙ ap (λ (a : ℕ). if flag tree names == 7 then number (record { minus = false; size = a * 256 + primitive_number tree.primitive }) ∷ owner ∷ [] else (if sends_super (steps tree names) then owner ∷ [] else [])) arguments_length
 
     pub literals_again : literals tree_again names ≡ literals tree names
@@ -133,16 +133,16 @@ module _ (name_of : Place → List ℕ) (names : NamesView) (tree : MethodView) 
     pub parts_again : parts tree_again names ≡ parts tree names
     parts_again =
         ap (λ (h : ℕ). record { selector = tree.selector; header = h; literals = literals tree_again names; bytes = all_bytes (steps tree_again names) }) header_again
-        ∙ ap₂ (λ (ls : List LiteralView) (ss : List Step). record { selector = tree.selector; header = header tree names; literals = ls; bytes = all_bytes ss }) literals_again steps_again
+        ∙ ap₂ (λ (ls : List LiteralView) (ss : List Instruction). record { selector = tree.selector; header = header tree names; literals = ls; bytes = all_bytes ss }) literals_again steps_again
 
     pub whole_again : whole_fault tree_again names ≡ whole_fault tree names
     whole_again =
-        let bounds : ℕ → ℕ → Bool → List Step → Option Fault = λ n v p ss.
+        let bounds : ℕ → ℕ → Bool → List Instruction → Option Fault = λ n v p ss.
         or_else (symbols_fault names.symbols) (or_else (primitive_fault tree.primitive)
         (or_else (fault_if (nat_lt most_literals n) Literals) (or_else (fault_if (nat_lt most_variables v) Temporaries) (or_else (fault_if p Depth)
         (or_else (fault_if (not (all_reach ss)) Jump) (fault_if (nat_lt most_bytes (n * 2 + 2 + size ss)) Size)))))) in
         ap₂ (λ (n v : ℕ). bounds n v (passes large_room (variables tree_again names) (depth tree_again names)) (steps tree_again names)) (ap (λ (ls : List LiteralView). length ls) literals_again) variables_again
-        ∙ ap₂ (λ (p : Bool) (ss : List Step). bounds (length (literals tree names)) (variables tree names) p ss) (passes_again large_room) steps_again
+        ∙ ap₂ (λ (p : Bool) (ss : List Instruction). bounds (length (literals tree names)) (variables tree names) p ss) (passes_again large_room) steps_again
 
     -- and the same code, where no name of the tree has a fault
     pub code_again : method_fault names tree_again ≡ None → code tree_again names ≡ Ok (parts tree names)

@@ -6,8 +6,8 @@ use Rattle.st_scan.specs.Views as views
 use Rattle.st_scan.specs.Pieces.{is_name}
 use Rattle.st_grammar.specs.inside.Formed.{ReceiverFormed, StatementsFormed, MessagesFormed, ArgumentsFormed, IsWellFormed}
 use Rattle.st_emit.specs.Bounds.{most_flagged}
-use Rattle.st_emit.specs.declared.step.Constant.{Constant}
-use Rattle.st_emit.specs.declared.step.Step.{Step}
+use Rattle.st_emit.specs.declared.instruction.Constant.{Constant}
+use Rattle.st_emit.specs.declared.instruction.Instruction.{Instruction}
 use Rattle.st_emit.specs.Names.{NamesView, Scope, Variable, field, shared, constant_named, declared_as, declared, field_named, shared_named, variable_named, own_variable, or_else}
 use Rattle.st_emit.specs.Literals.{LiteralView, Named, Naming, given, ◌>>=◌}
 use Rattle.st_emit.specs.Literals as lits

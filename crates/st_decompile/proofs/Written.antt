@@ -3,9 +3,9 @@ use Rattle.std.proofs.Common.{◌≡◌, ℕ, zero, suc, ◌≤◌, Bool, true, 
 use Rattle.std.specs.Prelude.{IsFalse, if◌then◌else◌, bytes_eq, codes, nat_lt}
 use Rattle.st_scan.specs.Views.{is_super, ExpressionView, StatementsView, no_statements, statement, no_expressions}
 use Rattle.st_scan.specs.Views as views
-use Rattle.st_emit.specs.declared.step.Constant.{Constant}
-use Rattle.st_emit.specs.declared.step.Constant.TheVariants.{Receiver, True, False, Nil, Context}
-use Rattle.st_emit.specs.declared.step.Place.{Place}
+use Rattle.st_emit.specs.declared.instruction.Constant.{Constant}
+use Rattle.st_emit.specs.declared.instruction.Constant.TheVariants.{Receiver, True, False, Nil, Context}
+use Rattle.st_emit.specs.declared.instruction.InstructionOperand.{InstructionOperand}
 use Rattle.st_emit.specs.declared.form.TwoSided.TheVariants.{TrueFirst, FalseFirst}
 use Rattle.st_emit.specs.Nodes as nodes
 use Rattle.st_emit.specs.Nodes.{Node, Body, Messages, Nodes, count}
@@ -90,8 +90,8 @@ small_written (suc n) h = (omega (arith, h), refl)
 
 -- NODES
 
-module _ (name_of : Place → List ℕ) (are_names : (p : Place) → is_name (name_of p) ≡ true) (none_super : (p : Place) → bytes_eq (name_of p) (codes "super") ≡ false) where
-  pub names_written : (ps : List Place) → NamesFormed (map (λ p. called (name_of p)) ps)
+module _ (name_of : InstructionOperand → List ℕ) (are_names : (p : InstructionOperand) → is_name (name_of p) ≡ true) (none_super : (p : InstructionOperand) → bytes_eq (name_of p) (codes "super") ≡ false) where
+  pub names_written : (ps : List InstructionOperand) → NamesFormed (map (λ p. called (name_of p)) ps)
   names_written [] = tt
   names_written (p ∷ ps) = (are_names p, names_written ps)
 

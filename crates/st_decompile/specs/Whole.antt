@@ -2,7 +2,7 @@
 use Rattle.std.specs.Prelude.{ℕ, suc, ◌-◌, ◌/◌, ◌%◌, ◌==◌, false, List, [], map, length, slice_get, Option, Some, None, if◌then◌else◌}
 use Rattle.st_scan.specs.declared.token.Signed.{Signed}
 use Rattle.st_scan.specs.Views.{NameView, MethodView}
-use Rattle.st_emit.specs.declared.step.Place.{Place}
+use Rattle.st_emit.specs.declared.instruction.InstructionOperand.{InstructionOperand}
 use Rattle.st_emit.specs.Literals.{LiteralView, number}
 use Rattle.st_code.specs.Methods.{PartsView}
 use Rattle.st_resolved.specs.Instructions.{on_some, steps_of}
@@ -43,7 +43,7 @@ primitive_in p = if flag_in p.header == 7 then primitive_by (extension_in p.lite
 
 -- METHODS
 
-module _ (name_of : Place → List ℕ) where
+module _ (name_of : InstructionOperand → List ℕ) where
   abbrev pub variables_called : (first n : ℕ) → List NameView
   variables_called first n = map (λ p. called (name_of p)) (places_from first n [])
 

@@ -3,7 +3,7 @@
 ghost use Rattle.std.specs.Prelude.{◌≡◌, drop, IfOk};
 ghost use Rattle.st_decompile.specs.inside.Decoded.{AreSteps};
 
-use st_emit::Step;
+use st_emit::Instruction;
 use st_resolved::instruction;
 use std::alloc::{AllocError, Global};
 
@@ -19,7 +19,7 @@ fn behind(count: usize, bytes: &[u8]) -> &[u8]
 }
 
 /// Bytes as instructions.
-pub fn steps_of(alloc: Global, bytes: &[u8]) -> Result<Option<Vec<Step>>, AllocError>
+pub fn steps_of(alloc: Global, bytes: &[u8]) -> Result<Option<Vec<Instruction>>, AllocError>
     ensures { IfOk result (AreSteps bytes.now) }
 {
     let mut steps = Vec::new(alloc);

@@ -4,18 +4,18 @@ ghost use Rattle.std.specs.Prelude.{◌≡◌, ◌≤◌, length, option_map, If
 ghost use Rattle.st_decompile.specs.inside.Located.{located_from, place_or, split_now, split_of};
 ghost use Rattle.st_decompile.specs.inside.Located.{AreSpaced, AreWithin, AreFront, AreBehind};
 
-use st_emit::{Step, size_of, sum};
+use st_emit::{Instruction, size_of, sum};
 use std::alloc::{AllocError, Global};
 
 /// An instruction, and the place of its first byte.
 #[derive(Clone, Copy)]
 pub struct Located {
     pub at: usize,
-    pub step: Step,
+    pub step: Instruction,
 }
 
 /// Instructions that stand one behind the other from a place on.
-pub fn locate(alloc: Global, at: usize, steps: &[Step]) -> Result<Vec<Located>, AllocError>
+pub fn locate(alloc: Global, at: usize, steps: &[Instruction]) -> Result<Vec<Located>, AllocError>
     ensures { IfOk result (λ ls. ls.items ≡ located_from at steps.now) }
 {
     let mut located = Vec::new(alloc);

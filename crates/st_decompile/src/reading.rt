@@ -3,7 +3,7 @@
 ghost use Rattle.std.specs.Prelude.{◌≡◌, ◌-◌, ◌++◌, ◌∷◌, true, map, slice_get, IfOk, OnOk};
 ghost use Rattle.std.specs.Prelude.{option_map, ℕ, List};
 ghost use Rattle.st_scan.specs.Views.{expression_view, names_view};
-ghost use Rattle.st_emit.specs.{declared.step.Step.{Step as StepView}, Nodes.is_above, Selectors.sends_now};
+ghost use Rattle.st_emit.specs.{declared.instruction.Instruction.{Instruction as StepView}, Nodes.is_above, Selectors.sends_now};
 ghost use Rattle.st_emit.specs.Resolving.{special_selectors, first_special};
 ghost use Rattle.st_emit.specs.inside.Views.{literal_view, literals_view};
 ghost use Rattle.st_resolved.specs.Instructions.{on_some};
@@ -17,7 +17,7 @@ ghost use Rattle.st_decompile.specs.inside.Read.{popped_by, popped_into_by, stor
 ghost use Rattle.st_decompile.specs.inside.Read.{pushes_by, arguments_by, selector_in, sends_by, special_sends_by};
 ghost use Rattle.st_decompile.specs.inside.Read.{returns_top_by, IsPlain, block_by};
 
-use st_emit::{Constant, Literal, Lookup, Place, SPECIAL_SENDS, Step, sum};
+use st_emit::{Constant, Instruction, InstructionOperand, Literal, Lookup, SPECIAL_SENDS, sum};
 use st_expression_stack::{
     Calling, Item, NO_ARGUMENTS, Piece, Stack, constant_tree, doubled, literal_tree, pop_argument,
     pop_piece, popped, sends, small_tree, statements_of,
@@ -86,11 +86,11 @@ fn literal_as_tree(
 fn pushed_tree(
     alloc: Global,
     reading: Reading<'_>,
-    place: Place,
+    place: InstructionOperand,
 ) -> Result<Option<Expression>, AllocError>
     ensures { IfOk result (λ e. option_map expression_view e ≡ pushed_by reading.entry place) }
 {
-    if let Place::Literal(n) = place {
+    if let InstructionOperand::Literal(n) = place {
         return literal_as_tree(alloc, reading.literals.get(n));
     }
     let name = reading.calling.name_of(alloc, place)?;
@@ -101,7 +101,7 @@ fn pushed_tree(
 fn assigned(
     alloc: Global,
     reading: Reading<'_>,
-    place: Place,
+    place: InstructionOperand,
     value: Piece,
 ) -> Result<Piece, AllocError>
     ensures { IfOk result (λ p. piece_view p ≡ assigned_by reading.entry place (piece_view value)) }
@@ -121,7 +121,7 @@ fn assigned(
 fn popped_as(
     alloc: Global,
     reading: Reading<'_>,
-    place: Place,
+    place: InstructionOperand,
     value: Option<Piece>,
 ) -> Result<Item, AllocError>
     ensures { IfOk result (λ x. item_view x ≡ popped_by reading.entry place (option_map piece_view value)) }
@@ -139,7 +139,7 @@ fn popped_as(
 fn popped_into(
     alloc: Global,
     reading: Reading<'_>,
-    place: Place,
+    place: InstructionOperand,
     items: &mut Stack,
 ) -> Result<(), AllocError>
     ensures { OnOk result
@@ -155,7 +155,7 @@ fn popped_into(
 fn stored_into(
     alloc: Global,
     reading: Reading<'_>,
-    place: Place,
+    place: InstructionOperand,
     items: &mut Stack,
 ) -> Result<bool, AllocError>
     ensures { Acts result items.new (stored_into_by reading.entry place (stack_view items.old.items)) }
@@ -172,7 +172,7 @@ fn stored_into(
 fn pushes(
     alloc: Global,
     reading: Reading<'_>,
-    place: Place,
+    place: InstructionOperand,
     at: usize,
     items: &mut Stack,
 ) -> Result<bool, AllocError>
@@ -315,7 +315,7 @@ fn returns_constant(
 fn plain_act(
     alloc: Global,
     reading: Reading<'_>,
-    step: Step,
+    step: Instruction,
     at: usize,
     items: &mut Stack,
 ) -> Result<bool, AllocError>
@@ -325,31 +325,37 @@ fn plain_act(
         ≡ act_by reading.entry depth step at next rest (stack_view items.old.items)) }
 {
     match step {
-        Step::Push(place) => pushes(alloc, reading, place, at, items),
-        Step::PushConstant(constant) => pushes_constant(alloc, constant, at, items),
-        Step::PushNumber(n) => put(Item::Piece(leaf(small_tree(n), at)), items),
-        Step::Store(place) => stored_into(alloc, reading, place, items),
-        Step::PopStore(place) => {
+        Instruction::Push(place) => pushes(alloc, reading, place, at, items),
+        Instruction::PushConstant(constant) => pushes_constant(alloc, constant, at, items),
+        Instruction::PushNumber(n) => put(Item::Piece(leaf(small_tree(n), at)), items),
+        Instruction::Store(place) => stored_into(alloc, reading, place, items),
+        Instruction::PopStore(place) => {
             popped_into(alloc, reading, place, items)?;
             Ok(true)
         }
-        Step::Pop => {
+        Instruction::Pop => {
             popped(items)?;
             Ok(true)
         }
-        Step::Duplicate => doubled(alloc, items),
-        Step::Send { selector, .. } => sends_at(alloc, reading, Lookup::InClass, selector, items),
-        Step::SendSuper { selector, .. } => {
+        Instruction::Duplicate => doubled(alloc, items),
+        Instruction::Send { selector, .. } => sends_at(
+            alloc,
+            reading,
+            Lookup::InClass,
+            selector,
+            items,
+        ),
+        Instruction::SendSuper { selector, .. } => {
             sends_at(alloc, reading, Lookup::InSuperclass, selector, items)
         }
-        Step::SendSpecial(code) => sends_special(alloc, code, items),
-        Step::ReturnConstant(constant) => returns_constant(alloc, constant, at, items),
-        Step::ReturnTop => returns_top(items),
-        Step::ReturnBlock => Ok(true),
-        Step::Jump(d) => put(Item::Over(d), items),
-        Step::JumpPast(d) => put(Item::Over(d), items),
-        Step::JumpBack(d) => put(Item::Back(d), items),
-        Step::JumpIf(_, _) => Ok(false),
+        Instruction::SendSpecial(code) => sends_special(alloc, code, items),
+        Instruction::ReturnConstant(constant) => returns_constant(alloc, constant, at, items),
+        Instruction::ReturnTop => returns_top(items),
+        Instruction::ReturnBlock => Ok(true),
+        Instruction::Jump(d) => put(Item::Over(d), items),
+        Instruction::JumpPast(d) => put(Item::Over(d), items),
+        Instruction::JumpBack(d) => put(Item::Back(d), items),
+        Instruction::JumpIf(_, _) => Ok(false),
     }
 }
 
@@ -357,7 +363,7 @@ fn plain_act(
 pub fn acts_plainly(
     alloc: Global,
     reading: Reading<'_>,
-    step: Step,
+    step: Instruction,
     at: usize,
     items: &mut Stack,
 ) -> Result<Option<usize>, AllocError>
@@ -390,11 +396,11 @@ fn other_arguments(
 }
 
 /// The number of an argument of a block.
-fn argument_number(place: Place) -> usize
+fn argument_number(place: InstructionOperand) -> usize
     ensures { result ≡ argument_number place }
 {
     match place {
-        Place::Temporary(n) => n,
+        InstructionOperand::Temporary(n) => n,
         _ => NO_ARGUMENTS,
     }
 }

@@ -1,7 +1,7 @@
 //! The regions of a method's code: the bodies of blocks, the sides of conditional forms, and loops.
 
 ghost use Rattle.std.specs.Prelude.{◌≡◌, ◌∷◌, [], IfOk};
-ghost use Rattle.st_emit.specs.declared.step.Step.TheVariants.{JumpIf};
+ghost use Rattle.st_emit.specs.declared.instruction.Instruction.TheVariants.{JumpIf};
 ghost use Rattle.st_expression_stack.specs.Items.{over};
 ghost use Rattle.st_expression_stack.specs.inside.Stacks.{stack_view, piece_view, taken_view, Passes, Chooses, stack_if};
 ghost use Rattle.st_decompile.specs.{Reading.{choice_piece, loop_piece}, inside.Located.{AreSpaced, steps_in}};
@@ -10,7 +10,7 @@ ghost use Rattle.st_decompile.specs.inside.Read.{makes_block_by, block_made_by, 
 
 use crate::located::{Located, behind, first_place, front, locate, split};
 use crate::reading::{Reading, acts_plainly, block_piece, block_start};
-use st_emit::{Step, size_of, sum};
+use st_emit::{Instruction, size_of, sum};
 use st_expression_stack::{
     Item, Piece, Stack, Statements, choice_tree, loop_tree, pop_piece, put_low, statements_from,
     statements_of,
@@ -46,8 +46,8 @@ fn passed(steps: &[Located]) -> Option<(usize, &[Located])>
         return None;
     };
     match first.step {
-        Step::JumpPast(distance) => Some((distance, rest)),
-        Step::Jump(distance) => Some((distance, rest)),
+        Instruction::JumpPast(distance) => Some((distance, rest)),
+        Instruction::Jump(distance) => Some((distance, rest)),
         _ => None,
     }
 }
@@ -303,7 +303,7 @@ fn act(
     alloc: Global,
     reading: Reading<'_>,
     depth: usize,
-    step: Step,
+    step: Instruction,
     spot: Spot<'_>,
     items: &mut Stack,
 ) -> Result<Option<usize>, AllocError>
@@ -312,8 +312,10 @@ fn act(
         (steps_in spot.entry.rest.now) (stack_view items.old.items)) }
 {
     match step {
-        Step::JumpIf(on, distance) => decides(alloc, reading, depth, on, distance, spot, items),
-        Step::SendSpecial(code) => {
+        Instruction::JumpIf(on, distance) => decides(
+            alloc, reading, depth, on, distance, spot, items,
+        ),
+        Instruction::SendSpecial(code) => {
             let copies = code == BLOCK_COPY;
             if copies {
                 makes_block(alloc, reading, depth, spot, items)
@@ -365,7 +367,7 @@ pub fn region(
     reading: Reading<'_>,
     depth: usize,
     at: usize,
-    steps: &[Step],
+    steps: &[Instruction],
 ) -> Result<Option<Stack>, AllocError>
     ensures { IfOk result (λ items. stack_if items ≡ region_by reading.entry depth at steps.now) }
 {

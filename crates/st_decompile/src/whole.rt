@@ -14,7 +14,7 @@ use crate::instruction::steps_of;
 use crate::reading::Reading;
 use crate::region::region;
 use st_code::MethodParts;
-use st_emit::{Literal, Place, sum};
+use st_emit::{InstructionOperand, Literal, sum};
 use st_expression_stack::{Calling, NO_ARGUMENTS, Stack, Statements, arity, statements_of};
 use st_scan::{Expression, MethodTree, NameList, Signed, Statement, StatementList};
 use std::alloc::{AllocError, Global};
@@ -116,7 +116,7 @@ fn variables_called(
     let mut names = Vec::new(alloc);
     for i in 0..count {
         let number = sum(first, i)?;
-        let name = calling.name_of(alloc, Place::Temporary(number))?;
+        let name = calling.name_of(alloc, InstructionOperand::Temporary(number))?;
         names.push(name)?;
     }
     Ok(names)

@@ -3,7 +3,7 @@ use Rattle.std.proofs.Common.{◌≡◌, ℕ, ◌+◌, List, [], ◌∷◌, ◌+
 use Rattle.std.specs.Prelude.{slice_set}
 use Rattle.std.proofs.Math.Seq.{set-append_seam}
 use Rattle.std.proofs.lemmas.List.{drop_at}
-use Rattle.st_emit.specs.declared.step.Step.{Step}
+use Rattle.st_emit.specs.declared.instruction.Instruction.{Instruction}
 use Rattle.st_emit.specs.declared.level.Level.{Level}
 use Rattle.st_emit.specs.declared.draft.Draft.{Draft}
 use Rattle.st_emit.specs.Literals.{LiteralView}
@@ -60,16 +60,16 @@ goes_on p rest rest' whole old draft draft' g a same =
 -- PATCHES
 
 -- an instruction is written again behind these
-pub set_behind : (base behind : List Step) (x y : Step) (n : ℕ) → n ≡ length base → slice_set ((base ++ x ∷ []) ++ behind) n y ≡ base ++ y ∷ behind
+pub set_behind : (base behind : List Instruction) (x y : Instruction) (n : ℕ) → n ≡ length base → slice_set ((base ++ x ∷ []) ++ behind) n y ≡ base ++ y ∷ behind
 set_behind base behind x y n e =
     ap (λ l. slice_set l n y) (append_assoc base (x ∷ []) behind) ∙ ap (λ i. slice_set (base ++ x ∷ behind) i y) e ∙ set-append_seam base x behind y
 
 -- the instructions behind one
-pub drop_behind : (base behind : List Step) (x : Step) (n : ℕ) → n ≡ length base → drop (n + 1) ((base ++ x ∷ []) ++ behind) ≡ behind
+pub drop_behind : (base behind : List Instruction) (x : Instruction) (n : ℕ) → n ≡ length base → drop (n + 1) ((base ++ x ∷ []) ++ behind) ≡ behind
 drop_behind base behind x n e =
     let long : length (base ++ x ∷ []) ≡ n + 1 = omega (arith, length-append base (x ∷ []), e) in
     drop_at (base ++ x ∷ []) behind (n + 1) long
 
-pub size-append : (a b : List Step) → size (a ++ b) ≡ size a + size b
+pub size-append : (a b : List Instruction) → size (a ++ b) ≡ size a + size b
 size-append [] b = omega arith
 size-append (x ∷ a) b = omega (arith, size-append a b)

@@ -8,9 +8,9 @@ use Rattle.st_scan.specs.declared.tree.Message.{Message}
 use Rattle.st_scan.specs.declared.tree.Statement.{Statement}
 use Rattle.st_scan.specs.Views.{NameView, names_view, ExpressionView, StatementsView, MessagesView, ExpressionsView, expression_view, expressions_view, messages_view, statements_view, message, statement, block}
 use Rattle.st_scan.specs.Views as views
-use Rattle.st_emit.specs.declared.step.Constant.TheVariants.{Nil, Context as ActiveContext}
-use Rattle.st_emit.specs.declared.step.Step.{Step}
-use Rattle.st_emit.specs.declared.step.Step.TheVariants.{PushConstant, Pop, Duplicate, SendSpecial, Jump, JumpBack, JumpIf, JumpPast}
+use Rattle.st_emit.specs.declared.instruction.Constant.TheVariants.{Nil, Context as ActiveContext}
+use Rattle.st_emit.specs.declared.instruction.Instruction.{Instruction}
+use Rattle.st_emit.specs.declared.instruction.Instruction.TheVariants.{PushConstant, Pop, Duplicate, SendSpecial, Jump, JumpBack, JumpIf, JumpPast}
 use Rattle.st_emit.specs.declared.level.Level.{Level}
 use Rattle.st_emit.specs.declared.draft.Draft.{Draft}
 use Rattle.st_emit.specs.Names.{Scope, declared}
@@ -102,18 +102,18 @@ body_turn e others c ls h =
 
 -- CHOICES
 
-choice_steps : (on : Bool) (base d2 d4 a b : List Step) (x o : Step) (test over inside n passed : ℕ)
+choice_steps : (on : Bool) (base d2 d4 a b : List Instruction) (x o : Instruction) (test over inside n passed : ℕ)
     → test ≡ length base → d2 ≡ (base ++ x ∷ []) ++ a → over ≡ length d2 → d4 ≡ (d2 ++ o ∷ []) ++ b
     → inside ≡ size (drop (test + 1) d2) → n ≡ size (drop (over + 1) d4) → passed ≡ inside + size_of (Jump n)
     → slice_set (slice_set d4 over (Jump n)) test (JumpIf on passed) ≡ base ++ choice on [] a b
 choice_steps on base d2 d4 a b x o test over inside n passed t e2 v e4 i m p =
-    let first : inside ≡ size a = i ∙ ap (λ (l : List Step). size (drop (test + 1) l)) e2 ∙ ap size (drop_behind base a x test t) in
-    let second : n ≡ size b = m ∙ ap (λ (l : List Step). size (drop (over + 1) l)) e4 ∙ ap size (drop_behind d2 b o over v) in
+    let first : inside ≡ size a = i ∙ ap (λ (l : List Instruction). size (drop (test + 1) l)) e2 ∙ ap size (drop_behind base a x test t) in
+    let second : n ≡ size b = m ∙ ap (λ (l : List Instruction). size (drop (over + 1) l)) e4 ∙ ap size (drop_behind d2 b o over v) in
     let whole : passed ≡ size a + size_of (Jump (size b)) = p ∙ ap (λ (k : ℕ). k + size_of (Jump n)) first ∙ ap (λ (k : ℕ). size a + size_of (Jump k)) second in
     let inner : slice_set d4 over (Jump n) ≡ (base ++ x ∷ []) ++ (a ++ Jump (size b) ∷ b) =
-    ap (λ (l : List Step). slice_set l over (Jump n)) e4 ∙ set_behind d2 b o (Jump n) over v ∙ ap (λ (l : List Step). l ++ Jump n ∷ b) e2
+    ap (λ (l : List Instruction). slice_set l over (Jump n)) e4 ∙ set_behind d2 b o (Jump n) over v ∙ ap (λ (l : List Instruction). l ++ Jump n ∷ b) e2
     ∙ append_assoc (base ++ x ∷ []) a (Jump n ∷ b) ∙ ap (λ (k : ℕ). (base ++ x ∷ []) ++ (a ++ Jump k ∷ b)) second in
-    ap (λ (l : List Step). slice_set l test (JumpIf on passed)) inner ∙ set_behind base (a ++ Jump (size b) ∷ b) x (JumpIf on passed) test t
+    ap (λ (l : List Instruction). slice_set l test (JumpIf on passed)) inner ∙ set_behind base (a ++ Jump (size b) ∷ b) x (JumpIf on passed) test t
     ∙ ap (λ (k : ℕ). base ++ JumpIf on k ∷ (a ++ Jump (size b) ∷ b)) whole
 
 -- two sides, from the drafts on the way
@@ -133,8 +133,8 @@ choice_done on p q d0 d1 d2 d3 d3' d4 test over inside n passed a1 a2 a3 s l v a
     let pa : p (literals_view d1.literals.items) ≡ a = ap p a1.literals in
     let lits : literals_view d3'.literals.items ≡ a.literals = l ∙ a3.literals ∙ a2.literals ∙ ap (λ (x : Part). x.literals) pa in
     let qb : q (literals_view d3'.literals.items) ≡ b = ap q lits in
-    let e2 : d2.steps.items ≡ (d0.steps.items ++ JumpIf on 0 ∷ []) ++ a.steps = a2.steps ∙ ap (λ (x : Part). d1.steps.items ++ x.steps) pa ∙ ap (λ (x : List Step). x ++ a.steps) a1.steps in
-    let e4 : d4.steps.items ≡ (d2.steps.items ++ Jump 0 ∷ []) ++ b.steps = a4.steps ∙ ap (λ (x : Part). d3'.steps.items ++ x.steps) qb ∙ ap (λ (x : List Step). x ++ b.steps) (s ∙ a3.steps) in
+    let e2 : d2.steps.items ≡ (d0.steps.items ++ JumpIf on 0 ∷ []) ++ a.steps = a2.steps ∙ ap (λ (x : Part). d1.steps.items ++ x.steps) pa ∙ ap (λ (x : List Instruction). x ++ a.steps) a1.steps in
+    let e4 : d4.steps.items ≡ (d2.steps.items ++ Jump 0 ∷ []) ++ b.steps = a4.steps ∙ ap (λ (x : Part). d3'.steps.items ++ x.steps) qb ∙ ap (λ (x : List Instruction). x ++ b.steps) (s ∙ a3.steps) in
     let first : d3.level ≡ a.level (popped 1 d0.level) = a3.level ∙ a2.level ∙ ap (λ (x : Part). x.level d1.level) pa ∙ ap a.level a1.level in
     let start : d3'.level ≡ beside (popped 1 d0.level) (a.level (popped 1 d0.level)) = v ∙ ap (λ (x : Level). beside x d3.level) a1.level ∙ ap (beside (popped 1 d0.level)) first in
     let second : d4.level ≡ b.level (beside (popped 1 d0.level) (a.level (popped 1 d0.level))) = a4.level ∙ ap (λ (x : Part). x.level d3'.level) qb ∙ ap b.level start in (
@@ -145,22 +145,22 @@ choice_done on p q d0 d1 d2 d3 d3' d4 test over inside n passed a1 a2 a3 s l v a
 
 -- LOOPS
 
-loop_steps : (on : Bool) (base d1 d3 d5 d6 d7 x a : List Step) (begin test inside n passed : ℕ)
+loop_steps : (on : Bool) (base d1 d3 d5 d6 d7 x a : List Instruction) (begin test inside n passed : ℕ)
     → begin ≡ length base → d1 ≡ base ++ x → test ≡ length d1 → d3 ≡ (d1 ++ JumpIf on 0 ∷ []) ++ a → inside ≡ size (drop (test + 1) d3) → n ≡ inside + 3
     → d5 ≡ slice_set (d3 ++ Pop ∷ []) test (JumpIf on n) → passed ≡ size (drop begin d5) + 2 → d6 ≡ d5 ++ JumpBack passed ∷ [] → d7 ≡ d6 ++ PushConstant Nil ∷ []
     → d7 ≡ base ++ repeat on x a
 loop_steps on base d1 d3 d5 d6 d7 x a begin test inside n passed b e1 t e3 i m e5 p e6 e7 =
     let leave = JumpIf on (size a + 3) in
-    let long : n ≡ size a + 3 = m ∙ ap (λ (k : ℕ). k + 3) (i ∙ ap (λ (l : List Step). size (drop (test + 1) l)) e3 ∙ ap size (drop_behind d1 a (JumpIf on 0) test t)) in
+    let long : n ≡ size a + 3 = m ∙ ap (λ (k : ℕ). k + 3) (i ∙ ap (λ (l : List Instruction). size (drop (test + 1) l)) e3 ∙ ap size (drop_behind d1 a (JumpIf on 0) test t)) in
     let set : d5 ≡ d1 ++ leave ∷ (a ++ Pop ∷ []) =
-    e5 ∙ ap (λ (l : List Step). slice_set (l ++ Pop ∷ []) test (JumpIf on n)) e3
-    ∙ ap (λ (l : List Step). slice_set l test (JumpIf on n)) (append_assoc (d1 ++ JumpIf on 0 ∷ []) a (Pop ∷ []))
+    e5 ∙ ap (λ (l : List Instruction). slice_set (l ++ Pop ∷ []) test (JumpIf on n)) e3
+    ∙ ap (λ (l : List Instruction). slice_set l test (JumpIf on n)) (append_assoc (d1 ++ JumpIf on 0 ∷ []) a (Pop ∷ []))
     ∙ set_behind d1 (a ++ Pop ∷ []) (JumpIf on 0) (JumpIf on n) test t
     ∙ ap (λ (k : ℕ). d1 ++ JumpIf on k ∷ (a ++ Pop ∷ [])) long in
-    let whole : d5 ≡ base ++ (x ++ leave ∷ (a ++ Pop ∷ [])) = set ∙ ap (λ (l : List Step). l ++ leave ∷ (a ++ Pop ∷ [])) e1 ∙ append_assoc base x (leave ∷ (a ++ Pop ∷ [])) in
+    let whole : d5 ≡ base ++ (x ++ leave ∷ (a ++ Pop ∷ [])) = set ∙ ap (λ (l : List Instruction). l ++ leave ∷ (a ++ Pop ∷ [])) e1 ∙ append_assoc base x (leave ∷ (a ++ Pop ∷ [])) in
     let dropped : drop begin d5 ≡ x ++ leave ∷ (a ++ Pop ∷ []) = ap (drop begin) whole ∙ drop_at base (x ++ leave ∷ (a ++ Pop ∷ [])) begin (sym b) in
     let back : passed ≡ size x + size_of leave + size a + 3 = omega (arith, p, ap size dropped, size-append x (leave ∷ (a ++ Pop ∷ [])), size-append a (Pop ∷ [])) in
-    e7 ∙ ap (λ (l : List Step). l ++ PushConstant Nil ∷ []) (e6 ∙ ap (λ (l : List Step). l ++ JumpBack passed ∷ []) whole)
+    e7 ∙ ap (λ (l : List Instruction). l ++ PushConstant Nil ∷ []) (e6 ∙ ap (λ (l : List Instruction). l ++ JumpBack passed ∷ []) whole)
     ∙ ap (λ (k : ℕ). ((base ++ (x ++ leave ∷ (a ++ Pop ∷ []))) ++ JumpBack k ∷ []) ++ PushConstant Nil ∷ []) back
     ∙ simp append_assoc
 
@@ -179,11 +179,11 @@ loop_done on p q d0 d1 d2 d3 d4 d5 d6 d6' d7 begin test inside n passed b a1 t a
     let x = p (literals_view d0.literals.items) in
     let a = q x.literals in
     let qa : q (literals_view d2.literals.items) ≡ a = ap q (a2.literals ∙ a1.literals) in
-    let e3 : d3.steps.items ≡ (d1.steps.items ++ JumpIf on 0 ∷ []) ++ a.steps = a3.steps ∙ ap (λ (y : Part). d2.steps.items ++ y.steps) qa ∙ ap (λ (y : List Step). y ++ a.steps) a2.steps in
+    let e3 : d3.steps.items ≡ (d1.steps.items ++ JumpIf on 0 ∷ []) ++ a.steps = a3.steps ∙ ap (λ (y : Part). d2.steps.items ++ y.steps) qa ∙ ap (λ (y : List Instruction). y ++ a.steps) a2.steps in
     let start : d2.level ≡ popped 1 (x.level d0.level) = a2.level ∙ ap (popped 1) a1.level in
     let end : d6.level ≡ a.level (popped 1 (x.level d0.level)) = a6.level ∙ v5 ∙ a4.level ∙ a3.level ∙ ap (λ (y : Part). y.level d2.level) qa ∙ ap a.level start in (
       loop_steps on d0.steps.items d1.steps.items d3.steps.items d5.steps.items d6.steps.items d7.steps.items x.steps a.steps begin test inside n passed b a1.steps t e3 i m
-          (s5 ∙ ap (λ (y : List Step). slice_set y test (JumpIf on n)) a4.steps) w a6.steps (a7.steps ∙ ap (λ (y : List Step). y ++ PushConstant Nil ∷ []) s6),
+          (s5 ∙ ap (λ (y : List Instruction). slice_set y test (JumpIf on n)) a4.steps) w a6.steps (a7.steps ∙ ap (λ (y : List Instruction). y ++ PushConstant Nil ∷ []) s6),
       a7.literals ∙ l6 ∙ a6.literals ∙ l5 ∙ a4.literals ∙ a3.literals ∙ ap (λ (y : Part). y.literals) qa,
       a7.level ∙ ap pushed (v6 ∙ ap (λ (y : Level). beside y d6.level) start ∙ ap (beside (popped 1 (x.level d0.level))) end),
     )
@@ -247,7 +247,7 @@ block_body_adds c ns ss n returned old start mid end h r v s l a b =
     let lits : literals_view start.literals.items ≡ literals_view old.literals.items = ap literals_view l in
     record {
       steps =
-          whole.steps ∙ ap (λ (x : List Step). start.steps.items ++ x) same.0 ∙ ap (λ (x : List Step). x ++ (block_body_part c ns ss (literals_view start.literals.items)).steps) s
+          whole.steps ∙ ap (λ (x : List Instruction). start.steps.items ++ x) same.0 ∙ ap (λ (x : List Instruction). x ++ (block_body_part c ns ss (literals_view start.literals.items)).steps) s
           ∙ ap (λ (x : List LiteralView). old.steps.items ++ (block_body_part c ns ss x).steps) lits;
       literals = whole.literals ∙ same.1 ∙ ap (λ (x : List LiteralView). (block_body_part c ns ss x).literals) lits;
       level = whole.level ∙ same.2 ∙ ap (λ (x : List LiteralView). (block_body_part c ns ss x).level old.level) lits;
@@ -266,14 +266,14 @@ block_done c ns ss k d0 d1 d2 d3 d4 d5 past n h a1 a2 a3 t a4 a5 m =
     let x = number k ls in
     let i = block_body_part c ns ss x.literals in
     let same : block_body_part c ns ss (literals_view d4.literals.items) ≡ i = ap (block_body_part c ns ss) (a4.literals ∙ f.literals) in
-    let e5 : d5.steps.items ≡ (d3.steps.items ++ JumpPast 0 ∷ []) ++ i.steps = a5.steps ∙ ap (λ (y : Part). d4.steps.items ++ y.steps) same ∙ ap (λ (y : List Step). y ++ i.steps) a4.steps in
-    let long : n ≡ size i.steps = m ∙ ap (λ (y : List Step). size (drop (past + 1) y)) e5 ∙ ap size (drop_behind d3.steps.items i.steps (JumpPast 0) past t) in
+    let e5 : d5.steps.items ≡ (d3.steps.items ++ JumpPast 0 ∷ []) ++ i.steps = a5.steps ∙ ap (λ (y : Part). d4.steps.items ++ y.steps) same ∙ ap (λ (y : List Instruction). y ++ i.steps) a4.steps in
+    let long : n ≡ size i.steps = m ∙ ap (λ (y : List Instruction). size (drop (past + 1) y)) e5 ∙ ap size (drop_behind d3.steps.items i.steps (JumpPast 0) past t) in
     let inner : d5.level ≡ i.level d3.level = a5.level ∙ ap (λ (y : Part). y.level d4.level) same ∙ ap i.level a4.level in
     let steps_of = λ (j : ℕ). d0.steps.items ++ PushConstant ActiveContext ∷ ((number j ls).steps ++ SendSpecial 200 ∷ JumpPast (size (block_body_part c ns ss (number j ls).literals).steps) ∷ (block_body_part c ns ss (number j ls).literals).steps) in
     let flat : (d0.steps.items ++ (((PushConstant ActiveContext ∷ []) ++ x.steps) ++ SendSpecial 200 ∷ [])) ++ JumpPast (size i.steps) ∷ i.steps ≡ steps_of k = simp append_assoc in (
-      ap (λ (y : List Step). slice_set y past (JumpPast n)) e5 ∙ set_behind d3.steps.items i.steps (JumpPast 0) (JumpPast n) past t
+      ap (λ (y : List Instruction). slice_set y past (JumpPast n)) e5 ∙ set_behind d3.steps.items i.steps (JumpPast 0) (JumpPast n) past t
           ∙ ap (λ (j : ℕ). d3.steps.items ++ JumpPast j ∷ i.steps) long
-          ∙ ap (λ (y : List Step). y ++ JumpPast (size i.steps) ∷ i.steps) f.steps
+          ∙ ap (λ (y : List Instruction). y ++ JumpPast (size i.steps) ∷ i.steps) f.steps
           ∙ flat ∙ ap steps_of h,
       a5.literals ∙ ap (λ (y : Part). y.literals) same ∙ ap (λ (j : ℕ). (block_body_part c ns ss (number j ls).literals).literals) h,
       ap (around d3.level) inner ∙ ap (λ (v : Level). around v (i.level v)) f.level

@@ -2,13 +2,13 @@
 -- last, and what stands behind it in the long form.
 use Rattle.std.proofs.Common.{◌≡◌, ℕ, List, [], ◌∷◌, true, false, length, refl}
 use Rattle.std.specs.Prelude.{map}
-use Rattle.st_emit.specs.declared.step.Constant.TheVariants.{Receiver, True, False, Nil, Context}
-use Rattle.st_emit.specs.declared.step.Place.TheVariants.{Field, Temporary, Literal, Shared}
-use Rattle.st_emit.specs.declared.step.Step.{Step}
-use Rattle.st_emit.specs.declared.step.Step.TheVariants.{Push, PushConstant, PushNumber, Store, PopStore, Pop, Duplicate, Send, SendSuper, SendSpecial, ReturnConstant, ReturnTop, ReturnBlock, Jump, JumpBack, JumpIf, JumpPast}
+use Rattle.st_emit.specs.declared.instruction.Constant.TheVariants.{Receiver, True, False, Nil, Context}
+use Rattle.st_emit.specs.declared.instruction.InstructionOperand.TheVariants.{Field, Temporary, Literal, Shared}
+use Rattle.st_emit.specs.declared.instruction.Instruction.{Instruction}
+use Rattle.st_emit.specs.declared.instruction.Instruction.TheVariants.{Push, PushConstant, PushNumber, Store, PopStore, Pop, Duplicate, Send, SendSuper, SendSpecial, ReturnConstant, ReturnTop, ReturnBlock, Jump, JumpBack, JumpIf, JumpPast}
 use Rattle.st_emit.specs.Steps.{size_of, bytes_of}
 
-abbrev instructions : List (Step × List ℕ)
+abbrev instructions : List (Instruction × List ℕ)
 instructions =
     -- 0 to 95 push a variable or a literal, 128 by its type and a number of six bits
     (Push (Field 0), 0 ∷ []) ∷ (Push (Field 15), 15 ∷ []) ∷ (Push (Field 16), 128 ∷ 16 ∷ []) ∷ (Push (Field 63), 128 ∷ 63 ∷ [])

@@ -5,9 +5,9 @@ use Rattle.st_scan.specs.declared.token.Signed.{Signed}
 use Rattle.st_scan.specs.Views.{ContentView, ExpressionView, is_super}
 use Rattle.st_scan.specs.Views as views
 use Rattle.st_scan.specs.inside.Chains.{LinkView, assigned, sent}
-use Rattle.st_emit.specs.declared.step.Constant.{Constant}
-use Rattle.st_emit.specs.declared.step.Constant.TheVariants.{Receiver, True, False, Nil, Context}
-use Rattle.st_emit.specs.declared.step.Step.TheVariants.{Pop, ReturnTop, ReturnConstant}
+use Rattle.st_emit.specs.declared.instruction.Constant.{Constant}
+use Rattle.st_emit.specs.declared.instruction.Constant.TheVariants.{Receiver, True, False, Nil, Context}
+use Rattle.st_emit.specs.declared.instruction.Instruction.TheVariants.{Pop, ReturnTop, ReturnConstant}
 use Rattle.st_emit.specs.declared.form.TwoSided.TheVariants.{TrueFirst, FalseFirst}
 use Rattle.st_emit.specs.declared.form.Form.{Form}
 use Rattle.st_emit.specs.declared.form.Form.TheVariants.{Message as Plain, One, Two, Repeated}

@@ -6,7 +6,7 @@ use Rattle.st_emit.specs.declared.names.Variable.{Variable as Kept}
 use Rattle.std.specs.Prelude.{is_some, bytes_eq}
 use Rattle.st_scan.specs.declared.tree.Name.{Name}
 use Rattle.st_scan.specs.Views.{name_view, names_view}
-use Rattle.st_emit.specs.declared.frame.Frame.{Frame}
+use Rattle.st_emit.specs.declared.declared_names.DeclaredNames.{DeclaredNames}
 use Rattle.st_emit.specs.inside.NameViews.{frame_view, scope_view, variable_view, IsVariable}
 use Rattle.st_emit.specs.Names.{Declared, Scope, declared_as, own_variable, or_else, numbered, is_among}
 
@@ -38,7 +38,7 @@ is_some_or : (a b : Option Declared) → is_some (or_else a b) ≡ (is_some a ||
 is_some_or None b = refl
 is_some_or (Some a) b = refl
 
-is_declared_in : (f : Frame) (fs : List Frame) (text : List ℕ) → is_some (declared_as (scope_view (f ∷ fs)) text) ≡ (is_among (names_view f.names.now) text || is_some (declared_as (scope_view fs) text))
+is_declared_in : (f : DeclaredNames) (fs : List DeclaredNames) (text : List ℕ) → is_some (declared_as (scope_view (f ∷ fs)) text) ≡ (is_among (names_view f.names.now) text || is_some (declared_as (scope_view fs) text))
 is_declared_in f fs text =
     ap is_some (find_append (λ d. bytes_eq d.text text) (frame_view f) (scope_view fs)) ∙ is_some_or (declared_as (frame_view f) text) (declared_as (scope_view fs) text)
     ∙ ap (λ b. b || is_some (declared_as (scope_view fs) text)) (among_frame f.assignable f.first f.names.now text)
@@ -48,7 +48,7 @@ found_in : (a b : Scope) (text : List ℕ) → own_variable (declared_as (a ++ b
 found_in a b text = ap own_variable (find_append (λ d. bytes_eq d.text text) a b) ∙ own_or (declared_as a text) (declared_as b text)
 
 -- one frame more is looked through
-pub found_turn : (fs : List Frame) (i : ℕ) (f : Frame) (text : List ℕ) (found : Option Kept) → i < length fs → f ≡ get_or fs i f → IsVariable (own_variable (declared_as (frame_view f) text)) found
+pub found_turn : (fs : List DeclaredNames) (i : ℕ) (f : DeclaredNames) (text : List ℕ) (found : Option Kept) → i < length fs → f ≡ get_or fs i f → IsVariable (own_variable (declared_as (frame_view f) text)) found
     → own_variable (declared_as (scope_view (drop i fs)) text) ≡ or_else (option_map variable_view found) (own_variable (declared_as (scope_view (drop (i + 1) fs)) text))
 found_turn fs i f text found lt e h =
     at_drop_more (λ s. own_variable (declared_as (scope_view s) text)) fs i f lt
@@ -56,7 +56,7 @@ found_turn fs i f text found lt e h =
     ∙ found_in (frame_view f) (scope_view (drop (i + 1) fs)) text
     ∙ ap (λ v. or_else v (own_variable (declared_as (scope_view (drop (i + 1) fs)) text))) (sym h)
 
-pub declared_turn : (fs : List Frame) (i : ℕ) (f : Frame) (text : List ℕ) (among : Bool) → i < length fs → f ≡ get_or fs i f → among ≡ is_among (names_view f.names.now) text
+pub declared_turn : (fs : List DeclaredNames) (i : ℕ) (f : DeclaredNames) (text : List ℕ) (among : Bool) → i < length fs → f ≡ get_or fs i f → among ≡ is_among (names_view f.names.now) text
     → is_some (declared_as (scope_view (drop i fs)) text) ≡ (among || is_some (declared_as (scope_view (drop (i + 1) fs)) text))
 declared_turn fs i f text among lt e h =
     at_drop_more (λ s. is_some (declared_as (scope_view s) text)) fs i f lt
@@ -65,6 +65,6 @@ declared_turn fs i f text among lt e h =
     ∙ ap (λ b. b || is_some (declared_as (scope_view (drop (i + 1) fs)) text)) (sym h)
 
 -- one frame more
-pub scope_view_push : (fs : List Frame) (f : Frame) → scope_view (fs ++ f ∷ []) ≡ scope_view fs ++ frame_view f
+pub scope_view_push : (fs : List DeclaredNames) (f : DeclaredNames) → scope_view (fs ++ f ∷ []) ≡ scope_view fs ++ frame_view f
 scope_view_push [] f = append-nil (frame_view f)
 scope_view_push (g ∷ gs) f = ap (λ s. frame_view g ++ s) (scope_view_push gs f) ∙ sym (append_assoc (frame_view g) (scope_view gs) (frame_view f))

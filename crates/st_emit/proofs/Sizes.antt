@@ -1,9 +1,9 @@
 -- Instructions have as many bytes as their sizes say.
 use Rattle.std.proofs.Common.{◌≡◌, ℕ, ◌+◌, ◌-◌, ◌*◌, ◌/◌, ◌%◌, Bool, true, false, ◌&&◌, List, [], ◌∷◌, ◌++◌, length, refl, arith, length-append}
 use Rattle.std.specs.Prelude.{if◌then◌else◌, nat_lt, nat_le}
-use Rattle.st_emit.specs.declared.step.Place.TheVariants.{Field, Temporary, Literal, Shared}
-use Rattle.st_emit.specs.declared.step.Step.{Step}
-use Rattle.st_emit.specs.declared.step.Step.TheVariants.{Push, PushConstant, PushNumber, Store, PopStore, Pop, Duplicate, Send, SendSuper, SendSpecial, ReturnConstant, ReturnTop, ReturnBlock, Jump, JumpBack, JumpIf, JumpPast}
+use Rattle.st_emit.specs.declared.instruction.InstructionOperand.TheVariants.{Field, Temporary, Literal, Shared}
+use Rattle.st_emit.specs.declared.instruction.Instruction.{Instruction}
+use Rattle.st_emit.specs.declared.instruction.Instruction.TheVariants.{Push, PushConstant, PushNumber, Store, PopStore, Pop, Duplicate, Send, SendSuper, SendSpecial, ReturnConstant, ReturnTop, ReturnBlock, Jump, JumpBack, JumpIf, JumpPast}
 use Rattle.st_emit.specs.Steps.{size, size_of, bytes_of, all_bytes, named_by, long_send, long_send_size}
 use Rattle.st_emit.specs.inside.Laws.{HasItsSize, HaveTheirSize}
 
@@ -20,7 +20,7 @@ one_or : (b : Bool) (x : ℕ) (ys : List ℕ) (n : ℕ) → length ys ≡ n → 
 one_or true x ys n e = refl
 one_or false x ys n e = e
 
-pub size-bytes : (x : Step) → HasItsSize x
+pub size-bytes : (x : Instruction) → HasItsSize x
 size-bytes (Push (Field n)) = one_or_two (nat_lt n 16) (0 + n) 128 (named_by 0 n)
 size-bytes (Push (Temporary n)) = one_or_two (nat_lt n 16) (16 + n) 128 (named_by 1 n)
 size-bytes (Push (Literal n)) = one_or_two (nat_lt n 32) (32 + n) 128 (named_by 2 n)
@@ -47,6 +47,6 @@ size-bytes (JumpIf true d) = refl
 size-bytes (JumpIf false d) = one_or_two (nat_le 1 d && nat_le d 8) (152 + d - 1) (172 + d / 256) (d % 256)
 size-bytes (JumpPast d) = refl
 
-pub sizes-bytes : (xs : List Step) → HaveTheirSize xs
+pub sizes-bytes : (xs : List Instruction) → HaveTheirSize xs
 sizes-bytes [] = refl
 sizes-bytes (x ∷ xs) = omega (arith, length-append (bytes_of x) (all_bytes xs), size-bytes x, sizes-bytes xs)

@@ -1,6 +1,6 @@
 -- How many words code has on the stack at once, on any path from its first byte.
 use Rattle.std.specs.Prelude.{ℕ, ◌+◌, ◌-◌, true, false, ◌||◌, max, if◌then◌else◌}
-use Rattle.st_emit.specs.declared.step.Constant.TheVariants.{Context}
+use Rattle.st_emit.specs.declared.instruction.Constant.TheVariants.{Context}
 use Rattle.st_emit.specs.declared.form.TwoSided.TheVariants.{TrueFirst, FalseFirst}
 use Rattle.st_emit.specs.declared.level.Level.{Level}
 use Rattle.st_emit.specs.Emitting.{Use, for_value, for_effect}

@@ -1,8 +1,8 @@
 -- A method's tree with its names resolved: variables by their numbers, literals and selectors by their places, and the
 -- conditional forms told from messages.
 use Rattle.std.specs.Prelude.{ℕ, ◌+◌, Bool, true, false, List}
-use Rattle.st_emit.specs.declared.step.Constant.{Constant}
-use Rattle.st_emit.specs.declared.step.Place.{Place}
+use Rattle.st_emit.specs.declared.instruction.Constant.{Constant}
+use Rattle.st_emit.specs.declared.instruction.InstructionOperand.{InstructionOperand}
 use Rattle.st_emit.specs.declared.form.By.{By}
 use Rattle.st_emit.specs.declared.form.Lookup.{Lookup}
 use Rattle.st_emit.specs.declared.form.Lookup.TheVariants.{InClass, InSuperclass}
@@ -27,8 +27,8 @@ mutual
     -- a number from -1 to 2, by one more than it
     small : ℕ → Node
     literal : LiteralView → (place : ℕ) → Node
-    variable : Place → Node
-    assign : Place → Node → Node
+    variable : InstructionOperand → Node
+    assign : InstructionOperand → Node → Node
     -- a block: the number of its first argument, how many it has, that count as a node, and its statements
     block : (first arguments : ℕ) → Node → Body → Node
     -- a receiver and its messages, to super or not
@@ -67,7 +67,7 @@ body_of _ = nothing
 
 -- it is assigned to a variable; messages are sent to it; or it stands before the blocks of a conditional form
 pub data Tail : Type 0 where
-  assigned : Place → Tail
+  assigned : InstructionOperand → Tail
   sent : (above : Bool) → Messages → Tail
   sided : OneSided → Body → Tail
   chosen : TwoSided → Body → Body → Tail

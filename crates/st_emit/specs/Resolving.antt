@@ -3,9 +3,9 @@ use Rattle.std.specs.Prelude.{ℕ, ◌+◌, Bool, true, false, not, ◌&&◌, �
 use Rattle.st_scan.specs.declared.token.Signed.{Signed}
 use Rattle.st_scan.specs.Views.{NameView, ContentView, ElementView, ExpressionView, StatementsView, MessagesView, ExpressionsView, is_super}
 use Rattle.st_scan.specs.Views as views
-use Rattle.st_emit.specs.declared.step.Constant.{Constant}
-use Rattle.st_emit.specs.declared.step.Place.{Place}
-use Rattle.st_emit.specs.declared.step.Place.TheVariants.{Field, Temporary, Shared}
+use Rattle.st_emit.specs.declared.instruction.Constant.{Constant}
+use Rattle.st_emit.specs.declared.instruction.InstructionOperand.{InstructionOperand}
+use Rattle.st_emit.specs.declared.instruction.InstructionOperand.TheVariants.{Field, Temporary, Shared}
 use Rattle.st_emit.specs.declared.form.By.{By}
 use Rattle.st_emit.specs.declared.form.By.TheVariants.{Special, SelectorAt}
 use Rattle.st_emit.specs.declared.form.OneSided.TheVariants.{IfTrue, IfFalse, And, Or}
@@ -60,7 +60,7 @@ abbrev mutual
 -- VARIABLES AND LITERALS
 
 -- a variable; an association is named among the literals
-abbrev pub variable_place : Variable → Naming Place
+abbrev pub variable_place : Variable → Naming InstructionOperand
 variable_place (temporary n assignable) = given (Temporary n)
 variable_place (field n) = given (Field n)
 variable_place (shared association) = do
@@ -68,14 +68,14 @@ variable_place (shared association) = do
   given (Shared place)
 
 -- what is meant by a name that means something
-abbrev pub place_named : Option Variable → Naming Place
+abbrev pub place_named : Option Variable → Naming InstructionOperand
 place_named None = given (Temporary 0)
 place_named (Some v) = variable_place v
 
-abbrev pub place_of_name : Context → NameView → Naming Place
+abbrev pub place_of_name : Context → NameView → Naming InstructionOperand
 place_of_name c n = place_named (variable_named c.names c.scope n.text)
 
-abbrev pub constant_or : Option Constant → Naming Place → Naming Node
+abbrev pub constant_or : Option Constant → Naming InstructionOperand → Naming Node
 constant_or (Some k) place = given (constant k)
 constant_or None place = do
   p ← place

@@ -7,16 +7,16 @@ ghost use Rattle.st_emit.specs.Steps.{size};
 ghost use Rattle.st_emit.specs.inside.Views.{literal_view, literals_view};
 ghost use Rattle.st_emit.specs.inside.Drafts.{Adds, Resolves, step_part};
 
+use crate::instruction::{Instruction, size_of};
 use crate::level::Level;
 use crate::literal::Literal;
 use crate::literal_table::LiteralTable;
-use crate::step::{Step, size_of};
 use std::alloc::{AllocError, Global};
 
 /// Code as it is made. After an error it is no code.
 #[derive(Drop)]
 pub struct Draft {
-    pub steps: Vec<Step>,
+    pub steps: Vec<Instruction>,
     pub literals: LiteralTable,
     pub level: Level,
 }
@@ -58,7 +58,7 @@ impl Draft {
     }
 
     /// An instruction that leaves as many words on the stack.
-    pub fn put(&mut self, step: Step) -> Result<(), AllocError>
+    pub fn put(&mut self, step: Instruction) -> Result<(), AllocError>
         ensures added { OnOk result (Adds (step_part step (λ l. l)) self.old self.new) }
     {
         self.steps.push(step)?;
@@ -66,7 +66,7 @@ impl Draft {
     }
 
     /// An instruction that pushes a word.
-    pub fn put_push(&mut self, step: Step) -> Result<(), AllocError>
+    pub fn put_push(&mut self, step: Instruction) -> Result<(), AllocError>
         ensures added { OnOk result (Adds (step_part step pushed) self.old self.new) }
     {
         self.steps.push(step)?;
@@ -75,7 +75,7 @@ impl Draft {
     }
 
     /// An instruction that leaves n words fewer.
-    pub fn put_pop(&mut self, step: Step, n: usize) -> Result<(), AllocError>
+    pub fn put_pop(&mut self, step: Instruction, n: usize) -> Result<(), AllocError>
         ensures added { OnOk result (Adds (step_part step (popped n)) self.old self.new) }
     {
         self.steps.push(step)?;
@@ -84,7 +84,7 @@ impl Draft {
     }
 
     /// A return.
-    pub fn put_end(&mut self, step: Step) -> Result<(), AllocError>
+    pub fn put_end(&mut self, step: Instruction) -> Result<(), AllocError>
         ensures added { OnOk result (Adds (step_part step ended) self.old self.new) }
     {
         self.steps.push(step)?;

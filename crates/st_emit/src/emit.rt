@@ -11,25 +11,29 @@ ghost use Rattle.st_emit.specs.inside.Drafts.{Adds, Resolves};
 use crate::counting::sum;
 use crate::draft::Draft;
 use crate::form::{By, Lookup, send_step};
+use crate::instruction::{Instruction, InstructionOperand};
 use crate::literal::{Literal, literal_of, small_number};
 use crate::names::{Around, Variable, constant_named, variable_named};
 use crate::selector::special_code;
-use crate::step::{Place, Step};
 use st_scan::{Content, Name, Signed};
 use std::alloc::{AllocError, Global};
 
 /// The variable of a name. An association is named among the literals.
-pub fn place_of_name(draft: &mut Draft, around: Around<'_>, n: &Name) -> Result<Place, AllocError>
+pub fn place_of_name(
+    draft: &mut Draft,
+    around: Around<'_>,
+    n: &Name,
+) -> Result<InstructionOperand, AllocError>
     ensures { IfOk result (Resolves (place_at around.entry n.now) draft.old draft.new) }
 {
     match variable_named(around.names, around.scope, &n.text)? {
-        Some(Variable::Temporary { number, .. }) => Ok(Place::Temporary(number)),
-        Some(Variable::Field(number)) => Ok(Place::Field(number)),
+        Some(Variable::Temporary { number, .. }) => Ok(InstructionOperand::Temporary(number)),
+        Some(Variable::Field(number)) => Ok(InstructionOperand::Field(number)),
         Some(Variable::Shared(association)) => {
             let place = draft.named(Literal::Named(association))?;
-            Ok(Place::Shared(place))
+            Ok(InstructionOperand::Shared(place))
         }
-        None => Ok(Place::Temporary(0)),
+        None => Ok(InstructionOperand::Temporary(0)),
     }
 }
 
@@ -38,10 +42,10 @@ pub fn name(draft: &mut Draft, around: Around<'_>, n: &Name) -> Result<(), Alloc
     ensures { OnOk result (Adds (name_part (context around.entry) (name_view n.now)) draft.old draft.new) }
 {
     match constant_named(&n.text) {
-        Some(constant) => draft.put_push(Step::PushConstant(constant)),
+        Some(constant) => draft.put_push(Instruction::PushConstant(constant)),
         None => {
             let place = place_of_name(draft, around, n)?;
-            draft.put_push(Step::Push(place))
+            draft.put_push(Instruction::Push(place))
         }
     }
 }
@@ -51,13 +55,13 @@ pub fn number(draft: &mut Draft, n: Signed) -> Result<(), AllocError>
     ensures { OnOk result (Adds (number_part n) draft.old draft.new) }
 {
     if let Some(small) = small_number(n) {
-        return draft.put_push(Step::PushNumber(small));
+        return draft.put_push(Instruction::PushNumber(small));
     }
     let place = draft.named(Literal::Number {
         minus: n.minus,
         size: n.size,
     })?;
-    draft.put_push(Step::Push(Place::Literal(place)))
+    draft.put_push(Instruction::Push(InstructionOperand::Literal(place)))
 }
 
 /// A literal of a tree.
@@ -69,7 +73,7 @@ pub fn literal(alloc: Global, draft: &mut Draft, what: &Content) -> Result<(), A
     }
     let literal = literal_of(alloc, what)?;
     let place = draft.named(literal)?;
-    draft.put_push(Step::Push(Place::Literal(place)))
+    draft.put_push(Instruction::Push(InstructionOperand::Literal(place)))
 }
 
 /// How a message is sent. One to super has no code of its own.
@@ -112,7 +116,10 @@ pub fn pop_arguments(draft: &mut Draft, first: usize, arguments: usize) -> Resul
     while left > 0 {
         left -= 1;
         let number = sum(first, left)?;
-        draft.put_pop(Step::PopStore(Place::Temporary(number)), 1)?;
+        draft.put_pop(
+            Instruction::PopStore(InstructionOperand::Temporary(number)),
+            1,
+        )?;
     }
     Ok(())
 }

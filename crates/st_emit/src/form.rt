@@ -4,7 +4,7 @@ ghost use Rattle.std.specs.Prelude.{◌≡◌};
 ghost use Rattle.st_emit.specs.Emitting.{passes_on, other_side, leaves_on, send_step};
 ghost use Rattle.st_emit.specs.Nodes.{is_above};
 
-use crate::step::{Constant, Step};
+use crate::instruction::{Constant, Instruction};
 
 /// Where the method of a message is looked up first: in the class of the receiver, or for a message to super in the
 /// superclass of the class whose method sends it.
@@ -85,16 +85,16 @@ pub fn leaves_on(kind: Loop) -> bool
 }
 
 /// The instruction that sends a message.
-pub fn send_step(lookup: Lookup, by: By, arguments: usize) -> Step
+pub fn send_step(lookup: Lookup, by: By, arguments: usize) -> Instruction
     ensures { result ≡ send_step (is_above lookup) by arguments }
 {
     match (by, lookup) {
-        (By::Special(code), _) => Step::SendSpecial(code),
-        (By::SelectorAt(selector), Lookup::InClass) => Step::Send {
+        (By::Special(code), _) => Instruction::SendSpecial(code),
+        (By::SelectorAt(selector), Lookup::InClass) => Instruction::Send {
             arguments,
             selector,
         },
-        (By::SelectorAt(selector), Lookup::InSuperclass) => Step::SendSuper {
+        (By::SelectorAt(selector), Lookup::InSuperclass) => Instruction::SendSuper {
             arguments,
             selector,
         },

@@ -1,7 +1,7 @@
 //! Laws of the definitions.
 
 ghost use Rattle.std.specs.Prelude.{◌≡◌, ℕ, List};
-ghost use Rattle.st_emit.specs.declared.step.Step.{Step as AStep};
+ghost use Rattle.st_emit.specs.declared.instruction.Instruction.{Instruction as AStep};
 ghost use Rattle.st_emit.specs.inside.Laws.{HasItsSize, HaveTheirSize, HasItsArguments};
 
 /// Instructions have as many bytes as their sizes say, by which jumps go.

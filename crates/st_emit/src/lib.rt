@@ -3,10 +3,11 @@
 #![tactic(auto)]
 
 mod counting;
+mod declared_names;
 mod draft;
 mod emit;
 mod form;
-mod frame;
+mod instruction;
 mod laws;
 mod level;
 mod literal;
@@ -14,15 +15,15 @@ mod literal_table;
 mod names;
 mod selector;
 mod shape;
-mod step;
 mod table;
 mod value;
 
 pub use counting::{names_in_statements, sum};
+pub use declared_names::{DeclaredNames, NamePlaces, places_of};
 pub use draft::Draft;
 pub use emit::{by_selector, place_of_name};
 pub use form::{By, Form, Lookup, Loop, OneSided, TwoSided};
-pub use frame::{Frame, NamePlaces, places_of};
+pub use instruction::{Constant, Instruction, InstructionOperand, size_of};
 pub use laws::{sizes_of_bytes, special_arguments};
 pub use level::Level;
 pub use literal::{Literal, LiteralList, literal_of, small_number};
@@ -33,5 +34,4 @@ pub use names::{
 };
 pub use selector::{SPECIAL_SENDS, special_selector};
 pub use shape::{Choice, Repetition, Shape, Side, first_repetition, only_message, shape_of};
-pub use step::{Constant, Place, Step, size_of};
 pub use value::{lookup_behind, method_body, value as emit_value};

@@ -6,8 +6,8 @@ ghost use Rattle.st_scan.specs.Views.{names_view as list_view};
 ghost use Rattle.st_emit.specs.inside.NameViews.{frame_view, names_view, scope_view, variable_at, pointer_of, IsVariable};
 
 use crate::counting::sum;
-use crate::frame::{Frame, name_place};
-use crate::step::Constant;
+use crate::declared_names::{DeclaredNames, name_place};
+use crate::instruction::Constant;
 use crate::table::value_or;
 use st_model::Oop;
 use st_scan::Text;
@@ -37,7 +37,7 @@ pub struct Names {
 #[derive(Clone, Copy)]
 pub struct Around<'a> {
     pub names: &'a Names,
-    pub scope: &'a [Frame<'a>],
+    pub scope: &'a [DeclaredNames<'a>],
     pub next: usize,
 }
 
@@ -89,7 +89,7 @@ fn shared_named(names: &Names, text: &[u8]) -> Option<Oop>
 }
 
 /// The variable of a name among those that are declared together.
-fn declared_in(frame: Frame<'_>, text: &[u8]) -> Result<Option<Variable>, AllocError>
+fn declared_in(frame: DeclaredNames<'_>, text: &[u8]) -> Result<Option<Variable>, AllocError>
     ensures { IfOk result (IsVariable (own_variable (declared_as (frame_view frame.entry) text.now))) }
 {
     let Some(place) = name_place(frame, text) else {
@@ -102,7 +102,7 @@ fn declared_in(frame: Frame<'_>, text: &[u8]) -> Result<Option<Variable>, AllocE
 }
 
 /// The variable of a name that is declared in a scope.
-fn declared_as(scope: &[Frame<'_>], text: &[u8]) -> Result<Option<Variable>, AllocError>
+fn declared_as(scope: &[DeclaredNames<'_>], text: &[u8]) -> Result<Option<Variable>, AllocError>
     ensures { IfOk result (IsVariable (own_variable (declared_as (scope_view scope.now) text.now))) }
 {
     for frame in scope {
@@ -116,7 +116,7 @@ fn declared_as(scope: &[Frame<'_>], text: &[u8]) -> Result<Option<Variable>, All
 /// The variable of a name: those of the method first, then the receiver's, then what is shared.
 pub fn variable_named(
     names: &Names,
-    scope: &[Frame<'_>],
+    scope: &[DeclaredNames<'_>],
     text: &[u8],
 ) -> Result<Option<Variable>, AllocError>
     ensures { IfOk result (IsVariable (variable_at names.now scope.now text.now)) }
@@ -131,7 +131,7 @@ pub fn variable_named(
 }
 
 /// Whether a name is among the first names of a frame.
-pub fn is_among(frame: Frame<'_>, count: usize, text: &[u8]) -> bool
+pub fn is_among(frame: DeclaredNames<'_>, count: usize, text: &[u8]) -> bool
     ensures { result ≡ is_among (list_view (take count frame.entry.names.now)) text.now }
 {
     match name_place(frame, text) {
@@ -141,7 +141,7 @@ pub fn is_among(frame: Frame<'_>, count: usize, text: &[u8]) -> bool
 }
 
 /// Whether a name is declared in a scope.
-pub fn is_declared(scope: &[Frame<'_>], text: &[u8]) -> bool
+pub fn is_declared(scope: &[DeclaredNames<'_>], text: &[u8]) -> bool
     ensures { result ≡ is_some (declared_as (scope_view scope.now) text.now) }
 {
     for frame in scope {
@@ -155,9 +155,9 @@ pub fn is_declared(scope: &[Frame<'_>], text: &[u8]) -> bool
 /// A scope with a frame more.
 pub fn inner_scope<'a>(
     alloc: Global,
-    scope: &[Frame<'a>],
-    frame: Frame<'a>,
-) -> Result<Vec<Frame<'a>>, AllocError>
+    scope: &[DeclaredNames<'a>],
+    frame: DeclaredNames<'a>,
+) -> Result<Vec<DeclaredNames<'a>>, AllocError>
     ensures { IfOk result (λ inner. scope_view inner.items ≡ scope_view scope.now ++ frame_view frame.entry) }
 {
     let mut inner = scope.to_vec(alloc)?;

@@ -12,9 +12,9 @@ ghost use Rattle.st_emit.specs.inside.Found.{IsFirstOf, IsOnlyOrNone};
 ghost use Rattle.st_emit.specs.inside.Sizes.{IsShapeBelow};
 
 use crate::form::{Form, Lookup, Loop, OneSided, TwoSided};
+use crate::instruction::Constant;
 use crate::names::constant_named;
 use crate::selector::form_named;
-use crate::step::Constant;
 use st_scan::{Expression, Link, Message, Name, Statement};
 
 /// A message that is sent, or a conditional form with the statements of its blocks, in the order of the text.

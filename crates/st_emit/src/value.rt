@@ -14,10 +14,11 @@ ghost use Rattle.st_emit.specs.inside.Shapes.{IsEnd};
 ghost use Rattle.st_emit.specs.inside.Drafts.{Adds};
 
 use crate::counting::{names_in_statements, sum};
+use crate::declared_names::{DeclaredNames, places_of};
 use crate::draft::Draft;
 use crate::emit::{literal, name, number, place_of_name, pop_arguments, send};
 use crate::form::{Lookup, TwoSided, leaves_on, other_side, passes_on};
-use crate::frame::{Frame, places_of};
+use crate::instruction::{Constant, Instruction, size_of};
 use crate::level::{around_block, beside, joined, within};
 use crate::names::{Around, inner_scope};
 use crate::selector::BLOCK_COPY;
@@ -25,7 +26,6 @@ use crate::shape::{
     Choice, Repetition, Shape, Side, assigned, before_others, first_repetition, is_super, not_last,
     only_message, returned_constant, returning, shape_of,
 };
-use crate::step::{Constant, Step, size_of};
 use st_scan::{Expression, Link, Message, Name, Signed, Statement};
 use std::alloc::{AllocError, Global};
 
@@ -79,9 +79,9 @@ fn cascade(
     let mut next = around.next;
     let mut rest = messages;
     while let Some((m, others)) = before_others(rest) {
-        draft.put_push(Step::Duplicate)?;
+        draft.put_push(Instruction::Duplicate)?;
         next = message(alloc, draft, Around { next, ..around }, lookup, m)?;
-        draft.put_pop(Step::Pop, 1)?;
+        draft.put_pop(Instruction::Pop, 1)?;
         rest = others;
     }
     match rest {
@@ -106,7 +106,7 @@ fn side(
 {
     match other {
         Side::Constant(constant) => {
-            draft.put_push(Step::PushConstant(constant))?;
+            draft.put_push(Instruction::PushConstant(constant))?;
             Ok(around.next)
         }
         Side::Statements(statements) => body(alloc, draft, around, statements),
@@ -126,12 +126,12 @@ fn choice(
     ensures next { IfOk result (λ n. n ≡ after_side form.entry.behind form.entry.other) }
 {
     let test = draft.steps.len();
-    draft.put_pop(Step::JumpIf(form.on, 0), 1)?;
+    draft.put_pop(Instruction::JumpIf(form.on, 0), 1)?;
     let begun = draft.level;
     body(alloc, draft, around, form.first)?;
     let inside = draft.size_from(test + 1)?;
     let over = draft.steps.len();
-    draft.put(Step::Jump(0))?;
+    draft.put(Instruction::Jump(0))?;
     let ended = draft.level;
     draft.level = beside(begun, ended);
     let next = side(
@@ -143,9 +143,9 @@ fn choice(
         },
         form.other,
     )?;
-    let jump = Step::Jump(draft.size_from(over + 1)?);
+    let jump = Instruction::Jump(draft.size_from(over + 1)?);
     draft.steps[over] = jump;
-    draft.steps[test] = Step::JumpIf(form.on, sum(inside, size_of(jump))?);
+    draft.steps[test] = Instruction::JumpIf(form.on, sum(inside, size_of(jump))?);
     draft.level = joined(ended, draft.level);
     Ok(next)
 }
@@ -216,7 +216,7 @@ fn linked(
     match link {
         Link::Assign(target) => {
             let place = place_of_name(draft, around, target)?;
-            draft.put(Step::Store(place))?;
+            draft.put(Instruction::Store(place))?;
             Ok(around.next)
         }
         Link::Send(messages) => match only_message(lookup, messages) {
@@ -238,7 +238,7 @@ fn body(
     ensures next { IfOk result (λ n. n ≡ after_statements around.entry statements.now) }
 {
     if statements.is_empty() {
-        draft.put_push(Step::PushConstant(Constant::Nil))?;
+        draft.put_push(Instruction::PushConstant(Constant::Nil))?;
         return Ok(around.next);
     }
     let (next, rest) = leading(alloc, draft, around, statements)?;
@@ -311,11 +311,11 @@ pub fn returned(
     ensures next { IfOk result (λ n. n ≡ after around.entry e.now) }
 {
     if let Some(constant) = returned_constant(e) {
-        draft.put_end(Step::ReturnConstant(constant))?;
+        draft.put_end(Instruction::ReturnConstant(constant))?;
         return Ok(around.next);
     }
     let next = value(alloc, draft, around, e)?;
-    draft.put_end(Step::ReturnTop)?;
+    draft.put_end(Instruction::ReturnTop)?;
     Ok(next)
 }
 
@@ -334,12 +334,12 @@ pub fn effect(
         Some((target, inner)) => {
             let next = value(alloc, draft, around, inner)?;
             let place = place_of_name(draft, around, target)?;
-            draft.put_pop(Step::PopStore(place), 1)?;
+            draft.put_pop(Instruction::PopStore(place), 1)?;
             Ok(next)
         }
         None => {
             let next = value(alloc, draft, around, e)?;
-            draft.put_pop(Step::Pop, 1)?;
+            draft.put_pop(Instruction::Pop, 1)?;
             Ok(next)
         }
     }
@@ -360,16 +360,16 @@ fn looped(
     let begin = draft.steps.len();
     let next = body(alloc, draft, around, repetition.condition)?;
     let test = draft.steps.len();
-    draft.put_pop(Step::JumpIf(on, 0), 1)?;
+    draft.put_pop(Instruction::JumpIf(on, 0), 1)?;
     let begun = draft.level;
     let next = body(alloc, draft, Around { next, ..around }, repetition.body)?;
     let inside = draft.size_from(test + 1)?;
-    draft.put(Step::Pop)?;
-    draft.steps[test] = Step::JumpIf(on, sum(inside, 3)?);
+    draft.put(Instruction::Pop)?;
+    draft.steps[test] = Instruction::JumpIf(on, sum(inside, 3)?);
     let passed = sum(draft.size_from(begin)?, 2)?;
-    draft.put(Step::JumpBack(passed))?;
+    draft.put(Instruction::JumpBack(passed))?;
     draft.level = beside(begun, draft.level);
-    draft.put_push(Step::PushConstant(Constant::Nil))?;
+    draft.put_push(Instruction::PushConstant(Constant::Nil))?;
     Ok(next)
 }
 
@@ -388,7 +388,7 @@ fn block_body(
     draft.level = within(names.len(), draft.level);
     pop_arguments(draft, around.next, names.len())?;
     let places = places_of(alloc, names)?;
-    let frame = Frame {
+    let frame = DeclaredNames {
         names,
         places: &places,
         first: around.next,
@@ -402,7 +402,7 @@ fn block_body(
     };
     let next = body(alloc, draft, inner, statements)?;
     if !returning(statements) {
-        draft.put(Step::ReturnBlock)?;
+        draft.put(Instruction::ReturnBlock)?;
     }
     Ok(next)
 }
@@ -419,15 +419,15 @@ fn block(
     ensures added { OnOk result (Adds (block_at around.entry names.now statements.now) draft.old draft.new) }
     ensures next { IfOk result (λ n. n ≡ after_block around.entry names.now statements.now) }
 {
-    draft.put_push(Step::PushConstant(Constant::Context))?;
+    draft.put_push(Instruction::PushConstant(Constant::Context))?;
     let size = names.len() as u128;
     number(draft, Signed { minus: false, size })?;
-    draft.put_pop(Step::SendSpecial(BLOCK_COPY), 1)?;
+    draft.put_pop(Instruction::SendSpecial(BLOCK_COPY), 1)?;
     let outside = draft.level;
     let past = draft.steps.len();
-    draft.put(Step::JumpPast(0))?;
+    draft.put(Instruction::JumpPast(0))?;
     let next = block_body(alloc, draft, around, names, statements)?;
-    draft.steps[past] = Step::JumpPast(draft.size_from(past + 1)?);
+    draft.steps[past] = Instruction::JumpPast(draft.size_from(past + 1)?);
     draft.level = around_block(outside, draft.level);
     Ok(next)
 }
@@ -551,6 +551,6 @@ pub fn method_body(
         }
         next = effect(alloc, draft, here, &statement.value)?;
     }
-    draft.put(Step::ReturnConstant(Constant::Receiver))?;
+    draft.put(Instruction::ReturnConstant(Constant::Receiver))?;
     Ok(next)
 }

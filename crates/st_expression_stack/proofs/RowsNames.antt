@@ -3,7 +3,7 @@ use Rattle.std.proofs.Common.{◌≡◌, ℕ, true, List, [], ◌∷◌, refl, a
 use Rattle.std.proofs.lemmas.Fmt.{decimal_digit}
 use Rattle.std.specs.Fmt.{decimal}
 use Rattle.std.specs.Prelude.{codes}
-use Rattle.st_emit.specs.declared.step.Place.TheVariants.{Temporary}
+use Rattle.st_emit.specs.declared.instruction.InstructionOperand.TheVariants.{Temporary}
 use Rattle.st_expression_stack.specs.Names.{calling_of, name_in}
 
 one : decimal 1 ≡ codes "1"

@@ -4,7 +4,7 @@ use Rattle.std.specs.Prelude.{◌==◌, reverse, if◌then◌else◌}
 use Rattle.std.proofs.lemmas.List.{reverse-append}
 use Rattle.st_scan.specs.declared.tree.Expression.{Expression}
 use Rattle.st_scan.specs.Views.{StatementsView, ExpressionsView, statement, expression, expression_view, expressions_view}
-use Rattle.st_emit.specs.declared.step.Place.{Place}
+use Rattle.st_emit.specs.declared.instruction.InstructionOperand.{InstructionOperand}
 use Rattle.st_expression_stack.specs.declared.item.Piece.{Piece as Kept}
 use Rattle.st_expression_stack.specs.declared.item.Item.{Item as KeptItem}
 use Rattle.st_expression_stack.specs.declared.item.Item.TheVariants as kept
@@ -115,7 +115,7 @@ length_more (y ∷ xs) x = omega (arith, length_more xs x)
 pub piece_on_top : (xs : List KeptItem) (x : KeptItem) (p : Kept) → x ≡ kept.Piece p → (stack_view (xs ++ x ∷ []) ≡ piece (piece_view p) ∷ stack_view xs) × (length xs < length (xs ++ x ∷ []))
 piece_on_top xs x p e = (stack_more [] xs x ∙ ap (λ (y : KeptItem). item_view y ∷ stack_view xs) e, length_more xs x)
 
-pub argument_on_top : (xs : List KeptItem) (x : KeptItem) (p : Place) → x ≡ kept.Argument p → (stack_view (xs ++ x ∷ []) ≡ argument p ∷ stack_view xs) × (length xs < length (xs ++ x ∷ []))
+pub argument_on_top : (xs : List KeptItem) (x : KeptItem) (p : InstructionOperand) → x ≡ kept.Argument p → (stack_view (xs ++ x ∷ []) ≡ argument p ∷ stack_view xs) × (length xs < length (xs ++ x ∷ []))
 argument_on_top xs x p e = (stack_more [] xs x ∙ ap (λ (y : KeptItem). item_view y ∷ stack_view xs) e, length_more xs x)
 
 -- a piece that a text may have
@@ -136,7 +136,7 @@ pieceless (kept.Back d) ys n = tt
 pub none_on_top : (xs : List KeptItem) (x : KeptItem) → ((p : Kept) → x ≡ kept.Piece p → ⊥) → IsPieceless (stack_view (xs ++ x ∷ []))
 none_on_top xs x n = subst IsPieceless (sym (stack_more [] xs x)) (pieceless x (stack_view xs) n)
 
-argumentless : (x : KeptItem) (ys : List Item) → ((p : Place) → x ≡ kept.Argument p → ⊥) → IsArgumentless (item_view x ∷ ys)
+argumentless : (x : KeptItem) (ys : List Item) → ((p : InstructionOperand) → x ≡ kept.Argument p → ⊥) → IsArgumentless (item_view x ∷ ys)
 argumentless (kept.Piece p) ys n = tt
 argumentless (kept.Cascade p ms) ys n = tt
 argumentless kept.Again ys n = tt
@@ -145,7 +145,7 @@ argumentless (kept.Argument p) ys n = n p refl
 argumentless (kept.Over d) ys n = tt
 argumentless (kept.Back d) ys n = tt
 
-pub no_argument_on_top : (xs : List KeptItem) (x : KeptItem) → ((p : Place) → x ≡ kept.Argument p → ⊥) → IsArgumentless (stack_view (xs ++ x ∷ []))
+pub no_argument_on_top : (xs : List KeptItem) (x : KeptItem) → ((p : InstructionOperand) → x ≡ kept.Argument p → ⊥) → IsArgumentless (stack_view (xs ++ x ∷ []))
 no_argument_on_top xs x n = subst IsArgumentless (sym (stack_more [] xs x)) (argumentless x (stack_view xs) n)
 
 -- one more argument, of those that stand in the other order

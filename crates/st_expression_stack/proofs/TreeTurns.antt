@@ -11,7 +11,7 @@ use Rattle.st_scan.specs.Views.{ContentView, ElementsView, ElementView, content_
 use Rattle.st_scan.specs.Views as views
 use Rattle.st_scan.proofs.Views.{elements_view-push}
 use Rattle.st_emit.specs.declared.literal.Literal.{Literal}
-use Rattle.st_emit.specs.declared.step.Constant.{Constant}
+use Rattle.st_emit.specs.declared.instruction.Constant.{Constant}
 use Rattle.st_emit.specs.inside.Views.{literal_view, members_view}
 use Rattle.st_expression_stack.specs.Choosing.{small_signed, content_of, elements_of, alone, one_sided_by, with_blocks, two_sides, sides_by, choice_tree}
 

@@ -1,7 +1,7 @@
 -- What has been read of code so far, the last on top.
 use Rattle.std.specs.Prelude.{ℕ, ◌==◌, nat_le, Bool, false, min, max, List, [], ◌∷◌, Option, Some, None, if◌then◌else◌}
 use Rattle.st_scan.specs.Views.{ExpressionView, StatementsView, MessagesView, no_statements, statement}
-use Rattle.st_emit.specs.declared.step.Place.{Place}
+use Rattle.st_emit.specs.declared.instruction.InstructionOperand.{InstructionOperand}
 
 -- An expression, or a statement: whether it is returned, where its code starts, the least number of a block argument within,
 -- so that two blocks are put into the order of the text, and how many arguments and blocks stand in one another at most.
@@ -19,7 +19,7 @@ pub data Item : Type 0 where
   again : Item
   answered : Item
   -- an argument of a block; and the jumps at the end of a region: over the second side, and back
-  argument : Place → Item
+  argument : InstructionOperand → Item
   over : ℕ → Item
   back : ℕ → Item
 
@@ -82,6 +82,6 @@ statements_from at ss l h (piece p ∷ items) =
 statements_from at ss l h items = None
 
 -- the arguments of a block, the first one on top
-abbrev pub arguments_of : List Item → List Place
+abbrev pub arguments_of : List Item → List InstructionOperand
 arguments_of (argument p ∷ items) = p ∷ arguments_of items
 arguments_of items = []

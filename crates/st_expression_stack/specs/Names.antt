@@ -4,8 +4,8 @@ use Rattle.std.specs.Prelude.{ℕ, zero, suc, ◌+◌, ◌==◌, nat_lt, Bool, f
 use Rattle.std.specs.Fmt.{decimal}
 use Rattle.std.specs.List.{list_any}
 use Rattle.st_scan.specs.Pieces.{is_name}
-use Rattle.st_emit.specs.declared.step.Place.{Place}
-use Rattle.st_emit.specs.declared.step.Place.TheVariants.{Field, Temporary, Literal, Shared}
+use Rattle.st_emit.specs.declared.instruction.InstructionOperand.{InstructionOperand}
+use Rattle.st_emit.specs.declared.instruction.InstructionOperand.TheVariants.{Field, Temporary, Literal, Shared}
 use Rattle.st_emit.specs.Names.{NamesView, SharedName, Variable, shared, constant_named, variable_named}
 use Rattle.st_emit.specs.Literals.{LiteralView, named}
 
@@ -104,7 +104,7 @@ abbrev pub or_unused : Option (List ℕ) → List ℕ
 or_unused None = unused
 or_unused (Some text) = text
 
-abbrev pub name_in : CallingView → Place → List ℕ
+abbrev pub name_in : CallingView → InstructionOperand → List ℕ
 name_in c (Field n) = or_unused (slice_get c.fields n)
 name_in c (Temporary k) = c.own k
 name_in c (Literal n) = unused

@@ -6,7 +6,7 @@ ghost use Rattle.st_expression_stack.specs.Items.{statements_of, is_low, put_low
 ghost use Rattle.st_expression_stack.specs.inside.Stacks.{stack_view, piece_view, IsPopped, IsArgumentPopped};
 ghost use Rattle.st_expression_stack.specs.inside.Stacks.{taken_view, taken_if, put_statement, Chooses};
 
-use st_emit::Place;
+use st_emit::InstructionOperand;
 use st_scan::{Expression, MessageList, Statement, StatementList};
 use std::alloc::{AllocError, Global};
 
@@ -36,7 +36,7 @@ pub enum Item {
     Cascade(Piece, MessageList),
     Again,
     Answered,
-    Argument(Place),
+    Argument(InstructionOperand),
     Over(usize),
     Back(usize),
 }
@@ -77,7 +77,7 @@ pub fn pop_piece(items: &mut Stack) -> Result<Option<Piece>, AllocError>
 }
 
 /// An item that was on top, if it is the argument of a block. Another one is put back.
-fn argument_or_back(items: &mut Stack, item: Item) -> Result<Option<Place>, AllocError>
+fn argument_or_back(items: &mut Stack, item: Item) -> Result<Option<InstructionOperand>, AllocError>
     ensures { IfOk result (IsArgumentPopped (items.old.items ++ item ∷ []) items.new.items) }
 {
     match item {
@@ -90,7 +90,7 @@ fn argument_or_back(items: &mut Stack, item: Item) -> Result<Option<Place>, Allo
 }
 
 /// The argument of a block on top, which is taken off. What is no argument stays.
-pub fn pop_argument(items: &mut Stack) -> Result<Option<Place>, AllocError>
+pub fn pop_argument(items: &mut Stack) -> Result<Option<InstructionOperand>, AllocError>
     ensures { IfOk result (IsArgumentPopped items.old.items items.new.items) }
 {
     match items.pop() {

@@ -12,7 +12,9 @@ ghost use Rattle.st_expression_stack.specs.Names.{is_value, names_value, shared_
 
 use crate::make;
 use crate::own::{Taken, first_names, listed_name, taken_of};
-use st_emit::{Literal, Names, Place, TextList, Variable, constant_named, variable_named};
+use st_emit::{
+    InstructionOperand, Literal, Names, TextList, Variable, constant_named, variable_named,
+};
 use st_model::Oop;
 use st_scan::{Name, Text};
 use std::alloc::{AllocError, Global};
@@ -210,14 +212,14 @@ fn text_at(alloc: Global, texts: &[Text], place: usize) -> Result<Text, AllocErr
 
 impl Calling {
     /// What a variable is called.
-    pub fn name_of(&self, alloc: Global, place: Place) -> Result<Name, AllocError>
+    pub fn name_of(&self, alloc: Global, place: InstructionOperand) -> Result<Name, AllocError>
         ensures { IfOk result (λ n. name_view n ≡ called (name_in (calling_view self.now) place)) }
     {
         let text = match place {
-            Place::Field(n) => text_at(alloc, &self.fields, n)?,
-            Place::Temporary(k) => listed_name(alloc, &self.own, &self.taken, k)?,
-            Place::Literal(_) => b"self".as_slice().to_vec(alloc)?,
-            Place::Shared(p) => text_at(alloc, &self.shared, p)?,
+            InstructionOperand::Field(n) => text_at(alloc, &self.fields, n)?,
+            InstructionOperand::Temporary(k) => listed_name(alloc, &self.own, &self.taken, k)?,
+            InstructionOperand::Literal(_) => b"self".as_slice().to_vec(alloc)?,
+            InstructionOperand::Shared(p) => text_at(alloc, &self.shared, p)?,
         };
         Ok(make::called(text))
     }

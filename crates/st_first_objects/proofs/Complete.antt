@@ -19,7 +19,7 @@ use Rattle.st_model.specs.View.{View, IsComplete, is_live, empty_view, table_of,
 use Rattle.st_first_objects.specs.declared.thing.What.TheVariants as what
 use Rattle.st_first_objects.specs.Things.{Thing, same, only, class}
 use Rattle.st_first_objects.specs.Orders.{want, want_all, empty, page, characters, tables, want_parts, last_things, order}
-use Rattle.st_first_objects.specs.Plans.{Plan}
+use Rattle.st_first_objects.specs.Plans.{FirstObjects}
 use Rattle.st_first_objects.specs.Contents.{Field, Empty, Number, To, Body, Fields, Bytes, NoWords, content}
 use Rattle.st_first_objects.specs.Pointers.{place, place_at, place_in, value_in, object, object_by}
 use Rattle.st_first_objects.specs.First.{with_things, head_in, view_of}
@@ -92,7 +92,7 @@ used_by : (o : Option Object) → is_some o ≡ true → (a : Object) × (o ≡ 
 used_by (Some a) e = (a, refl)
 used_by None e = absurd (both_ways false refl e)
 
-module _ (p : Plan) (begun v : View) (used : ℕ) (u : Underway p begun v used (length p.order.things)) (many : 20 ≤ length p.order.things) where
+module _ (p : FirstObjects) (begun v : View) (used : ℕ) (u : Underway p begun v used (length p.order.things)) (many : 20 ≤ length p.order.things) where
   place_0 : place 0 ≡ 1
   unfolding place
   place_0 = refl

@@ -19,7 +19,7 @@ use Rattle.st_model.specs.declared.oop.Oop.{Oop}
 use Rattle.st_first_objects.specs.declared.thing.What.{What}
 use Rattle.st_first_objects.specs.declared.thing.What.TheVariants as what
 use Rattle.st_first_objects.specs.Things.{Thing, same, class}
-use Rattle.st_first_objects.specs.Plans.{Plan}
+use Rattle.st_first_objects.specs.Plans.{FirstObjects}
 use Rattle.st_first_objects.specs.Contents.{Content, Body, Fields, Bytes, NoWords, content_of, content, instance}
 use Rattle.st_first_objects.specs.Pointers.{place, place_at, place_in, object, object_by, object_in}
 use Rattle.st_first_objects.specs.First.{with_things, fit_beside}
@@ -43,7 +43,7 @@ instance_class name shape.Indexed fields = refl
 instance_class name shape.Words fields = refl
 instance_class name shape.Bytes fields = refl
 
-no_methods : (p : Plan) (w : What) (name : List ℕ) (number : ℕ) → same (content_of p w name number).class methods ≡ false
+no_methods : (p : FirstObjects) (w : What) (name : List ℕ) (number : ℕ) → same (content_of p w name number).class methods ≡ false
 no_methods p what.Nil name number = ap (λ c. same c methods) (instance_class (codes "UndefinedObject") _ _)
 no_methods p what.False name number = ap (λ c. same c methods) (instance_class (codes "False") _ _)
 no_methods p what.True name number = ap (λ c. same c methods) (instance_class (codes "True") _ _)
@@ -74,7 +74,7 @@ place_12 : place 12 ≡ 17
 unfolding place
 place_12 = refl
 
-pub other_class : (p : Plan) (x : Thing) → slice_get p.order.things 12 ≡ Some methods → place_in p.order.things (content p x).class ≢ 17
+pub other_class : (p : FirstObjects) (x : Thing) → slice_get p.order.things 12 ≡ Some methods → place_in p.order.things (content p x).class ≢ 17
 unfolding place_in
 other_class p x is e = by (position (same (content p x).class) p.order.things) (λ i found. (position-Some (same (content p x).class) p.order.things i methods found).1) e
   where
@@ -95,14 +95,14 @@ class_by things c (Fields fs) = refl
 class_by things c (Bytes bs) = refl
 class_by things c NoWords = refl
 
-fit_more : (p : Plan) (used : ℕ) (x : Thing) (xs : List Thing) → words_of (object p x) ≤ 65535 → used + words_of (object p x) ≤ most_words
+fit_more : (p : FirstObjects) (used : ℕ) (x : Thing) (xs : List Thing) → words_of (object p x) ≤ 65535 → used + words_of (object p x) ≤ most_words
     → fit_beside p used (x ∷ xs) ≡ fit_beside p (used + words_of (object p x)) xs
 fit_more p used x xs size fits =
     let a = le-leb (words_of (object p x)) 65535 size in
     let b = le-leb (used + words_of (object p x)) most_words fits in
     rw (a, b) refl
 
-module _ (p : Plan) (begun v : View) (used i : ℕ) (is : IsBegun p begun) (u : Underway p begun v used i) (x : Thing) (got : slice_get p.order.things i ≡ Some x) where
+module _ (p : FirstObjects) (begun v : View) (used i : ℕ) (is : IsBegun p begun) (u : Underway p begun v used i) (x : Thing) (got : slice_get p.order.things i ≡ Some x) where
   within : i < 32767
   within = let l = slice_get_within p.order.things i x got in let f = is.few in omega arith
 
@@ -181,7 +181,7 @@ module _ (p : Plan) (begun v : View) (used i : ℕ) (is : IsBegun p begun) (u : 
 
 -- FROM THE FIRST TO THE LAST
 
-pub begins : (p : Plan) (v : View) → IsBegun p v → Underway p v v 0 0
+pub begins : (p : FirstObjects) (v : View) → IsBegun p v → Underway p v v 0 0
 begins p v is =
     let nothing : Option Object = None in
     record {
@@ -198,7 +198,7 @@ begins p v is =
       objects = (λ k o e. let n = sym (ap (λ t. entry t k) is.objects ∙ entry-none 32768 k) ∙ e in absurd cc);
     }
 
-pub object_is : (p : Plan) (x : Thing) (c : Content) → c ≡ content p x → object_in p.order.things c ≡ object p x
+pub object_is : (p : FirstObjects) (x : Thing) (c : Content) → c ≡ content p x → object_in p.order.things c ≡ object p x
 unfolding object
 object_is p x c e = ap (object_in p.order.things) e
 
@@ -206,7 +206,7 @@ no_more : (a b c : Bool) → (a && b) ≡ false → (a && (b && c)) ≡ false
 no_more true b c e = ap (λ x. x && c) e
 no_more false b c e = refl
 
-pub refused : (p : Plan) (begun v now : View) (used i words : ℕ) (x : Thing) (u : Unmade) → Underway p begun v used i → slice_get p.order.things i ≡ Some x
+pub refused : (p : FirstObjects) (begun v now : View) (used i words : ℕ) (x : Thing) (u : Unmade) → Underway p begun v used i → slice_get p.order.things i ≡ Some x
     → words ≡ words_of (object p x) → HasWords used words (Err u) → PlacesAll p begun now (Err u)
 refused p begun v now used i words x NoRoom under got is e =
     under.fits ∙ ap (fit_beside p used) (drop_got p.order.things i x got)

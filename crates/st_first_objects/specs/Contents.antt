@@ -8,7 +8,7 @@ use Rattle.st_first_objects.specs.declared.thing.What.TheVariants as what
 use Rattle.st_first_objects.specs.Things.{Thing, only, named, numbered, within, is, symbol, class as class_thing}
 use Rattle.st_first_objects.specs.Classes.{Declared, is_nil}
 use Rattle.st_first_objects.specs.Orders.{selectors, characters, lists}
-use Rattle.st_first_objects.specs.Plans.{Plan, declared}
+use Rattle.st_first_objects.specs.Plans.{FirstObjects, declared}
 
 -- nil, a SmallInteger, or another of the first objects: nil where that isn't made
 pub data Field : Type 0 where
@@ -40,7 +40,7 @@ abbrev pub all_of : List Thing → List Field
 all_of ts = map To ts
 
 -- the things of which this holds, in the order of their making
-abbrev pub members : Plan → (Thing → Bool) → List Field
+abbrev pub members : FirstObjects → (Thing → Bool) → List Field
 members p holds = all_of (filter holds p.order.things)
 
 abbrev pub association : (key value : Field) → Content
@@ -58,7 +58,7 @@ instance name shape.Indexed fields = of_fields name (replicate fields Empty)
 instance name shape.Words fields = of_class name NoWords
 instance name shape.Bytes fields = of_bytes name []
 
-abbrev pub instance_of : Plan → (class : List ℕ) → Content
+abbrev pub instance_of : FirstObjects → (class : List ℕ) → Content
 instance_of p name = instance name (declared p name).shape (declared p name).fields
 
 -- CLASSES
@@ -121,7 +121,7 @@ abbrev pub sharing : Option Part → List ℕ
 sharing (Some (pool p)) = p.class
 sharing _ = []
 
-abbrev pub is_shared_of : Plan → (class : List ℕ) → Thing → Bool
+abbrev pub is_shared_of : FirstObjects → (class : List ℕ) → Thing → Bool
 is_shared_of p name t = is what.Shared t && bytes_eq name (sharing (slice_get p.parts t.number))
 
 -- TABLES
@@ -139,7 +139,7 @@ selector_fields (s ∷ ss) = To (symbol s.0) ∷ Number s.1 ∷ selector_fields 
 
 -- ALL
 
-abbrev pub content_of : Plan → What → (name : List ℕ) → (number : ℕ) → Content
+abbrev pub content_of : FirstObjects → What → (name : List ℕ) → (number : ℕ) → Content
 content_of p what.Nil name number = instance_of p (codes "UndefinedObject")
 content_of p what.False name number = instance_of p (codes "False")
 content_of p what.True name number = instance_of p (codes "True")
@@ -166,5 +166,5 @@ content_of p what.Scheduler name number = of_fields (codes "ProcessorScheduler")
 content_of p what.Lists name number = array (all_of lists)
 content_of p what.List name number = of_fields (codes "LinkedList") (Empty ∷ Empty ∷ [])
 
-abbrev pub content : Plan → Thing → Content
+abbrev pub content : FirstObjects → Thing → Content
 content p t = content_of p t.what t.name t.number

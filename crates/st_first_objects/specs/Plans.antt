@@ -6,14 +6,14 @@ use Rattle.st_kernel_text.specs.Texts.{Account}
 use Rattle.st_first_objects.specs.Classes.{Declared, declared_in}
 use Rattle.st_first_objects.specs.Orders.{Order, order}
 
-pub record Plan : Type 0 where
+pub record FirstObjects : Type 0 where
   pub parts : List Part
   -- the names that these parts declare
   pub names : Names
   pub order : Order
 
-abbrev pub plan : Account → Plan
+abbrev pub plan : Account → FirstObjects
 plan a = record { parts = a.parts; names = a.names; order = order a }
 
-abbrev pub declared : Plan → List ℕ → Declared
+abbrev pub declared : FirstObjects → List ℕ → Declared
 declared p name = declared_in p.parts p.names name

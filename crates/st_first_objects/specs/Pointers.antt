@@ -5,7 +5,7 @@ use Rattle.st_model.specs.declared.kind.Kind.TheVariants as kind
 use Rattle.st_model.specs.Values.{Value, Small, Ref}
 use Rattle.st_model.specs.Objects.{Object, nil}
 use Rattle.st_first_objects.specs.Things.{Thing, same}
-use Rattle.st_first_objects.specs.Plans.{Plan}
+use Rattle.st_first_objects.specs.Plans.{FirstObjects}
 use Rattle.st_first_objects.specs.Contents.{Field, Empty, Number, To, Body, Fields, Bytes, NoWords, Content, content}
 
 -- half of each pointer of the root page, and of the even ones between them
@@ -41,5 +41,5 @@ object_by things class NoWords = record { class = class; kind = kind.Words; fiel
 abbrev pub object_in : List Thing → Content → Object
 object_in things c = object_by things (place_in things c.class) c.body
 
-unfoldable pub object : Plan → Thing → Object
+unfoldable pub object : FirstObjects → Thing → Object
 object p t = object_in p.order.things (content p t)

@@ -7,7 +7,7 @@ ghost use Rattle.st_first_objects.specs.First.{first_view, has_room};
 ghost use Rattle.st_first_objects.specs.inside.Placing.{IsBegun, PlacesAll, HasWords};
 
 use crate::placing::{place_content, pointer, pointer_at};
-use crate::plan::Plan;
+use crate::plan::FirstObjects;
 use crate::thing::{Thing, What};
 use crate::unmade::Unmade;
 use st_kernel_text::Kernel;
@@ -33,7 +33,11 @@ fn used_beside(used: u32, words: usize) -> Result<u32, Unmade>
 }
 
 /// Places the objects of all things.
-fn place_all<L: Loader>(alloc: Global, loader: &mut L, plan: &Plan<'_>) -> Result<(), Unmade>
+fn place_all<L: Loader>(
+    alloc: Global,
+    loader: &mut L,
+    plan: &FirstObjects<'_>,
+) -> Result<(), Unmade>
     requires { IsBegun plan.now (L.loaded loader.old) }
     ensures { PlacesAll plan.now (L.loaded loader.old) (L.loaded loader.new) result }
 {
@@ -55,7 +59,7 @@ pub fn make_first<L: Loader>(alloc: Global, kernel: &Kernel) -> Result<L::Done, 
     ensures room { OnOk result (has_room (account_of kernel.now) ≡ true) }
     ensures refused { IfErr result (λ unmade. unmade ≡ NoRoom → has_room (account_of kernel.now) ≡ false) }
 {
-    let plan = match Plan::of(alloc, kernel) {
+    let plan = match FirstObjects::of(alloc, kernel) {
         Ok(plan) => plan,
         Err(unmade) => return Err(unmade),
     };

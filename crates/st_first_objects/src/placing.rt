@@ -7,7 +7,7 @@ ghost use Rattle.st_first_objects.specs.inside.Placing.{Puts, CanPlace};
 ghost use Rattle.st_first_objects.specs.inside.Views.{thing_of, field_of, fields_of, content_of};
 
 use crate::content::{Body, Content, Field};
-use crate::plan::Plan;
+use crate::plan::FirstObjects;
 use crate::thing::Thing;
 use st_memory::Loader;
 use st_model::{Kind, Oop};
@@ -46,7 +46,7 @@ pub(crate) fn pointer_at(i: usize) -> Oop
 }
 
 /// The pointer of a thing, or nil's.
-pub(crate) fn pointer<'a>(plan: &Plan<'a>, thing: &Thing<'a>) -> Oop
+pub(crate) fn pointer<'a>(plan: &FirstObjects<'a>, thing: &Thing<'a>) -> Oop
     requires { length plan.now.order.things ≤ 32767 }
     ensures value { value result ≡ Ref (place_in plan.now.order.things (thing_of thing.now)) }
     ensures half { result.0 ≡ 2 * place_in plan.now.order.things (thing_of thing.now) }
@@ -58,7 +58,7 @@ pub(crate) fn pointer<'a>(plan: &Plan<'a>, thing: &Thing<'a>) -> Oop
 }
 
 /// What a field holds.
-fn word<'a>(plan: &Plan<'a>, field: &Field<'a>) -> Oop
+fn word<'a>(plan: &FirstObjects<'a>, field: &Field<'a>) -> Oop
     requires { length plan.now.order.things ≤ 32767 }
     ensures { value result ≡ value_in plan.now.order.things (field_of field.now) }
 {
@@ -72,7 +72,7 @@ fn word<'a>(plan: &Plan<'a>, field: &Field<'a>) -> Oop
 /// Places an object with fields.
 fn place_fields<'a, L: Loader>(
     loader: &mut L,
-    plan: &Plan<'a>,
+    plan: &FirstObjects<'a>,
     at: Oop,
     class: Oop,
     fields: &[Field<'a>],
@@ -105,7 +105,7 @@ fn place_bytes<L: Loader>(loader: &mut L, at: Oop, class: Oop, bytes: &[u8])
 /// Places an object.
 pub(crate) fn place_content<'a, L: Loader>(
     loader: &mut L,
-    plan: &Plan<'a>,
+    plan: &FirstObjects<'a>,
     at: Oop,
     content: &Content<'a>,
 )

@@ -196,22 +196,22 @@ fn metaclass_fields<'a>(
 
 /// A kernel text's parts, the names that they declare, and the order of its things.
 #[derive(Drop)]
-pub(crate) struct Plan<'a> {
+pub(crate) struct FirstObjects<'a> {
     parts: &'a [Part],
     names: &'a Declarations,
     order: Order<'a>,
 }
 
-impl<'a> Model for Plan<'a> {
+impl<'a> Model for FirstObjects<'a> {
     ghost use Rattle.st_kernel_text.specs.inside.Views.{parts_of};
-    ghost use Rattle.st_first_objects.specs.Plans.{Plan};
+    ghost use Rattle.st_first_objects.specs.Plans.{FirstObjects};
 
-    ghost Value = { Plan };
+    ghost Value = { FirstObjects };
 
     ghost view = { λ p. record { parts = parts_of p.parts.now; names = p.names.now; order = p.order } };
 }
 
-impl<'a> Plan<'a> {
+impl<'a> FirstObjects<'a> {
     /// The class of this name.
     fn declared(&self, name: &[u8]) -> Declared<'a>
         ensures { declared_of result ≡ declared self.now name.now }
@@ -299,13 +299,13 @@ impl<'a> Plan<'a> {
     }
 }
 
-impl<'a> Plan<'a> {
+impl<'a> FirstObjects<'a> {
     /// That of a text.
-    pub(crate) fn of(alloc: Global, kernel: &'a Kernel) -> Result<Plan<'a>, Unmade>
+    pub(crate) fn of(alloc: Global, kernel: &'a Kernel) -> Result<FirstObjects<'a>, Unmade>
         ensures { IsPlan (plan (account_of kernel.now)) result }
     {
         match order(alloc, kernel) {
-            Ok(order) => Ok(Plan {
+            Ok(order) => Ok(FirstObjects {
                 parts: &kernel.parts,
                 names: &kernel.names,
                 order,
@@ -338,7 +338,7 @@ impl<'a> Plan<'a> {
     }
 }
 
-impl<'a> Plan<'a> {
+impl<'a> FirstObjects<'a> {
     /// What is in an object.
     pub(crate) fn content(&self, alloc: Global, thing: Thing<'a>) -> Result<Content<'a>, AllocError>
         ensures { IfOk result (λ c. content_of c ≡ content self.now (thing_of thing.entry)) }

@@ -9,7 +9,7 @@ use Rattle.st_model.specs.Values.{Value, Small, value_of}
 use Rattle.st_model.specs.Objects.{Object, nil, is_words, is_method}
 use Rattle.st_model.specs.Formed.{literals_of, IsMakeable, fresh}
 use Rattle.st_model.proofs.Pointers.{value_of-odd, value_of-pointer}
-use Rattle.st_heap.specs.declared.adding.Form.{Form}
+use Rattle.st_heap.specs.declared.adding.ObjectLayout.{ObjectLayout}
 use Rattle.st_heap.specs.inside.Stored.{Stored, run}
 use Rattle.st_cells.specs.inside.Words.{byte_of}
 use Rattle.st_heap.specs.inside.Forms.{cell, field_count, unit_count, unit_at, object_from, IsSound}
@@ -38,7 +38,7 @@ no_byte i = by_half (i % 2 == 0)
     by_half true = refl
     by_half false = refl
 
-module _ (f : Form) (form : IsForm f) where
+module _ (f : ObjectLayout) (form : IsForm f) where
   abbrev s : Stored
   s = new_stored f
 
@@ -126,20 +126,20 @@ literals_small : (n : ℕ) → n ≤ 63 → literals_of (value_of (2 * n + 1)) �
 literals_small n few = ap literals_of (value_of-odd n) ∙ omega (arith, few)
 
 module _ (class : Oop) (size literals : ℕ) where
-  abbrev pointers : Form
+  abbrev pointers : ObjectLayout
   pointers = record { class = class; kind = Pointers; odd = false; fields = size; literals = literals; words = 2 + size }
 
-  abbrev words : Form
+  abbrev words : ObjectLayout
   words = record { class = class; kind = Words; odd = false; fields = 0; literals = literals; words = 2 + size }
 
-  abbrev bytes : Form
+  abbrev bytes : ObjectLayout
   bytes = record { class = class; kind = Bytes; odd = nat_eq (size % 2) 1; fields = 0; literals = literals; words = 2 + (size + 1) / 2 }
 
-  abbrev method : Form
+  abbrev method : ObjectLayout
   method = record { class = class; kind = Method; odd = nat_eq (size % 2) 1; fields = literals + 1; literals = literals; words = 2 + (size + 1) / 2 }
 
   -- the kind that a form is of
-  pub record IsNew (f : Form) (o : Object) : Type 0 where
+  pub record IsNew (f : ObjectLayout) (o : Object) : Type 0 where
     pub fresh : object_from (new_stored f) ≡ o
     pub sound : IsSound (new_stored f)
     pub form : IsForm f

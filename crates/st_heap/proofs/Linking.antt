@@ -8,7 +8,7 @@ use Rattle.st_table.specs.declared.entry.Entry.{Entry}
 use Rattle.st_table.specs.inside.Entries.{place, with_next, with_before}
 use Rattle.st_heap.specs.declared.block.Block.{Block}
 use Rattle.st_heap.specs.inside.Blocks.{moved_entry, IsTied}
-use Rattle.st_heap.specs.declared.store.Store.{Store}
+use Rattle.st_heap.specs.declared.store.BlockStore.{BlockStore}
 use Rattle.st_heap.specs.inside.Heaps.{words_of, blocks_of}
 use Rattle.st_heap.specs.inside.Places.{place_in}
 use Rattle.st_heap.specs.inside.Stored.{stored_at, stored_all, slot, used_of, AreTied}
@@ -96,13 +96,13 @@ entered_inside (x ∷ es) zero h = omega arith
 entered_inside (x ∷ es) (suc k) h = let s = entered_inside es k h in omega (arith, s)
 
 -- what a store says of itself with other entries
-pub record StaysWith (s : Store) (es : List (Option Entry)) : Type 0 where
+pub record StaysWith (s : BlockStore) (es : List (Option Entry)) : Type 0 where
   pub tied : AreTied es (blocks_of s.heap)
   pub places : length es ≡ 32768
   pub counted : s.used ≡ used_of (stored_all (words_of s.heap) (blocks_of s.heap) es)
 
 -- a store in which the entry at a place has other links
-module _ (with : Option Entry → Option Entry) (relinks : Relinks with) (s : Store) (k : ℕ) (es : List (Option Entry)) (is : es ≡ set s.table k (with (get_or s.table k None))) (there : is_some (slot (stored_of s) k) ≡ true) where
+module _ (with : Option Entry → Option Entry) (relinks : Relinks with) (s : BlockStore) (k : ℕ) (es : List (Option Entry)) (is : es ≡ set s.table k (with (get_or s.table k None))) (there : is_some (slot (stored_of s) k) ≡ true) where
   pub has_entry : is_some (get_or s.table k None) ≡ true
   has_entry = stored_entered (words_of s.heap) (blocks_of s.heap) s.table k there
 

@@ -10,7 +10,7 @@ use Rattle.st_model.specs.Table.{changed}
 use Rattle.st_model.specs.Values.{value, value_of}
 use Rattle.st_model.specs.View.{is_live, object_of, with_stored, with_unit}
 use Rattle.st_cells.specs.inside.Words.{byte_of, with_run, with_bytes}
-use Rattle.st_heap.specs.declared.objects.Objects.{Objects}
+use Rattle.st_heap.specs.declared.objects.HeapObjects.{HeapObjects}
 use Rattle.st_heap.specs.inside.Stored.{Stored, stored, with_cell, with_cells}
 use Rattle.st_heap.specs.inside.Forms.{cell, field_count, unit_count, object_from, objects_in, IsSound, AllSound}
 use Rattle.st_heap.specs.inside.Stores.{stored_of}
@@ -21,17 +21,17 @@ use Rattle.st_heap.proofs.Changing.{sound_set, changed_stored, stored_field, sto
 use Rattle.st_heap.proofs.Written.{words_end, words_read, words_written, bytes_end, bytes_read, bytes_written}
 
 -- what is stored under a pointer, and the object that it names
-abbrev under : Objects → Oop → Stored
+abbrev under : HeapObjects → Oop → Stored
 under o p = stored (stored_of o.store) (p.0 / 2)
 
-abbrev named : Objects → Oop → Object
+abbrev named : HeapObjects → Oop → Object
 named o p = object_of (objects_of o) (value p)
 
 -- all that is stored, with other words under a pointer
-abbrev over : Objects → Oop → List ℕ → List (Option Stored)
+abbrev over : HeapObjects → Oop → List ℕ → List (Option Stored)
 over o p cells = set (stored_of o.store) (p.0 / 2) (Some (with_cells (under o p) cells))
 
-module _ (o : Objects) (p : Oop) (live : is_live (objects_of o) (value p) ≡ true) where
+module _ (o : HeapObjects) (p : Oop) (live : is_live (objects_of o) (value p) ≡ true) where
   is : IsKnown (stored_of o.store) p (under o p)
   is = known (stored_of o.store) p o.sound live
 
@@ -102,7 +102,7 @@ module _ (o : Objects) (p : Oop) (live : is_live (objects_of o) (value p) ≡ tr
       )
 
 -- a range of an object's words
-module _ (o : Objects) (p : Oop) (live : is_live (objects_of o) (value p) ≡ true) (kind : is_words (named o p).kind ≡ true) (at n : ℕ) (range : at + n ≤ size_of (named o p)) where
+module _ (o : HeapObjects) (p : Oop) (live : is_live (objects_of o) (value p) ≡ true) (kind : is_words (named o p).kind ≡ true) (at n : ℕ) (range : at + n ≤ size_of (named o p)) where
   abbrev s : Stored
   s = under o p
 
@@ -124,7 +124,7 @@ module _ (o : Objects) (p : Oop) (live : is_live (objects_of o) (value p) ≡ tr
   pub words_taken : take n (drop (2 + at) s.cells) ≡ take n (drop at (named o p).units)
   words_taken = words_read s has.sound at n words ranged ∙ ap (λ (x : Object). take n (drop at x.units)) (sym has.is)
 
-pub words_put : (o : Objects) (p : Oop) → is_live (objects_of o) (value p) ≡ true → is_words (named o p).kind ≡ true → (at : ℕ) (ws : List ℕ) → at + length ws ≤ size_of (named o p)
+pub words_put : (o : HeapObjects) (p : Oop) → is_live (objects_of o) (value p) ≡ true → is_words (named o p).kind ≡ true → (at : ℕ) (ws : List ℕ) → at + length ws ≤ size_of (named o p)
     → AllSound (over o p (with_run (under o p).cells (2 + at) ws)) × (objects_in (over o p (with_run (under o p).cells (2 + at) ws)) ≡ changed (objects_of o) (p.0 / 2) (with_units (named o p) (with_run (named o p).units at ws)))
 words_put o p live kind at ws range =
     let s = under o p in
@@ -138,7 +138,7 @@ words_put o p live kind at ws range =
     )
 
 -- one of its words
-module _ (o : Objects) (p : Oop) (live : is_live (objects_of o) (value p) ≡ true) (kind : is_words (named o p).kind ≡ true) (at : ℕ) (range : at < size_of (named o p)) where
+module _ (o : HeapObjects) (p : Oop) (live : is_live (objects_of o) (value p) ≡ true) (kind : is_words (named o p).kind ≡ true) (at : ℕ) (range : at < size_of (named o p)) where
   only : at + 1 ≤ size_of (named o p)
   only = omega (arith, range)
 
@@ -170,7 +170,7 @@ module _ (o : Objects) (p : Oop) (live : is_live (objects_of o) (value p) ≡ tr
       )
 
 -- a range of its bytes
-module _ (o : Objects) (p : Oop) (live : is_live (objects_of o) (value p) ≡ true) (kind : is_words (named o p).kind ≡ false) (at n : ℕ) (above : first_unit (named o p) ≤ at) (range : at + n ≤ first_unit (named o p) + length (named o p).units) where
+module _ (o : HeapObjects) (p : Oop) (live : is_live (objects_of o) (value p) ≡ true) (kind : is_words (named o p).kind ≡ false) (at n : ℕ) (above : first_unit (named o p) ≤ at) (range : at + n ≤ first_unit (named o p) + length (named o p).units) where
   ranges : (is_words (under o p).kind ≡ false) × (first_unit (object_from (under o p)) ≤ at) × (at + n ≤ first_unit (object_from (under o p)) + length (object_from (under o p)).units)
   ranges = subst (λ (x : Object). (is_words x.kind ≡ false) × (first_unit x ≤ at) × (at + n ≤ first_unit x + length x.units)) (is o p live).is (kind, above, range)
 
@@ -180,7 +180,7 @@ module _ (o : Objects) (p : Oop) (live : is_live (objects_of o) (value p) ≡ tr
   pub bytes_taken : (into : List ℕ) → length into ≡ n → ((j : ℕ) → j < n → get_or into j 0 ≡ byte_of (cell (under o p) (2 + (at + j) / 2)) (at + j)) → into ≡ take n (drop (at - first_unit (named o p)) (named o p).units)
   bytes_taken into long read = bytes_read (under o p) (is o p live).sound at n into ranges.0 ranges.1 ranges.2 long read ∙ ap (λ (x : Object). take n (drop (at - first_unit x) x.units)) (sym (is o p live).is)
 
-pub bytes_put : (o : Objects) (p : Oop) → is_live (objects_of o) (value p) ≡ true → is_words (named o p).kind ≡ false → (at : ℕ) (bs : List ℕ) → first_unit (named o p) ≤ at → at + length bs ≤ first_unit (named o p) + length (named o p).units → ((j : ℕ) → get_or bs j 0 < 256)
+pub bytes_put : (o : HeapObjects) (p : Oop) → is_live (objects_of o) (value p) ≡ true → is_words (named o p).kind ≡ false → (at : ℕ) (bs : List ℕ) → first_unit (named o p) ≤ at → at + length bs ≤ first_unit (named o p) + length (named o p).units → ((j : ℕ) → get_or bs j 0 < 256)
     → AllSound (over o p (with_bytes (under o p).cells 2 at bs)) × (objects_in (over o p (with_bytes (under o p).cells 2 at bs)) ≡ changed (objects_of o) (p.0 / 2) (with_units (named o p) (with_run (named o p).units (at - first_unit (named o p)) bs)))
 bytes_put o p live kind at bs above range small =
     let s = under o p in
@@ -193,7 +193,7 @@ bytes_put o p live kind at bs above range small =
     )
 
 -- one of its bytes
-module _ (o : Objects) (p : Oop) (live : is_live (objects_of o) (value p) ≡ true) (kind : is_words (named o p).kind ≡ false) (at : ℕ) (above : first_unit (named o p) ≤ at) (range : at < first_unit (named o p) + length (named o p).units) where
+module _ (o : HeapObjects) (p : Oop) (live : is_live (objects_of o) (value p) ≡ true) (kind : is_words (named o p).kind ≡ false) (at : ℕ) (above : first_unit (named o p) ≤ at) (range : at < first_unit (named o p) + length (named o p).units) where
   lies : (is_words (under o p).kind ≡ false) × (first_unit (object_from (under o p)) ≤ at) × (at < first_unit (object_from (under o p)) + length (object_from (under o p)).units)
   lies = subst (λ (x : Object). (is_words x.kind ≡ false) × (first_unit x ≤ at) × (at < first_unit x + length x.units)) (is o p live).is (kind, above, range)
 

@@ -6,7 +6,7 @@ use Rattle.st_model.specs.declared.demand.Demand.{Demand}
 use Rattle.st_table.specs.declared.entry.Entry.{Entry}
 use Rattle.st_heap.specs.declared.block.Block.{Block}
 use Rattle.st_heap.specs.declared.heap.Heap.{Heap}
-use Rattle.st_heap.specs.declared.store.Store.{Store}
+use Rattle.st_heap.specs.declared.store.BlockStore.{BlockStore}
 use Rattle.st_heap.specs.inside.Blocks.{block_at, given_back, with_owner, held, HoldsPlace, HoldsRun, IsTied}
 use Rattle.st_heap.specs.inside.Heaps.{words_of, blocks_of}
 use Rattle.st_heap.specs.inside.Places.{place_at}
@@ -21,12 +21,12 @@ use Rattle.st_heap.proofs.Totals.{used_kept, total_gone, slot_inside}
 use Rattle.st_heap.proofs.Tying.{tied_of}
 
 -- what a store says of itself, of a heap with other words and the same blocks
-pub record Stays (s : Store) (h : Heap) : Type 0 where
+pub record Stays (s : BlockStore) (h : Heap) : Type 0 where
   pub tied : AreTied s.table (blocks_of h)
   pub counted : s.used ≡ used_of (stored_all (words_of h) (blocks_of h) s.table)
   pub held : held (blocks_of h) ≡ s.used.words
 
-module _ (s : Store) (k at : ℕ) (stands : place_at s k ≡ Some at) where
+module _ (s : BlockStore) (k at : ℕ) (stands : place_at s k ≡ Some at) where
   abbrev ws : List ℕ
   ws = words_of s.heap
 
@@ -140,7 +140,7 @@ module _ (s : Store) (k at : ℕ) (stands : place_at s k ≡ Some at) where
   words_left = gone stored_words ∙ sym (ap (λ (d : Demand). d.words) s.counted)
 
 -- what is stored once a block was given back and its entry is none
-pub freed : (s : Store) (h : Heap) (es : List (Option Entry)) (k at : ℕ) → words_of h ≡ words_of s.heap → blocks_of h ≡ given_back (blocks_of s.heap) at → es ≡ set s.table k None → stored_all (words_of h) (blocks_of h) es ≡ set (stored_of s) k None
+pub freed : (s : BlockStore) (h : Heap) (es : List (Option Entry)) (k at : ℕ) → words_of h ≡ words_of s.heap → blocks_of h ≡ given_back (blocks_of s.heap) at → es ≡ set s.table k None → stored_all (words_of h) (blocks_of h) es ≡ set (stored_of s) k None
 freed s h es k at words blocks entries =
     let bs = blocks_of s.heap in
     same_all (words_of s.heap) (words_of h) (given_back bs at) (blocks_of h) (set s.table k None) es words blocks entries

@@ -7,7 +7,7 @@ use Rattle.st_model.specs.declared.kind.Kind.{Kind}
 use Rattle.st_model.specs.Objects.{is_method}
 use Rattle.st_cells.specs.inside.Words.{with_run}
 use Rattle.st_cells.proofs.Written.{run_is}
-use Rattle.st_heap.specs.declared.adding.Form.{Form}
+use Rattle.st_heap.specs.declared.adding.ObjectLayout.{ObjectLayout}
 use Rattle.st_heap.specs.inside.Stored.{Stored, run, slot, stored, nothing_stored, Takes}
 use Rattle.st_heap.specs.inside.Fresh.{new_cell}
 use Rattle.st_heap.proofs.Runs.{length-run, get_or-run}
@@ -17,7 +17,7 @@ pub all_over : (us ws : List ℕ) → length ws ≡ length us → with_run us 0 
 all_over us ws same =
     sym (run_is us 0 ws (omega (arith, same))) ∙ ap (λ xs. ws ++ xs) (drop_of_length-le us (omega (arith, same))) ∙ append-nil ws
 
-module _ (f : Form) (plain : is_method f.kind ≡ false) (fields : f.words ≡ 2 + f.fields) (few : f.words ≤ 40) where
+module _ (f : ObjectLayout) (plain : is_method f.kind ≡ false) (fields : f.words ≡ 2 + f.fields) (few : f.words ≤ 40) where
   -- words of nil, of which the first two are the size and the class
   abbrev pub laid : List ℕ
   laid = set (set (replicate 40 2) 0 f.words) 1 f.class.0

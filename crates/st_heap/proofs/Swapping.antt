@@ -6,7 +6,7 @@ use Rattle.st_model.specs.declared.oop.Oop.{Oop}
 use Rattle.st_table.specs.declared.entry.Entry.{Entry}
 use Rattle.st_heap.specs.declared.block.Block.{Block}
 use Rattle.st_heap.specs.declared.heap.Heap.{Heap}
-use Rattle.st_heap.specs.declared.store.Store.{Store}
+use Rattle.st_heap.specs.declared.store.BlockStore.{BlockStore}
 use Rattle.st_heap.specs.inside.Heaps.{words_of, blocks_of}
 use Rattle.st_heap.specs.inside.Stores.{stored_of}
 use Rattle.st_heap.specs.inside.Blocks.{block, block_at, entry_at, moved_entry, with_owner, exchanged_entries, exchanged_blocks}
@@ -124,7 +124,7 @@ abbrev pub crossed : Entry → Entry → Entry
 crossed e f = record { at = f.at; kind = f.kind; odd = f.odd; next = e.next; before = e.before }
 
 -- a store whose heap has exchanged two blocks, once the entries have their own links again
-module _ (s : Store) (a b : Oop) (e f : Entry) (first second third : List (Option Entry)) (exchanged : first ≡ exchanged_entries s.table a b) (once : second ≡ set first (a.0 / 2) (Some (crossed e f))) (twice : third ≡ set second (b.0 / 2) (Some (crossed f e))) where
+module _ (s : BlockStore) (a b : Oop) (e f : Entry) (first second third : List (Option Entry)) (exchanged : first ≡ exchanged_entries s.table a b) (once : second ≡ set first (a.0 / 2) (Some (crossed e f))) (twice : third ≡ set second (b.0 / 2) (Some (crossed f e))) where
   pub entries_crossed : third ≡ set (set (exchanged_entries s.table a b) (a.0 / 2) (Some (crossed e f))) (b.0 / 2) (Some (crossed f e))
   entries_crossed = twice ∙ ap (λ es. set es (b.0 / 2) (Some (crossed f e))) (once ∙ ap (λ es. set es (a.0 / 2) (Some (crossed e f))) exchanged)
 

@@ -7,7 +7,7 @@ ghost use Rattle.st_heap.specs.inside.Stores.{stored_of, capacity_of};
 ghost use Rattle.st_heap.specs.inside.Forms.{object_from, IsSound};
 ghost use Rattle.st_heap.specs.inside.Links.{SameOtherLinks};
 
-use crate::store::Store;
+use crate::store::BlockStore;
 use st_model::{Kind, Oop};
 
 /// How many words an object has at most whose words are written at once.
@@ -15,7 +15,7 @@ const MOST: usize = 40;
 
 /// What a new object consists of.
 #[derive(Clone, Copy)]
-pub struct Form {
+pub struct ObjectLayout {
     /// Its class.
     pub class: Oop,
     /// What its body consists of.
@@ -30,11 +30,11 @@ pub struct Form {
     pub words: u32,
 }
 
-impl Form {
+impl ObjectLayout {
     ghost use Rattle.st_heap.specs.inside.Fresh.{new_stored, new_cell, IsForm};
 
-    /// The form of a new object of a class, with so many fields, words or bytes and literals.
-    pub fn new(class: Oop, kind: Kind, size: u32, literals: u32) -> Form
+    /// The layout of a new object of a class, with so many fields, words or bytes and literals.
+    pub fn new(class: Oop, kind: Kind, size: u32, literals: u32) -> ObjectLayout
         requires even { class.0 % 2 ≡ 0 }
         requires makeable { IsMakeable (class.0 / 2) kind size literals }
         ensures fresh { object_from (new_stored result) ≡ fresh (class.0 / 2) kind size literals }
@@ -43,7 +43,7 @@ impl Form {
         ensures words { result.words ≡ words_of (fresh (class.0 / 2) kind size literals) }
     {
         match kind {
-            Kind::Pointers => Form {
+            Kind::Pointers => ObjectLayout {
                 class,
                 kind,
                 odd: false,
@@ -51,7 +51,7 @@ impl Form {
                 literals,
                 words: 2 + size,
             },
-            Kind::Words => Form {
+            Kind::Words => ObjectLayout {
                 class,
                 kind,
                 odd: false,
@@ -59,7 +59,7 @@ impl Form {
                 literals,
                 words: 2 + size,
             },
-            Kind::Bytes => Form {
+            Kind::Bytes => ObjectLayout {
                 class,
                 kind,
                 odd: size % 2 == 1,
@@ -67,7 +67,7 @@ impl Form {
                 literals,
                 words: 2 + (size + 1) / 2,
             },
-            Kind::Method => Form {
+            Kind::Method => ObjectLayout {
                 class,
                 kind,
                 odd: size % 2 == 1,
@@ -108,7 +108,7 @@ impl Form {
 
     /// Stores a new object that has nothing but fields, and few, under an unused pointer: its words are written at once.
     #[inline(always)]
-    fn store_fields(&self, store: &mut Store, at: Oop)
+    fn store_fields(&self, store: &mut BlockStore, at: Oop)
         requires unused { IsUnused (stored_of store.old) at }
         requires form { IsForm self.now }
         requires room { (used_of (stored_of store.old)).words + self.now.words ≤ capacity_of store.old }
@@ -129,7 +129,7 @@ impl Form {
 
     /// Stores a new object under an unused pointer.
     #[inline(always)]
-    pub fn store(&self, store: &mut Store, at: Oop)
+    pub fn store(&self, store: &mut BlockStore, at: Oop)
         requires unused { IsUnused (stored_of store.old) at }
         requires form { IsForm self.now }
         requires room { (used_of (stored_of store.old)).words + self.now.words ≤ capacity_of store.old }

@@ -11,4 +11,4 @@ mod store;
 
 pub use block::Block;
 pub use heap::Heap;
-pub use objects::Objects;
+pub use objects::HeapObjects;

@@ -11,31 +11,31 @@ ghost use Rattle.st_heap.specs.inside.Stores.{stored_of};
 ghost use Rattle.st_cells.specs.inside.Words.{byte_of, with_run};
 ghost use Rattle.st_heap.specs.inside.Forms.{AllSound, field_count};
 
-use crate::adding::Form;
-use crate::store::Store;
+use crate::adding::ObjectLayout;
+use crate::store::BlockStore;
 use st_model::{Demand, Kind, Oop, literals};
 use std::alloc::{AllocError, Global};
 
 /// Objects in a heap. Place k of the table is that of pointer 2k.
 #[derive(Drop)]
-pub struct Objects {
-    store: Store,
+pub struct HeapObjects {
+    store: BlockStore,
     pub ghost sound: { AllSound (stored_of store) },
 }
 
-impl Objects {
+impl HeapObjects {
     ghost use Rattle.st_heap.specs.inside.Tables.{objects_of, room_of};
     ghost use Rattle.st_heap.specs.inside.Places.{SamePlaces, SameOtherPlaces, Stands};
     ghost use Rattle.st_heap.specs.inside.Links.{next_of, before_of, SameLinks, SameOtherLinks, WithNext, WithBefore};
 
     /// No objects, and room for so many words.
-    pub fn new(alloc: Global, words: u32) -> Result<Objects, AllocError>
+    pub fn new(alloc: Global, words: u32) -> Result<HeapObjects, AllocError>
         ensures places { IfOk result (λ o. length (objects_of o) ≡ 32768) }
         ensures empty { IfOk result (λ o. (k : ℕ) → entry (objects_of o) k ≡ None) }
         ensures room { IfOk result (λ o. room_of o ≡ words) }
     {
-        let store = Store::new(alloc, words)?;
-        Ok(Objects { store })
+        let store = BlockStore::new(alloc, words)?;
+        Ok(HeapObjects { store })
     }
 
     /// Whether the word is the pointer of an object.
@@ -355,7 +355,7 @@ impl Objects {
         ensures room { room_of self.new ≡ room_of self.old }
         ensures links { SameOtherLinks self.old.store self.new.store (place at) }
     {
-        let form = Form::new(class, kind, size, literals);
+        let form = ObjectLayout::new(class, kind, size, literals);
         form.store(&mut self.store, at);
     }
 

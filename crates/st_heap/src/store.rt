@@ -14,7 +14,7 @@ use std::alloc::{AllocError, Global};
 /// Blocks of words, each stored under the pointer of an object. Clauses see it as a list (`stored_of`), which has at each
 /// place what is stored under the pointer that is twice the place, or none.
 #[derive(Drop)]
-pub struct Store {
+pub struct BlockStore {
     /// The blocks.
     heap: Heap,
     /// For each pointer under which one is stored, its place, its kind and its odd mark.
@@ -27,19 +27,19 @@ pub struct Store {
     ghost held: { held (blocks_of heap) ≡ used.words },
 }
 
-impl Store {
+impl BlockStore {
     ghost use Rattle.st_heap.specs.inside.Stores.{stored_of, capacity_of};
     ghost use Rattle.st_heap.specs.inside.Places.{place_at, SamePlaces, SameOtherPlaces};
     ghost use Rattle.st_heap.specs.inside.Links.{next_of, before_of, SameLinks, SameOtherLinks, WithNext, WithBefore};
 
     /// Nothing stored, and so many words for it.
-    pub fn new(alloc: Global, words: u32) -> Result<Store, AllocError>
+    pub fn new(alloc: Global, words: u32) -> Result<BlockStore, AllocError>
         ensures empty { IfOk result (λ s. (k : ℕ) → slot (stored_of s) k ≡ None) }
         ensures capacity { IfOk result (λ s. capacity_of s ≡ words) }
     {
         let heap = Heap::new(alloc, words)?;
         let table = empty_table(alloc, 32767)?;
-        Ok(Store {
+        Ok(BlockStore {
             heap,
             table,
             used: Demand {

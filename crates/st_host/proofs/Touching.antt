@@ -4,7 +4,7 @@ use Rattle.st_host.specs.Counts.{Rose, HasCause}
 use Rattle.st_host.specs.Files.{Files, bytes_of, KeepsBelow}
 use Rattle.st_host.specs.Stops.{Apart, Comes, comes, Follows, Torn, TornByWrite, TornByCut, Here, Elapses}
 use Rattle.st_host.specs.inside.Names.{same_or_other}
-use Rattle.st_host.specs.Runs.{ReadsAlike, OnlyReads, Narrows, Touched, Touches, Writes, Cuts, Syncs, WritesAbove, Elsewhere, Changes, NarrowsBut, ChangesBoth, Spares}
+use Rattle.st_host.specs.Runs.{ReadsAlike, OnlyReads, Narrows, Touched, Touches, Writes, Cuts, Syncs, WritesAbove, Elsewhere, ChangesOneFile, NarrowsBut, ChangesBoth, Spares}
 use Rattle.st_host.specs.declared.host.Host.{Ghosts}
 use Rattle.st_host.proofs.Rising.{rose_first, rose_second}
 use Rattle.st_host.proofs.Joining.{weaker, moments_join, moments_once}
@@ -160,22 +160,22 @@ module _ {D : Type 0} (host : Ghosts D) (name : List ℕ) where
   pub sync_cut : (len : ℕ) (old mid new : D) → Cuts host name len old mid → Syncs host name mid new → Cuts host name len old new
   sync_cut len old mid new first second = record { run = sync_after (TornByCut (host.files old name) len) old mid new first.run second }
 
-  changes_of : (step : Option (List ℕ) → Option (List ℕ) → Type 0) (old new : D) → Touches host step name old new → Changes host name old new
+  changes_of : (step : Option (List ℕ) → Option (List ℕ) → Type 0) (old new : D) → Touches host step name old new → ChangesOneFile host name old new
   changes_of step old new run = record { disk = run.disk; say = run.say; others = run.others; quiet = run.quiet; moments = λ told. weaker host old new (Elsewhere host name old) (Touched host step name old) (run.moments told) (λ f s so. (so.quiet, so.others)) }
 
-  pub write_changes : (at n : ℕ) (old new : D) → Writes host name at n old new → Changes host name old new
+  pub write_changes : (at n : ℕ) (old new : D) → Writes host name at n old new → ChangesOneFile host name old new
   write_changes at n old new writes = changes_of (TornByWrite (host.files old name) at n) old new writes.run
 
-  pub cut_changes : (len : ℕ) (old new : D) → Cuts host name len old new → Changes host name old new
+  pub cut_changes : (len : ℕ) (old new : D) → Cuts host name len old new → ChangesOneFile host name old new
   cut_changes len old new cuts = changes_of (TornByCut (host.files old name) len) old new cuts.run
 
-  pub sync_changes : (old new : D) → Syncs host name old new → Changes host name old new
+  pub sync_changes : (old new : D) → Syncs host name old new → ChangesOneFile host name old new
   sync_changes old new syncs = changes_of (λ was is. was ≡ is) old new syncs.run
 
-  pub above_changes : (floor : ℕ) (old new : D) → WritesAbove host floor name old new → Changes host name old new
+  pub above_changes : (floor : ℕ) (old new : D) → WritesAbove host floor name old new → ChangesOneFile host name old new
   above_changes floor old new above = changes_of (KeepsBelow floor) old new above.run
 
-  pub changes_join : (old mid new : D) → Changes host name old mid → Changes host name mid new → Changes host name old new
+  pub changes_join : (old mid new : D) → ChangesOneFile host name old mid → ChangesOneFile host name mid new → ChangesOneFile host name old new
   changes_join old mid new first second = record {
     disk = omega (arith, first.disk, second.disk);
     say = second.say ∙ first.say;
@@ -186,7 +186,7 @@ module _ {D : Type 0} (host : Ghosts D) (name : List ℕ) where
   }
 
   -- a run that only reads, and reads one file
-  pub reads_change : (old new : D) → OnlyReads host old new → (IsTrue host.is_told → (n : List ℕ) → n ≢ name → host.files new n ≡ host.files old n) → Changes host name old new
+  pub reads_change : (old new : D) → OnlyReads host old new → (IsTrue host.is_told → (n : List ℕ) → n ≢ name → host.files new n ≡ host.files old n) → ChangesOneFile host name old new
   reads_change old new run others = record {
     disk = run.disk;
     say = run.say;
@@ -205,7 +205,7 @@ module _ {D : Type 0} (host : Ghosts D) (name : List ℕ) where
     moments = λ told. weaker host old new (Elsewhere host name old) (Here (host.may_leave old) (host.said old)) (run.moments told) (λ f s here. (here.1, λ n other. here.0 n));
   }
 
-  pub changes_but : (old new : D) → Changes host name old new → NarrowsBut host name old new
+  pub changes_but : (old new : D) → ChangesOneFile host name old new → NarrowsBut host name old new
   changes_but old new run = record {
     disk = run.disk;
     say = run.say;
@@ -254,7 +254,7 @@ module _ {D : Type 0} (host : Ghosts D) (name : List ℕ) where
 
 module _ {D : Type 0} (host : Ghosts D) where
   -- what changes one file leaves those of other names alone
-  pub changes_spare : (name : List ℕ) (names : List ℕ → Type 0) (old new : D) → ((n : List ℕ) → names n → n ≢ name) → Changes host name old new → Spares host names old new
+  pub changes_spare : (name : List ℕ) (names : List ℕ → Type 0) (old new : D) → ((n : List ℕ) → names n → n ≢ name) → ChangesOneFile host name old new → Spares host names old new
   changes_spare name names old new other run = record {
     files = λ told n is. (run.others told).files n (other n is);
     fewer = λ told n c is. (run.others told).fewer n c (other n is);
@@ -280,7 +280,7 @@ module _ {D : Type 0} (host : Ghosts D) where
   }
 
 -- changes to one file, and then to another
-pub both_join : {D : Type 0} (host : Ghosts D) (one two : List ℕ) (old mid new : D) → Changes host one old mid → Changes host two mid new → ChangesBoth host one two old new
+pub both_join : {D : Type 0} (host : Ghosts D) (one two : List ℕ) (old mid new : D) → ChangesOneFile host one old mid → ChangesOneFile host two mid new → ChangesBoth host one two old new
 both_join host one two old mid new first second =
     let P : Files → List ℕ → Type 0 = λ f s. (s ≡ host.said old) × ((n : List ℕ) → n ≢ one → n ≢ two → host.may_leave old n (f n)) in
     record {
@@ -296,7 +296,7 @@ both_join host one two old mid new first second =
     }
 
 -- changes to one of the two, before or behind
-pub both_begun : {D : Type 0} (host : Ghosts D) (one two : List ℕ) (old new : D) → Changes host one old new → ChangesBoth host one two old new
+pub both_begun : {D : Type 0} (host : Ghosts D) (one two : List ℕ) (old new : D) → ChangesOneFile host one old new → ChangesBoth host one two old new
 both_begun host one two old new run =
     let P : Files → List ℕ → Type 0 = λ f s. (s ≡ host.said old) × ((n : List ℕ) → n ≢ one → n ≢ two → host.may_leave old n (f n)) in
     record {
@@ -309,7 +309,7 @@ both_begun host one two old new run =
       moments = λ told. weaker host old new P (Elsewhere host one old) (run.moments told) (λ f s so. (so.0, λ n a b. so.1 n a));
     }
 
-pub both_more : {D : Type 0} (host : Ghosts D) (one two : List ℕ) (old mid new : D) → ChangesBoth host one two old mid → Changes host two mid new → ChangesBoth host one two old new
+pub both_more : {D : Type 0} (host : Ghosts D) (one two : List ℕ) (old mid new : D) → ChangesBoth host one two old mid → ChangesOneFile host two mid new → ChangesBoth host one two old new
 both_more host one two old mid new first second =
     let P : Files → List ℕ → Type 0 = λ f s. (s ≡ host.said old) × ((n : List ℕ) → n ≢ one → n ≢ two → host.may_leave old n (f n)) in
     record {

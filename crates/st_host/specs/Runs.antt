@@ -91,7 +91,7 @@ abbrev pub Elsewhere : {D : Type 0} → Ghosts D → List ℕ → D → Files �
 Elsewhere host name old f s = (s ≡ host.said old) × ((n : List ℕ) → n ≢ name → host.may_leave old n (f n))
 
 -- A run of calls that changes no file but this one: every other is as before, and so is what a stop may leave of it.
-pub record Changes {D : Type 0} (host : Ghosts D) (name : List ℕ) (old new : D) : Type 0 where
+pub record ChangesOneFile {D : Type 0} (host : Ghosts D) (name : List ℕ) (old new : D) : Type 0 where
   pub disk : host.disk_faults old ≤ host.disk_faults new
   pub say : host.say_faults new ≡ host.say_faults old
   pub others : IsTrue host.is_told → Apart name (host.files old) (host.files new) (host.may_leave old) (host.may_leave new)

@@ -2,7 +2,7 @@
 ghost use Rattle.std.specs.Prelude.{◌≡◌, ◌≤◌, ◌<◌, ◌+◌, ◌^◌, IsTrue, length, IfOk, OnOk};
 ghost use Rattle.st_host.specs.Counts.{HasCause};
 ghost use Rattle.st_host.specs.Files.{bytes_of, length_of, Reads, IsRead};
-ghost use Rattle.st_host.specs.Runs.{OnlyReads, ReadsAlike, Changes};
+ghost use Rattle.st_host.specs.Runs.{OnlyReads, ReadsAlike, ChangesOneFile};
 
 use crate::{Host, HostFault};
 
@@ -12,7 +12,7 @@ pub fn file_length<H: Host>(host: &mut H, name: &str) -> Result<Option<u64>, Hos
     ensures length { IfOk result (λ l. IsTrue H.is_told → l ≡ length_of (H.files host.old name.now)) }
     ensures alike { OnOk result (ReadsAlike H.Host.own host.old host.new) }
     ensures reads { OnlyReads H.Host.own host.old host.new }
-    ensures changes { Changes H.Host.own name.now host.old host.new }
+    ensures changes { ChangesOneFile H.Host.own name.now host.old host.new }
     ensures cause { HasCause (H.disk_faults host.old) (H.disk_faults host.new) result }
 {
     let length = host.length(name)?;
@@ -32,7 +32,7 @@ fn read_some<H: Host>(
         → Reads (bytes_of (H.files host.old name.now)) at k into.new) }
     ensures alike { OnOk result (ReadsAlike H.Host.own host.old host.new) }
     ensures reads { OnlyReads H.Host.own host.old host.new }
-    ensures changes { Changes H.Host.own name.now host.old host.new }
+    ensures changes { ChangesOneFile H.Host.own name.now host.old host.new }
     ensures cause { HasCause (H.disk_faults host.old) (H.disk_faults host.new) result }
 {
     let count = host.read_at(name, at, into)?;
@@ -54,7 +54,7 @@ pub fn read_from<H: Host>(
         → IsRead (bytes_of (H.files host.old name.now)) at k into.new) }
     ensures alike { OnOk result (ReadsAlike H.Host.own host.old host.new) }
     ensures reads { OnlyReads H.Host.own host.old host.new }
-    ensures changes { Changes H.Host.own name.now host.old host.new }
+    ensures changes { ChangesOneFile H.Host.own name.now host.old host.new }
     ensures cause { HasCause (H.disk_faults host.old) (H.disk_faults host.new) result }
 {
     let mut done = 0;

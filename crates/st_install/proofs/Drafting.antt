@@ -17,7 +17,7 @@ use Rattle.st_install.specs.declared.planning.PlanDraft.{PlanDraft}
 use Rattle.st_install.specs.declared.planning.Growth.{Growth}
 use Rattle.st_install.specs.declared.plan.NewObject.{NewObject as CodeObject}
 use Rattle.st_scope.specs.declared.unread.Unread.TheVariants.{Dies}
-use Rattle.st_install.specs.Plans.{Made, NewObject, Store, Plan}
+use Rattle.st_install.specs.Plans.{Made, NewObject, FieldStore, Plan}
 use Rattle.st_install.specs.Symbols.{Symbols}
 use Rattle.st_install.specs.Literals.{PlacedAll}
 use Rattle.st_install.specs.Shapes.{check_size}
@@ -67,7 +67,7 @@ module _ (class : Oop) (d : PlanDraft) (method : NewObject) (t : Table) (next : 
         ∙ ap (λ os. os ++ method_of parts literals ∷ objects_of g.objects.items) (sym h.objects)
         ∙ ap (λ o. objects_of d.objects.items ++ o ∷ objects_of g.objects.items) (sym m)
 
-    same_plan : (a b : List NewObject) (k n : ℕ) (p q : Option ℕ) (ss ts : List Store) → a ≡ b → k ≡ n → p ≡ q → ss ≡ ts
+    same_plan : (a b : List NewObject) (k n : ℕ) (p q : Option ℕ) (ss ts : List FieldStore) → a ≡ b → k ≡ n → p ≡ q → ss ≡ ts
         → ◌≡◌ {A = Plan} (record { objects = a; symbol_stores = ss; selector = part_of d.selector; method = Made k; class = value class; dictionary = value g.dictionary; grown = p })
         (record { objects = b; symbol_stores = ts; selector = part_of d.selector; method = Made n; class = value class; dictionary = value g.dictionary; grown = q })
     same_plan a b k n p q ss ts u v w z = rw (u, v, w, z) refl

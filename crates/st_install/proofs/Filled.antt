@@ -12,8 +12,8 @@ use Rattle.st_model.specs.Machine.{Step, answer, ◌>>◌}
 use Rattle.st_model.specs.Steps.{store_fields, store_byte, store_bytes}
 use Rattle.st_model.specs.Table.{Table, table}
 use Rattle.st_model.specs.View.{View}
-use Rattle.st_install.specs.declared.plan.Part.{Part as CodePart}
-use Rattle.st_install.specs.declared.plan.Part.TheVariants as part
+use Rattle.st_install.specs.declared.plan.PlannedValue.{PlannedValue as CodePart}
+use Rattle.st_install.specs.declared.plan.PlannedValue.TheVariants as part
 use Rattle.st_install.specs.declared.plan.NewObject.{NewObject as CodeObject}
 use Rattle.st_scope.specs.inside.Meanings.{values}
 use Rattle.st_install.specs.inside.Readies.{part_of, parts_of, objects_of}

@@ -8,7 +8,7 @@ use Rattle.st_model.specs.Objects.{Object, nil, is_pointers, is_method, with_fie
 use Rattle.st_model.specs.Machine.{Head, State, Went, is_there, ◌>>=◌}
 use Rattle.st_model.specs.Steps.{fetch_field}
 use Rattle.st_model.specs.Table.{Table, bounded_table}
-use Rattle.st_install.specs.Plans.{Part, There, Made, NewObject, Store, Plan, words_of_all}
+use Rattle.st_install.specs.Plans.{PlannedValue, There, Made, NewObject, FieldStore, Plan, words_of_all}
 use Rattle.st_install.specs.Dictionaries.{Nowhere, place_of_selector, refill}
 use Rattle.st_install.specs.Installing.{adopt, add_at, part_value, part_values, make_all, target, find_place, Placing, store_planned, fill_and_store, install}
 use Rattle.st_model.proofs.Runs.{run-then, after-went}
@@ -93,11 +93,11 @@ module _ (head : Head) (t : Table) (p : Plan) (sound : IsSoundPlan t p) (associa
     made_apart : (i k : ℕ) → i < length p.objects → k < length p.objects → i ≢ k → get_or vs i nil ≢ get_or vs k nil
     made_apart i k l n d q = d (m.apart i k (get_or vs i nil) (name_at t u p.objects vs m i l) (name_at t u p.objects vs m k n ∙ ap (λ y. Some y) (sym q)))
 
-    no_target : (x : Value) → x ≢ association → x ≢ value → ((k : ℕ) → k < number → x ≢ get_or vs k nil) → (xs : List Store) → AreSymbolTargets association value number xs → IsNoTarget vs xs x
+    no_target : (x : Value) → x ≢ association → x ≢ value → ((k : ℕ) → k < number → x ≢ get_or vs k nil) → (xs : List FieldStore) → AreSymbolTargets association value number xs → IsNoTarget vs xs x
     no_target x a b c [] h = tt
     no_target x a b c (y ∷ xs) h = (no_part x a b c y.object h.0, no_target x a b c xs h.1)
       where
-        no_part : (x : Value) → x ≢ association → x ≢ value → ((k : ℕ) → k < number → x ≢ get_or vs k nil) → (q : Part) → IsSymbolTarget association value number q → x ≢ part_value nil vs q
+        no_part : (x : Value) → x ≢ association → x ≢ value → ((k : ℕ) → k < number → x ≢ get_or vs k nil) → (q : PlannedValue) → IsSymbolTarget association value number q → x ≢ part_value nil vs q
         no_part x a b c (There v) h = elim h [
           | inl e ↦ λ r. a (r ∙ e)
           | inr e ↦ λ r. b (r ∙ e)
@@ -329,7 +329,7 @@ module _ (head : Head) (t : Table) (p : Plan) (sound : IsSoundPlan t p) (associa
       shape_at (x ∷ os) zero o h e = let q : x ≡ o = cc in subst (λ y. IsShaped y.kind y) q h.0
       shape_at (x ∷ os) (suc k) o h e = shape_at os k o h.1 e
 
-      first_value : (ps : List Part) → HasHeader ps → (x : Value) × slice_get (part_values nil vs ps) 0 ≡ Some x
+      first_value : (ps : List PlannedValue) → HasHeader ps → (x : Value) × slice_get (part_values nil vs ps) 0 ≡ Some x
       first_value [] h = absurd h
       first_value (q ∷ ps) h = (part_value nil vs q, refl)
 

@@ -10,7 +10,7 @@ use Rattle.st_model.specs.Table.{Table, table, bounded_table}
 use Rattle.st_code.specs.Methods.{PartsView}
 use Rattle.st_scope.specs.declared.fault.InstallFault.{InstallFault}
 use Rattle.st_scope.specs.declared.fault.InstallFault.TheVariants.{Shape}
-use Rattle.st_install.specs.Plans.{Part, There, Made, NewObject, Store, Plan, method_object, bytes_object}
+use Rattle.st_install.specs.Plans.{PlannedValue, There, Made, NewObject, FieldStore, Plan, method_object, bytes_object}
 use Rattle.st_install.specs.inside.Goes.{IsHeaded}
 use Rattle.st_install.specs.Symbols.{Symbols, symbols_in, symbol_part, vacant_field, symbol_in_field, symbol_in_array, with_new_symbol, make_symbol, found_or_made, seek_unless, with_symbol, with_symbols, symbols_there, symbols_for}
 use Rattle.st_install.specs.Literals.{PlacedAll, place_owner}
@@ -29,11 +29,11 @@ use Rattle.st_install.proofs.GoesPlanning.{same_object, HasDictionary, same_dict
 -- INTO WHAT SYMBOLS ARE STORED
 
 -- the symbol table's association or its value, or one of so many objects that are made
-abbrev pub IsSymbolTarget : (association value : Value) → ℕ → Part → Type 0
+abbrev pub IsSymbolTarget : (association value : Value) → ℕ → PlannedValue → Type 0
 IsSymbolTarget association value n (There v) = (v ≡ association) ⊎ (v ≡ value)
 IsSymbolTarget association value n (Made k) = k < n
 
-abbrev pub AreSymbolTargets : (association value : Value) → ℕ → List Store → Type 0
+abbrev pub AreSymbolTargets : (association value : Value) → ℕ → List FieldStore → Type 0
 AreSymbolTargets association value n [] = Unit {0}
 AreSymbolTargets association value n (x ∷ xs) = IsSymbolTarget association value n x.object × AreSymbolTargets association value n xs
 
@@ -43,15 +43,15 @@ IsNext number None = Unit {0}
 IsNext number (Some k) = k ≡ number + 1
 
 module _ (association value : Value) where
-  pub target_more : (n m : ℕ) (p : Part) → n ≤ m → IsSymbolTarget association value n p → IsSymbolTarget association value m p
+  pub target_more : (n m : ℕ) (p : PlannedValue) → n ≤ m → IsSymbolTarget association value n p → IsSymbolTarget association value m p
   target_more n m (There v) l h = h
   target_more n m (Made k) l h = omega (arith, l, h)
 
-  pub targets_more : (n m : ℕ) (xs : List Store) → n ≤ m → AreSymbolTargets association value n xs → AreSymbolTargets association value m xs
+  pub targets_more : (n m : ℕ) (xs : List FieldStore) → n ≤ m → AreSymbolTargets association value n xs → AreSymbolTargets association value m xs
   targets_more n m [] l h = tt
   targets_more n m (x ∷ xs) l h = (target_more n m x.object l h.0, targets_more n m xs l h.1)
 
-  targets_append : (n : ℕ) (xs ys : List Store) → AreSymbolTargets association value n xs → AreSymbolTargets association value n ys → AreSymbolTargets association value n (xs ++ ys)
+  targets_append : (n : ℕ) (xs ys : List FieldStore) → AreSymbolTargets association value n xs → AreSymbolTargets association value n ys → AreSymbolTargets association value n (xs ++ ys)
   targets_append n [] ys h k = k
   targets_append n (x ∷ xs) ys h k = (h.0, targets_append n xs ys h.1 k)
 
@@ -99,7 +99,7 @@ module _ (s : State Table) (sound : IsSoundTable s.memory) (association value : 
   found_into text x None h = make_into text x h
   found_into text x (Some v) h = gives_answer s _ _ (record { stores = h.stores; table = h.table })
 
-  unless_into : (o : Value) (text : List ℕ) (x : Symbols) (found : Option Part) → StoresInto association value x → Gives s (seek_unless table association o text x found) (λ y. StoresInto association value y)
+  unless_into : (o : Value) (text : List ℕ) (x : Symbols) (found : Option PlannedValue) → StoresInto association value x → Gives s (seek_unless table association o text x found) (λ y. StoresInto association value y)
   unfolding seek_unless
   unless_into o text x (Some p) h = gives_answer s _ x h
   unless_into o text x None h = gives_then s _ _ _ _ (gives_named s sound o text) (λ found k. found_into text x found h)
@@ -156,7 +156,7 @@ module _ (s : State Table) (sound : IsSoundTable s.memory) (association value : 
 
   module _ (class : Value) (has : HasDictionary s.memory class) (parts : PartsView) (headed : IsHeaded parts) (header : is_there bounded_table s.memory (value_of parts.header) ≡ true) where
     module _ (symbols : Symbols) (into : StoresInto association value symbols) (ls : PlacedAll) where
-      arranged : (c d : Value) (p : Part) (b : Bool) (grown : List NewObject) → IsField s.memory class 1 d → IsSoundPart s.memory (length symbols.objects) p
+      arranged : (c d : Value) (p : PlannedValue) (b : Bool) (grown : List NewObject) → IsField s.memory class 1 d → IsSoundPart s.memory (length symbols.objects) p
           → IsArranged class (plan_with c class d parts symbols ls p b grown)
       arranged c d p b grown f l =
           let n = length-append symbols.objects ls.objects in
@@ -174,7 +174,7 @@ module _ (s : State Table) (sound : IsSoundTable s.memory) (association value : 
             kind = refl;
           }
 
-      objects_arranged : (p : Part) → IsSoundPart s.memory (length symbols.objects) p → Gives s (plan_objects table class parts symbols ls p) (λ x. IsArranged class x)
+      objects_arranged : (p : PlannedValue) → IsSoundPart s.memory (length symbols.objects) p → Gives s (plan_objects table class parts symbols ls p) (λ x. IsArranged class x)
       unfolding plan_objects
       objects_arranged p l =
           gives_then s (λ d. IsField s.memory class 1 d) _ _ _ (gives_field s class 1)

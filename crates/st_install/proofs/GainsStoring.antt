@@ -7,7 +7,7 @@ use Rattle.st_model.specs.Objects.{Object, nil, is_pointers, with_field}
 use Rattle.st_model.specs.Machine.{Head, is_there}
 use Rattle.st_model.specs.Steps.{store_field, same_value}
 use Rattle.st_model.specs.Table.{Table, bounded_table}
-use Rattle.st_install.specs.Plans.{Store}
+use Rattle.st_install.specs.Plans.{FieldStore}
 use Rattle.st_install.specs.Dictionaries.{Ending, Holds, Vacant, Nowhere, put_method, raised_tally}
 use Rattle.st_install.specs.Installing.{part_value, store_all, Placing, adopt, add_at}
 use Rattle.st_install.proofs.Goes.{object_at, replaced, replaced-it, replaced-other, like_with_field, IsKept, all_kept, kept_then, kept_replaced, there_kept, Goes, next_goes, answer_goes, store_goes}
@@ -42,15 +42,15 @@ module _ (t : Table) (v : Value) (o : Object) (i : ℕ) (x : Value) (u : Table) 
 -- THE SYMBOL TABLE
 
 -- none of the stores goes into it
-abbrev pub IsNoTarget : List Value → List Store → Value → Type 0
+abbrev pub IsNoTarget : List Value → List FieldStore → Value → Type 0
 IsNoTarget made [] w = Unit {0}
 IsNoTarget made (x ∷ xs) w = (w ≢ part_value nil made x.object) × IsNoTarget made xs w
 
-pub record Spares (made : List Value) (xs : List Store) (t u : Table) : Type 0 where
+pub record Spares (made : List Value) (xs : List FieldStore) (t u : Table) : Type 0 where
   pub kept : IsKept t u
   pub others : (w : Value) → IsNoTarget made xs w → object_at u w ≡ object_at t w
 
-pub store_all_spares : (head : Head) (t : Table) (made : List Value) (xs : List Store) → CanStore t made xs → Goes head (store_all bounded_table nil made xs) t (λ a u. Spares made xs t u)
+pub store_all_spares : (head : Head) (t : Table) (made : List Value) (xs : List FieldStore) → CanStore t made xs → Goes head (store_all bounded_table nil made xs) t (λ a u. Spares made xs t u)
 unfolding store_all
 store_all_spares head t made [] h = answer_goes head t _ tt (record { kept = all_kept t; others = λ w z. refl })
 store_all_spares head t made (x ∷ xs) h =

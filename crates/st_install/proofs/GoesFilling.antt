@@ -10,7 +10,7 @@ use Rattle.st_model.specs.Objects.{Object, nil, is_pointers, is_method, has_byte
 use Rattle.st_model.specs.Machine.{Head, Step, is_there, ◌>>◌}
 use Rattle.st_model.specs.Steps.{store_field, store_fields, store_method_field, store_bytes}
 use Rattle.st_model.specs.Table.{Table, bounded_table}
-use Rattle.st_install.specs.Plans.{Part, NewObject}
+use Rattle.st_install.specs.Plans.{PlannedValue, NewObject}
 use Rattle.st_install.specs.Installing.{part_values, store_method_fields, fill_method, fill_by, fill_all}
 use Rattle.st_install.proofs.InTurn.{InTurn, fields_in_turn, method_in_turn}
 use Rattle.st_install.proofs.Goes.{object_at, replaced, replaced-it, replaced-other, same_or_other, IsLike, like_itself, like_then, like_with_field, LikeAt, IsKept, all_kept, kept_then, kept_replaced, there_kept, Goes, next_goes, answer_goes, Stores, store_goes, store_method_goes, store_byte_goes}
@@ -172,7 +172,7 @@ module _ (head : Head) (v : Value) (t : Table) (o : NewObject) (xs : List Value)
 
 -- ALL OBJECTS
 
-pub length-part_values : (made : List Value) (ps : List Part) → length (part_values nil made ps) ≡ length ps
+pub length-part_values : (made : List Value) (ps : List PlannedValue) → length (part_values nil made ps) ≡ length ps
 length-part_values made [] = refl
 length-part_values made (p ∷ ps) = ap (λ n. suc n) (length-part_values made ps)
 

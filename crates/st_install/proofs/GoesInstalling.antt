@@ -11,7 +11,7 @@ use Rattle.st_model.specs.Machine.{Head, is_there, ◌>>=◌}
 use Rattle.st_model.specs.Steps.{of_page, same_value}
 use Rattle.st_model.specs.Lookup.{pointer_if}
 use Rattle.st_model.specs.Table.{Table, entry, bounded_table}
-use Rattle.st_install.specs.Plans.{Part, There, Made, NewObject, Store, Plan, words_of_all}
+use Rattle.st_install.specs.Plans.{PlannedValue, There, Made, NewObject, FieldStore, Plan, words_of_all}
 use Rattle.st_install.specs.Dictionaries.{Nowhere, refill}
 use Rattle.st_install.specs.Installing.{part_value, part_values, target, find_place, store_planned, fill_and_store, install}
 use Rattle.st_install.proofs.Goes.{object_at, IsKept, all_kept, kept_then, there_kept, like_itself, Goes, then_goes, next_goes, read_goes, answer_goes, tells_page}
@@ -24,11 +24,11 @@ use Rattle.st_install.proofs.GoesStoring.{HasFields, fields_kept, GoesOn, kept_o
 -- SOUND PLANS
 
 -- a value that is there, or one of so many objects that are made
-abbrev pub IsSoundPart : Table → ℕ → Part → Type 0
+abbrev pub IsSoundPart : Table → ℕ → PlannedValue → Type 0
 IsSoundPart t n (There v) = is_there bounded_table t v ≡ true
 IsSoundPart t n (Made k) = k < n
 
-abbrev pub AreSoundParts : Table → ℕ → List Part → Type 0
+abbrev pub AreSoundParts : Table → ℕ → List PlannedValue → Type 0
 AreSoundParts t n [] = Unit {0}
 AreSoundParts t n (p ∷ ps) = IsSoundPart t n p × AreSoundParts t n ps
 
@@ -44,11 +44,11 @@ pub record MadeWith (os : List NewObject) (k n : ℕ) : Type 0 where
   pub enough : n ≤ length object.fields
 
 -- a part with so many fields or more
-abbrev pub PartHas : Table → List NewObject → Part → ℕ → Type 0
+abbrev pub PartHas : Table → List NewObject → PlannedValue → ℕ → Type 0
 PartHas t os (There v) n = HasFields t v n
 PartHas t os (Made k) n = MadeWith os k n
 
-abbrev pub AreSoundStores : Table → List NewObject → List Store → Type 0
+abbrev pub AreSoundStores : Table → List NewObject → List FieldStore → Type 0
 AreSoundStores t os [] = Unit {0}
 AreSoundStores t os (x ∷ xs) = PartHas t os x.object (suc x.field) × IsSoundPart t (length os) x.value × AreSoundStores t os xs
 
@@ -70,7 +70,7 @@ pub record IsDictionary (t : Table) (d : Value) : Type 0 where
   pub array_values : (i : ℕ) (x : Value) → slice_get array.fields i ≡ Some x → is_there bounded_table t x ≡ true
 
 -- the search for a selector in a dictionary with these fields ends at a place; one that is made only now is met nowhere
-abbrev pub HasPlace : Table → List Value → Part → Type 0
+abbrev pub HasPlace : Table → List Value → PlannedValue → Type 0
 HasPlace t fs (There v) = ending_for t fs v v ≢ Nowhere
 HasPlace t fs (Made k) = 0 < vacant_among fs 0 (length fs - 2)
 
@@ -87,7 +87,7 @@ pub record IsGrown (t : Table) (os : List NewObject) (k places : ℕ) : Type 0 w
   pub array_size : length array.fields ≡ places
   pub tally_there : is_there bounded_table t tally ≡ true
 
-abbrev pub IsSoundTarget : Table → List NewObject → List Value → Part → Option ℕ → Type 0
+abbrev pub IsSoundTarget : Table → List NewObject → List Value → PlannedValue → Option ℕ → Type 0
 IsSoundTarget t os fs selector None = HasPlace t fs selector
 IsSoundTarget t os fs selector (Some k) = IsGrown t os k (2 * (length fs - 2))
 
@@ -124,11 +124,11 @@ module _ (t u : Table) (os : List NewObject) (vs : List Value) (m : Makes t os v
       let o = one_at os k l in
       there_at u (get_or vs k nil) (blank o.0) (m.objects k (get_or vs k nil) o.0 (name_at k l) o.1)
 
-  pub part_there : (p : Part) → IsSoundPart t (length os) p → is_there bounded_table u (part_value nil vs p) ≡ true
+  pub part_there : (p : PlannedValue) → IsSoundPart t (length os) p → is_there bounded_table u (part_value nil vs p) ≡ true
   part_there (There v) h = there_kept t u v (makes_kept t u os vs m) h
   part_there (Made k) h = made_there k h
 
-  parts_there : (ps : List Part) → AreSoundParts t (length os) ps → AreThere u (part_values nil vs ps)
+  parts_there : (ps : List PlannedValue) → AreSoundParts t (length os) ps → AreThere u (part_values nil vs ps)
   parts_there [] h = tt
   parts_there (p ∷ ps) h = (part_there p h.0, parts_there ps h.1)
 
@@ -154,7 +154,7 @@ module _ (t u : Table) (os : List NewObject) (vs : List Value) (m : Makes t os v
     pub stands_filled : (v : Value) (o : Object) → object_at t v ≡ Some o → object_at w v ≡ Some o
     stands_filled v o e = f.others v (not_made v o e) ∙ m.stands v o e
 
-    pub part_filled : (p : Part) → IsSoundPart t (length os) p → is_there bounded_table w (part_value nil vs p) ≡ true
+    pub part_filled : (p : PlannedValue) → IsSoundPart t (length os) p → is_there bounded_table w (part_value nil vs p) ≡ true
     part_filled p h = there_kept u w (part_value nil vs p) f.kept (part_there p h)
 
     pub made_filled : (k : ℕ) (o : NewObject) → slice_get os k ≡ Some o → IsFilled vs o (get_or vs k nil) w
@@ -164,11 +164,11 @@ module _ (t u : Table) (os : List NewObject) (vs : List Value) (m : Makes t os v
     length_filled o v h e =
         (h.object, h.is, ap is_pointers h.like.kind ∙ (ap is_pointers (blank_kind o.kind o) ∙ ap is_pointers e), h.fields)
 
-    pub count_values : (ps : List Part) → length (part_values nil vs ps) ≡ length ps
+    pub count_values : (ps : List PlannedValue) → length (part_values nil vs ps) ≡ length ps
     count_values [] = refl
     count_values (p ∷ ps) = ap (λ n. suc n) (count_values ps)
 
-    pub has_filled : (p : Part) (n : ℕ) → PartHas t os p n → HasFields w (part_value nil vs p) n
+    pub has_filled : (p : PlannedValue) (n : ℕ) → PartHas t os p n → HasFields w (part_value nil vs p) n
     has_filled (There v) n h = fields_kept t w v n filled_kept h
     has_filled (Made k) n h =
         let x = length_filled h.object (get_or vs k nil) (made_filled k h.object h.is) h.pointers in
@@ -179,7 +179,7 @@ module _ (t u : Table) (os : List NewObject) (vs : List Value) (m : Makes t os v
           enough = let l = h.enough in let a : length x.0.fields ≡ length h.object.fields = ap (λ xs. length xs) x.3 ∙ count_values h.object.fields in omega (arith, l, a);
         }
 
-    pub stores_filled : (xs : List Store) → AreSoundStores t os xs → CanStore w vs xs
+    pub stores_filled : (xs : List FieldStore) → AreSoundStores t os xs → CanStore w vs xs
     stores_filled [] h = tt
     stores_filled (x ∷ xs) h = (has_filled x.object (suc x.field) h.0, part_filled x.value h.1, stores_filled xs h.2)
 
@@ -192,7 +192,7 @@ module _ (t u : Table) (os : List NewObject) (vs : List Value) (m : Makes t os v
         same_pointer n (Some o) b e g = rw (g o refl) refl
 
     -- a dictionary that stays has the place that it had
-    pub somewhere : (fs : List Value) (p : Part) → IsSoundPart t (length os) p → HasPlace t fs p → ending_for w fs (part_value nil vs p) (part_value nil vs p) ≢ Nowhere
+    pub somewhere : (fs : List Value) (p : PlannedValue) → IsSoundPart t (length os) p → HasPlace t fs p → ending_for w fs (part_value nil vs p) (part_value nil vs p) ≢ Nowhere
     somewhere fs (There v) h k = rw (half_stands v h) k
     somewhere fs (Made n) h k = λ e.
         let a = none_counted fs 0 (length fs - 2) (nowhere_full w fs (get_or vs n nil) (get_or vs n nil) e) in

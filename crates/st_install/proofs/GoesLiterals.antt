@@ -11,7 +11,7 @@ use Rattle.st_model.specs.Table.{Table, table, bounded_table}
 use Rattle.st_scan.specs.declared.token.Signed.{Signed}
 use Rattle.st_emit.specs.Literals.{LiteralView, LiteralsView}
 use Rattle.st_emit.specs.Literals as literals
-use Rattle.st_install.specs.Plans.{Part, There, Made, pointers_object, bytes_object}
+use Rattle.st_install.specs.Plans.{PlannedValue, There, Made, pointers_object, bytes_object}
 use Rattle.st_install.specs.Symbols.{NamedSymbol, symbol_part}
 use Rattle.st_install.specs.Literals.{Placed, PlacedAll, as_it_is, made_as, negated, large_bytes, place_size, place_signed, place_number, place_character, place_string, place_symbol, place_pointer, place_array, place_owner, then_placed, none_placed, place_literal, place_members, place_literals}
 use Rattle.st_install.proofs.GoesMaking.{IsClassFor, CanMake}
@@ -33,7 +33,7 @@ module _ (t : Table) where
     pub objects : AreSoundObjects t (next + length p.objects) p.objects
     pub parts : AreSoundParts t (next + length p.objects) p.parts
 
-  pub as_it_is_sound : (next : ℕ) (p : Part) → IsSoundPart t next p → IsSoundPlaced next (as_it_is p)
+  pub as_it_is_sound : (next : ℕ) (p : PlannedValue) → IsSoundPart t next p → IsSoundPlaced next (as_it_is p)
   as_it_is_sound next p h = record { made = tt; objects = tt; part = part_more t next (next + 0) p (omega arith) h }
 
   bytes_sound : (next : ℕ) (class : Value) (text : List ℕ) → IsClassFor t kind.Bytes class → IsSoundPlaced next (made_as next (bytes_object class text))

@@ -15,7 +15,7 @@ use Rattle.st_model.specs.Table.{Table, entry, placed, first_free, bounded_table
 use Rattle.st_model.proofs.TableLemmas.{placed-first, placed-other, first_free-none}
 use Rattle.st_simulation.proofs.Bounded.{total-placed}
 use Rattle.st_install.specs.inside.Goes.{HasHeader}
-use Rattle.st_install.specs.Plans.{Part, NewObject, words_of_new, words_of_all}
+use Rattle.st_install.specs.Plans.{PlannedValue, NewObject, words_of_new, words_of_all}
 use Rattle.st_install.specs.Installing.{size_by, literals_by, make_new, make_all}
 use Rattle.st_install.proofs.Goes.{object_at, Goes, over, then_goes, answer_goes}
 
@@ -45,7 +45,7 @@ blank_kind kind.Words o = refl
 blank_kind kind.Bytes o = refl
 blank_kind kind.Method o = refl
 
-has_one : (ps : List Part) → HasHeader ps → 0 < length ps
+has_one : (ps : List PlannedValue) → HasHeader ps → 0 < length ps
 has_one [] h = absurd h
 has_one (p ∷ ps) h = omega arith
 

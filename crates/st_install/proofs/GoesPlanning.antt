@@ -16,7 +16,7 @@ use Rattle.st_model.specs.Table.{Table, table, bounded_table}
 use Rattle.st_code.specs.Methods.{PartsView}
 use Rattle.st_scope.specs.declared.fault.InstallFault.{InstallFault}
 use Rattle.st_scope.specs.declared.fault.InstallFault.TheVariants.{Shape}
-use Rattle.st_install.specs.Plans.{Part, There, Made, NewObject, Plan, method_object, pointers_object, words_of_all, demand_of_all}
+use Rattle.st_install.specs.Plans.{PlannedValue, There, Made, NewObject, Plan, method_object, pointers_object, words_of_all, demand_of_all}
 use Rattle.st_install.specs.inside.Goes.{IsHeaded}
 use Rattle.st_scope.specs.Classes.{class_fields, class_association}
 use Rattle.st_install.specs.Symbols.{Symbols, symbols_in, symbol_part}
@@ -133,7 +133,7 @@ module _ (s : State Table) (sound : IsSoundTable s.memory) where
         gives_less s _ _ _ full_gives
         (λ b z g f. let a = none_counted h.object.fields 0 (length h.object.fields - 2) (nowhere_full s.memory h.object.fields v v f) in let l = z g in omega (arith, a, l))
 
-    pub grows_gives : (p : Part) → Gives s (grows_for table d p) (λ b. b ≡ false → HasPlace s.memory h.object.fields p)
+    pub grows_gives : (p : PlannedValue) → Gives s (grows_for table d p) (λ b. b ≡ false → HasPlace s.memory h.object.fields p)
     unfolding grows_for place_of_selector
     grows_gives (Made k) = gives_less s _ _ _ full_gives (λ b z g. let l = z g in omega (arith, l))
     grows_gives (There v) =
@@ -203,7 +203,7 @@ module _ (s : State Table) (sound : IsSoundTable s.memory) (class : Value) (has 
         (stores_more s.memory (symbols.objects ++ ls.objects) _ symbols.stores (stores_more s.memory symbols.objects ls.objects symbols.stores hs.stores))
 
     -- all but what grows
-    module _ (c : Value) (p : Part) (grown : List NewObject) (b : Bool) (method_class : IsClassFor s.memory kind.Method c) (selector : IsSoundPart s.memory (length symbols.objects) p)
+    module _ (c : Value) (p : PlannedValue) (grown : List NewObject) (b : Bool) (method_class : IsClassFor s.memory kind.Method c) (selector : IsSoundPart s.memory (length symbols.objects) p)
         (made : CanMake s.memory grown) (objects : AreSoundObjects s.memory (length (objects_with_method c parts symbols ls ++ grown)) grown)
         (target : IsSoundTarget s.memory (objects_with_method c parts symbols ls ++ grown) has.is.object.fields p (grown_number b symbols ls)) where
       all_of_it : length (objects_with_method c parts symbols ls ++ grown) ≡ length symbols.objects + length ls.objects + 1 + length grown
@@ -224,12 +224,12 @@ module _ (s : State Table) (sound : IsSoundTable s.memory) (class : Value) (has 
           }
 
     -- where it doesn't grow
-    stays : (c : Value) (p : Part) (grown : List NewObject) → IsClassFor s.memory kind.Method c → IsSoundPart s.memory (length symbols.objects) p → grown ≡ [] → HasPlace s.memory has.is.object.fields p
+    stays : (c : Value) (p : PlannedValue) (grown : List NewObject) → IsClassFor s.memory kind.Method c → IsSoundPart s.memory (length symbols.objects) p → grown ≡ [] → HasPlace s.memory has.is.object.fields p
         → IsSoundPlan s.memory (plan_with c class has.dictionary parts symbols ls p false grown)
     stays c p grown m l e h =
         plan_sound c p grown false m l (subst (λ os. CanMake s.memory os) (sym e) tt) (subst (λ os. AreSoundObjects s.memory (length (objects_with_method c parts symbols ls ++ grown)) os) (sym e) tt) h
 
-    module _ (c : Value) (p : Part) (grown : List NewObject) (g : IsGrowth s sound has.dictionary has.is (method_number symbols ls + 1) grown) where
+    module _ (c : Value) (p : PlannedValue) (grown : List NewObject) (g : IsGrowth s sound has.dictionary has.is (method_number symbols ls + 1) grown) where
       nil_part : IsSoundPart s.memory 0 (There nil_value)
       nil_part = sound.page NilObject
 
@@ -266,7 +266,7 @@ module _ (s : State Table) (sound : IsSoundTable s.memory) (class : Value) (has 
           → IsSoundPlan s.memory (plan_with c class has.dictionary parts symbols ls p true grown)
       grows m l = plan_sound c p grown true m l growth_made (growth_objects _ all_with_growth) grown_target
 
-    either_sound : (c : Value) (p : Part) (b : Bool) (grown : List NewObject) → IsClassFor s.memory kind.Method c → IsSoundPart s.memory (length symbols.objects) p
+    either_sound : (c : Value) (p : PlannedValue) (b : Bool) (grown : List NewObject) → IsClassFor s.memory kind.Method c → IsSoundPart s.memory (length symbols.objects) p
         → (b ≡ false → HasPlace s.memory has.is.object.fields p) → GrowsIf s sound has.dictionary has.is (method_number symbols ls + 1) b grown
         → IsSoundPlan s.memory (plan_with c class has.dictionary parts symbols ls p b grown)
     either_sound c p true grown m l h g = grows c p grown g m l
@@ -283,7 +283,7 @@ module _ (s : State Table) (sound : IsSoundTable s.memory) (class : Value) (has 
     unfolding sized
     sized_gives p h = gives_next s _ _ _ _ (size_gives p.objects) (λ u x. gives_answer s _ p h)
 
-    objects_give : (p : Part) → IsSoundPart s.memory (length symbols.objects) p → Gives s (plan_objects table class parts symbols ls p) (λ x. IsSoundPlan s.memory x)
+    objects_give : (p : PlannedValue) → IsSoundPart s.memory (length symbols.objects) p → Gives s (plan_objects table class parts symbols ls p) (λ x. IsSoundPlan s.memory x)
     unfolding plan_objects
     objects_give p l =
         gives_then s (λ d. d ≡ has.dictionary) _ _ _ (gives_less s _ _ _ (gives_field s class 1) (λ d f. same_dictionary s.memory class has d f))

@@ -7,7 +7,7 @@ use Rattle.st_model.specs.Objects.{Object, nil, is_pointers, with_field}
 use Rattle.st_model.specs.Machine.{Head, Step, is_there, ◌>>◌}
 use Rattle.st_model.specs.Steps.{fetch_field, store_field}
 use Rattle.st_model.specs.Table.{Table, bounded_table}
-use Rattle.st_install.specs.Plans.{Store, Plan}
+use Rattle.st_install.specs.Plans.{FieldStore, Plan}
 use Rattle.st_install.specs.Dictionaries.{Ending, Holds, Vacant, Nowhere, place_of_selector, put_method, raised_tally}
 use Rattle.st_install.specs.Installing.{part_value, store_all, Placing, find_place, adopt, add_at, store_planned}
 use Rattle.st_install.proofs.Goes.{object_at, IsKept, all_kept, kept_then, kept_replaced, there_kept, Goes, next_goes, read_goes, answer_goes, tells_field, store_goes}
@@ -54,17 +54,17 @@ store_goes_on head t v i x h k =
     }
 
 -- each store has an object with the field, and a value that is there
-abbrev pub CanStore : Table → List Value → List Store → Type 0
+abbrev pub CanStore : Table → List Value → List FieldStore → Type 0
 CanStore t made [] = Unit {0}
 CanStore t made (x ∷ xs) =
     HasFields t (part_value nil made x.object) (suc x.field) × (is_there bounded_table t (part_value nil made x.value) ≡ true) × CanStore t made xs
 
-pub can_store_kept : (t u : Table) (made : List Value) (xs : List Store) → IsKept t u → CanStore t made xs → CanStore u made xs
+pub can_store_kept : (t u : Table) (made : List Value) (xs : List FieldStore) → IsKept t u → CanStore t made xs → CanStore u made xs
 can_store_kept t u made [] k h = tt
 can_store_kept t u made (x ∷ xs) k h =
     (fields_kept t u (part_value nil made x.object) (suc x.field) k h.0, there_kept t u (part_value nil made x.value) k h.1, can_store_kept t u made xs k h.2)
 
-store_all_goes : (head : Head) (t : Table) (made : List Value) (xs : List Store) → CanStore t made xs → GoesOn head (store_all bounded_table nil made xs) t
+store_all_goes : (head : Head) (t : Table) (made : List Value) (xs : List FieldStore) → CanStore t made xs → GoesOn head (store_all bounded_table nil made xs) t
 unfolding store_all
 store_all_goes head t made [] h = answer_goes head t _ tt (all_kept t)
 store_all_goes head t made (x ∷ xs) h =

@@ -12,7 +12,7 @@ use Rattle.st_model.specs.Steps.{same_value, fetch_fields}
 use Rattle.st_model.specs.Primitives.{check_class}
 use Rattle.st_model.specs.Objects.{is_bytes}
 use Rattle.st_model.specs.Table.{Table, table, bounded_table}
-use Rattle.st_install.specs.Plans.{Part, There, Made, bytes_object, pointers_object}
+use Rattle.st_install.specs.Plans.{PlannedValue, There, Made, bytes_object, pointers_object}
 use Rattle.st_scope.specs.Tables.{check_fields, bytes_of, member_key, member_name, has_name, found_or, first_from, first_field, member_named}
 use Rattle.st_install.specs.Symbols.{symbol_text, is_symbol, symbol_named, NamedSymbol, symbol_part, Symbols, vacant_field, grown_fields, symbol_in_field, symbol_in_array, with_new_symbol, make_symbol, found_or_made, seek_unless, with_symbol, with_symbols, symbols_there, symbols_for}
 use Rattle.st_install.proofs.GoesMaking.{IsClassFor, CanMake}
@@ -102,12 +102,12 @@ module _ (t : Table) where
   named_append n [] ys h k = k
   named_append n (x ∷ xs) ys h k = (h.0, named_append n xs ys h.1 k)
 
-  part_if : (n : ℕ) (b : Bool) (x : NamedSymbol) (rest : Option NamedSymbol) (p : Part) → IsSoundPart t n x.part → ((q : Part) → option_map (λ s. s.part) rest ≡ Some q → IsSoundPart t n q)
+  part_if : (n : ℕ) (b : Bool) (x : NamedSymbol) (rest : Option NamedSymbol) (p : PlannedValue) → IsSoundPart t n x.part → ((q : PlannedValue) → option_map (λ s. s.part) rest ≡ Some q → IsSoundPart t n q)
       → option_map (λ s. s.part) (cond b (Some x) rest) ≡ Some p → IsSoundPart t n p
   part_if n true x rest p h k e = let q : x.part ≡ p = cc in subst (λ y. IsSoundPart t n y) q h
   part_if n false x rest p h k e = k p e
 
-  pub named_part : (n : ℕ) (xs : List NamedSymbol) (text : List ℕ) (p : Part) → AreNamed t n xs → symbol_part xs text ≡ Some p → IsSoundPart t n p
+  pub named_part : (n : ℕ) (xs : List NamedSymbol) (text : List ℕ) (p : PlannedValue) → AreNamed t n xs → symbol_part xs text ≡ Some p → IsSoundPart t n p
   named_part n [] text p h e = cc
   named_part n (x ∷ xs) text p h e = part_if n (bytes_eq x.text text) x _ p h.0 (λ q f. named_part n xs text q h.1 f) e
 
@@ -189,7 +189,7 @@ module _ (s : State Table) (sound : IsSoundTable s.memory) (association : Value)
   found_or_gives text x (Some v) h k =
       gives_answer s _ _ (record { made = h.made; objects = h.objects; stores = h.stores; table = h.table; fields = h.fields; named = named_append s.memory _ x.named _ h.named (k, tt) })
 
-  unless_gives : (o : Value) (text : List ℕ) (x : Symbols) (found : Option Part) → AreSoundSymbols s.memory x
+  unless_gives : (o : Value) (text : List ℕ) (x : Symbols) (found : Option PlannedValue) → AreSoundSymbols s.memory x
       → Gives s (seek_unless table association o text x found) (λ y. AreSoundSymbols s.memory y)
   unfolding seek_unless
   unless_gives o text x (Some p) h = gives_answer s _ x h

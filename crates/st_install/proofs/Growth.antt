@@ -12,9 +12,9 @@ use Rattle.st_model.specs.declared.page.PageObject.TheVariants.{NilObject, Array
 use Rattle.st_model.specs.Table.{Table, table}
 use Rattle.st_model.specs.inside.Calls.{Reads, itself}
 use Rattle.st_model.proofs.Runs.{run-then, after-went, after-died, run-of_page}
-use Rattle.st_install.specs.declared.plan.Part.{Part as CodePart}
+use Rattle.st_install.specs.declared.plan.PlannedValue.{PlannedValue as CodePart}
 use Rattle.st_install.specs.declared.plan.NewObject.{NewObject as CodeObject}
-use Rattle.st_install.specs.declared.plan.Part.TheVariants as part
+use Rattle.st_install.specs.declared.plan.PlannedValue.TheVariants as part
 use Rattle.st_install.specs.Plans.{There, Made, pointers_object}
 use Rattle.st_install.specs.Dictionaries.{one_more_if, count_places, count_vacant, grows_for, grown_objects}
 use Rattle.st_install.specs.Planning.{grown_if}

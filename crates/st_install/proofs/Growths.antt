@@ -11,7 +11,7 @@ use Rattle.st_model.specs.inside.Calls.{Reads, itself}
 use Rattle.st_model.specs.declared.oop.Oop.{Oop}
 use Rattle.std.specs.Global.{Vec}
 use Rattle.std.proofs.lemmas.List.{append_assoc, map-append}
-use Rattle.st_install.specs.declared.plan.Part.{Part as CodePart}
+use Rattle.st_install.specs.declared.plan.PlannedValue.{PlannedValue as CodePart}
 use Rattle.st_install.specs.declared.plan.NewObject.{NewObject as CodeObject}
 use Rattle.st_install.specs.declared.plan.Ready.{Ready}
 use Rattle.st_install.specs.declared.planning.PlanDraft.{PlanDraft}
@@ -20,7 +20,7 @@ use Rattle.st_install.specs.Shapes.{check_size}
 use Rattle.st_install.specs.inside.Readies.{part_of, object_of, objects_of, plan_of}
 use Rattle.st_scope.specs.declared.unread.Unread.{Unread}
 use Rattle.st_scope.specs.declared.unread.Unread.TheVariants.{Dies, OutOfMemory}
-use Rattle.st_install.specs.Plans.{Part, Made, NewObject}
+use Rattle.st_install.specs.Plans.{PlannedValue, Made, NewObject}
 use Rattle.st_install.specs.inside.Growing.{Grows}
 use Rattle.st_install.specs.inside.PlanDrafts.{TellsGrowth, IsGrowth, plan_from, TellsPlan}
 use Rattle.st_install.proofs.Drafting.{growth_dies, too_large, planned_so}
@@ -34,7 +34,7 @@ module _ {A B : Type 0} where
   unfolding ◌>>=◌ after
   then_died m f k s e = rw e refl
 
-module _ (class : Value) (selector : Part) (next : ℕ) (t : Table) where
+module _ (class : Value) (selector : PlannedValue) (next : ℕ) (t : Table) where
   pub no_dictionary : (k : Dead) → Reads (fetch_field table class 1) value t (Err k) → TellsGrowth class selector next t (Err (Dies k))
   no_dictionary k f = λ rest s e. then_died (fetch_field table class 1) _ k s (f s e)
 

@@ -19,7 +19,7 @@ use Rattle.st_model.proofs.TableLemmas.{first_free-none, placed-first, placed-ot
 use Rattle.st_model.proofs.Making.{total_used-placed, live_placed, live_new}
 use Rattle.st_memory.proofs.Fresh.{words_pointers, words_bytes, words_method}
 use Rattle.st_install.specs.declared.plan.NewObject.{NewObject as CodeObject}
-use Rattle.st_install.specs.Plans.{Part, There, Made, NewObject, words_of_new, words_of_all, demand_of_all}
+use Rattle.st_install.specs.Plans.{PlannedValue, There, Made, NewObject, words_of_new, words_of_all, demand_of_all}
 use Rattle.st_install.specs.inside.Carried.{HasGone, Goes, Becomes, Makes, IsPlannable, IsShaped, AreShaped}
 use Rattle.st_install.specs.inside.Goes.{HasHeader}
 use Rattle.st_install.specs.Installing.{size_by, literals_by, make_new, make_all}
@@ -56,7 +56,7 @@ few_literals : (v : Value) → literals_of v ≤ 63
 few_literals (Small n) = grind arith
 few_literals (Ref n) = grind arith
 
-headed_most : (ps : List Part) → HasHeader ps → (1 ≤ length ps) × (length ps ≤ 64)
+headed_most : (ps : List PlannedValue) → HasHeader ps → (1 ≤ length ps) × (length ps ≤ 64)
 headed_most [] h = absurd h
 headed_most (Made k ∷ ps) h = absurd h
 headed_most (There x ∷ ps) h = let f = few_literals x in let e = h.1 in (omega arith, omega (arith, f, e))

@@ -19,12 +19,12 @@ use Rattle.st_emit.proofs.Members.{array_view}
 use Rattle.st_model.specs.declared.oop.Oop.{Oop}
 use Rattle.st_model.specs.inside.Calls.{Reads}
 use Rattle.st_emit.specs.inside.Views.{literal_view, literals_view, members_view}
-use Rattle.st_install.specs.declared.plan.Part.{Part as CodePart}
+use Rattle.st_install.specs.declared.plan.PlannedValue.{PlannedValue as CodePart}
 use Rattle.st_install.specs.declared.plan.NewObject.{NewObject as CodeObject}
 use Rattle.st_install.specs.declared.plan.Owner.{Owner}
 use Rattle.st_scope.specs.declared.unread.Unread.{Unread}
 use Rattle.st_scope.specs.declared.unread.Unread.TheVariants.{Dies, OutOfMemory}
-use Rattle.st_install.specs.Plans.{Part, Made, NewObject, pointers_object}
+use Rattle.st_install.specs.Plans.{PlannedValue, Made, NewObject, pointers_object}
 use Rattle.st_install.specs.Symbols.{NamedSymbol}
 use Rattle.st_install.specs.Literals.{Placed, PlacedAll, then_placed, none_placed, place_number, place_character, place_string, place_symbol, place_pointer, place_array, place_literal, place_members, place_literals}
 use Rattle.st_install.specs.inside.Readies.{part_of, parts_of, object_of, objects_of}
@@ -50,7 +50,7 @@ placed_single m t old new x p e q o = record {
 -- LITERALS, ONE AFTER THE OTHER
 
 -- what follows parts that are placed already
-abbrev pub behind : List Part → List NewObject → Transition (State Table) PlacedAll → Transition (State Table) PlacedAll
+abbrev pub behind : List PlannedValue → List NewObject → Transition (State Table) PlacedAll → Transition (State Table) PlacedAll
 behind parts added x = after x (λ ps s. Went (record { parts = parts ++ ps.parts; objects = added ++ ps.objects }) s)
 
 behind_none : (x : Transition (State Table) PlacedAll) → x ≡ behind [] [] x
@@ -58,7 +58,7 @@ unfolding after
 behind_none (Died k) = refl
 behind_none (Went ps s) = refl
 
-behind_placed : (parts : List Part) (added : List NewObject) (p : Placed) (x : Transition (State Table) PlacedAll)
+behind_placed : (parts : List PlannedValue) (added : List NewObject) (p : Placed) (x : Transition (State Table) PlacedAll)
     → behind parts added (after x (λ ps s. (answer (then_placed p ps)).run s)) ≡ behind (parts ++ p.part ∷ []) (added ++ p.objects) x
 unfolding after answer
 behind_placed parts added p (Died k) = refl

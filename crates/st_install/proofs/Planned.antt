@@ -13,11 +13,11 @@ use Rattle.st_emit.specs.Literals.{LiteralView, LiteralsView}
 use Rattle.st_emit.specs.Literals as literals
 use Rattle.st_emit.specs.inside.Views.{literals_view}
 use Rattle.st_code.specs.Methods.{PartsView}
-use Rattle.st_install.specs.declared.plan.Part.{Part as CodePart}
+use Rattle.st_install.specs.declared.plan.PlannedValue.{PlannedValue as CodePart}
 use Rattle.st_install.specs.declared.plan.NewObject.{NewObject as CodeObject}
 use Rattle.st_install.specs.declared.plan.Owner.{Owner}
 use Rattle.st_install.specs.declared.symbol_plan.SymbolPlan.{SymbolPlan}
-use Rattle.st_install.specs.Plans.{Part}
+use Rattle.st_install.specs.Plans.{PlannedValue}
 use Rattle.st_install.specs.Symbols.{NamedSymbol, symbol_part, symbols_in, symbols_for}
 use Rattle.st_install.specs.Literals.{Placed, PlacedAll, as_it_is, then_placed, place_symbol, place_literal, place_members, place_literals}
 use Rattle.st_install.specs.Planning.{plan, plan_objects}
@@ -44,7 +44,7 @@ module _ (xs ys : List NamedSymbol) (owner : ℕ → Step Table Placed) (same : 
     literal_same (literals.number n) next s = refl
     literal_same (literals.character b) next s = refl
     literal_same (literals.bytes text) next s = refl
-    literal_same (literals.symbol text) next s = ap (λ (o : Option Part). after ((or_die dead.Field o).run s) (λ p u. (answer (as_it_is p)).run u)) (same text)
+    literal_same (literals.symbol text) next s = ap (λ (o : Option PlannedValue). after ((or_die dead.Field o).run s) (λ p u. (answer (as_it_is p)).run u)) (same text)
     literal_same (literals.array ls) next s = after_same _ _ _ _ (members_same ls (next + 1) s) (λ a u. refl)
     literal_same (literals.named pointer) next s = refl
     literal_same literals.owner next s = refl

@@ -13,7 +13,7 @@ use Rattle.st_model.specs.inside.Calls.{Reads, itself}
 use Rattle.st_model.specs.View.{View}
 use Rattle.st_model.proofs.Runs.{run-of_page}
 use Rattle.st_model.proofs.Words.{same_words, value_of-nil}
-use Rattle.st_install.specs.declared.places.Place.{Place}
+use Rattle.st_install.specs.declared.places.DictionaryPlace.{DictionaryPlace}
 use Rattle.st_install.specs.inside.Carried.{HasGone, Goes, Becomes}
 use Rattle.st_install.specs.Dictionaries.{Ending, Holds, Vacant, Nowhere, count_places, seek, put_method, put_at, refill_unless, refill_from, refill_among, refill}
 use Rattle.st_install.specs.inside.Endings.{ending_of}
@@ -58,7 +58,7 @@ module _ (d s meth : Value) (v : View) where
   unfolding put_at die
   put_vacant k h = h.gone (state_of v) refl refl
 
-  pub put_somewhere : (p : Option Place) → Goes (put_at table d s meth (ending_of p)) v → IsSome p
+  pub put_somewhere : (p : Option DictionaryPlace) → Goes (put_at table d s meth (ending_of p)) v → IsSome p
   put_somewhere None h = absurd (put_nowhere h)
   put_somewhere (Some p) h = refl
 
@@ -115,10 +115,10 @@ module _ (old new : Value) (k : ℕ) (s : Value) (v : View) (h : Goes (refill_un
       after_nil : Goes (nil_then (value meth) (value (record { 0 = 2 }))) v
       after_nil = goes-read (of_page table NilObject) (nil_then (value meth)) v (goes-read (fetch_field table (value ms) k) method_then v after_array value meth f) value (record { 0 = 2 }) (page_read v.objects)
 
-      pub place_found : (r : Result (Option Place) Dead) → Reads (seek table new (value (record { 0 = 2 })) s) ending_of v.objects r → IsOk r
+      pub place_found : (r : Result (Option DictionaryPlace) Dead) → Reads (seek table new (value (record { 0 = 2 })) s) ending_of v.objects r → IsOk r
       place_found r q = read_ok (seek table new (value (record { 0 = 2 })) s) ending_of v r (goes-first (seek table new (value (record { 0 = 2 })) s) (ending_then (value meth)) v after_nil) q
 
-      module _ (p : Option Place) (q : Reads (seek table new (value (record { 0 = 2 })) s) ending_of v.objects (Ok p)) where
+      module _ (p : Option DictionaryPlace) (q : Reads (seek table new (value (record { 0 = 2 })) s) ending_of v.objects (Ok p)) where
         pub put_goes : Goes (put_at table new s (value meth) (ending_of p)) v
         put_goes = goes-read (seek table new (value (record { 0 = 2 })) s) (ending_then (value meth)) v after_nil ending_of p q
 

@@ -9,7 +9,7 @@ use Rattle.st_model.specs.Steps.{store_fields}
 use Rattle.st_simulation.proofs.Same.{Simulation, ValueSame, ValuesSame, Same, SameValue, SameValues, SameAnswer, length-renamed, then-same, then_value-same, then_values-same, then_unit-same, answer-same, answer_values-same, values-named, steps_same}
 use Rattle.st_simulation.proofs.StepsSame.{make-same, parts_same}
 use Rattle.st_simulation.proofs.LookupSame.{half_word-same}
-use Rattle.st_install.specs.Plans.{Part, There, Made, NewObject, Store, Plan}
+use Rattle.st_install.specs.Plans.{PlannedValue, There, Made, NewObject, FieldStore, Plan}
 use Rattle.st_install.specs.Dictionaries.{Ending, Holds, Vacant, Nowhere, ends_at, seek_at, seek_among, seek_from, count_places, seek, place_of_selector, put_method, put_at, refill_unless, refill_from, refill_among, refill, raised_tally}
 use Rattle.st_install.specs.Installing.{size_by, literals_by, make_new, make_all, part_value, part_values, store_method_fields, fill_method, fill_by, fill_all, store_all, Placing, target, find_place, adopt, add_at, store_planned, fill_and_store, install}
 use Rattle.st_install.specs.inside.SamePlans.{renamed_part, renamed_parts, renamed_new, renamed_objects, renamed_stores, renamed_plan, IsLivePart, AllLiveParts, IsLiveNew, AllLiveObjects, AllLiveStores, IsLivePlan}
@@ -61,12 +61,12 @@ module _ {H K : Type 0} {M : ObjectMemory H} {N : ObjectMemory K} (sim : Simulat
   made-same : (nil nil' : Value) (vs ws : List Value) (k : ℕ) → ValueSame sim nil nil' → ValuesSame sim vs ws → ValueSame sim (get_or vs k nil) (get_or ws k nil')
   made-same nil nil' vs ws k n h = record { live = made_live vs k nil h.live n.live; is = rw (h.is, n.is) (made-renamed vs k nil) }
 
-  part_value-same : (nil nil' : Value) (vs ws : List Value) (p : Part) → ValueSame sim nil nil' → ValuesSame sim vs ws → IsLivePart sim.live p
+  part_value-same : (nil nil' : Value) (vs ws : List Value) (p : PlannedValue) → ValueSame sim nil nil' → ValuesSame sim vs ws → IsLivePart sim.live p
       → ValueSame sim (part_value nil vs p) (part_value nil' ws (renamed_part sim.name p))
   part_value-same nil nil' vs ws (There v) n h l = value-itself v l
   part_value-same nil nil' vs ws (Made k) n h l = made-same nil nil' vs ws k n h
 
-  part_values-same : (nil nil' : Value) (vs ws : List Value) (ps : List Part) → ValueSame sim nil nil' → ValuesSame sim vs ws → AllLiveParts sim.live ps
+  part_values-same : (nil nil' : Value) (vs ws : List Value) (ps : List PlannedValue) → ValueSame sim nil nil' → ValuesSame sim vs ws → AllLiveParts sim.live ps
       → ValuesSame sim (part_values nil vs ps) (part_values nil' ws (renamed_parts sim.name ps))
   part_values-same nil nil' vs ws [] n h l = record { live = tt; is = refl }
   part_values-same nil nil' vs ws (p ∷ ps) n h l = values-named _ _ _ _ _ _ (part_value-same nil nil' vs ws p n h l.0) (part_values-same nil nil' vs ws ps n h l.1)
@@ -182,7 +182,7 @@ module _ {H K : Type 0} {M : ObjectMemory H} {N : ObjectMemory K} (sim : Simulat
 
   -- stores
 
-  store_all-same : (nil nil' : Value) (made made' : List Value) (ss : List Store) → ValueSame sim nil nil' → ValuesSame sim made made' → AllLiveStores sim.live ss
+  store_all-same : (nil nil' : Value) (made made' : List Value) (ss : List FieldStore) → ValueSame sim nil nil' → ValuesSame sim made made' → AllLiveStores sim.live ss
       → SameAnswer sim (store_all M nil made ss) (store_all N nil' made' (renamed_stores sim.name ss))
   unfolding store_all
   store_all-same nil nil' made made' [] n h l = search steps_same

@@ -23,7 +23,7 @@ use Rattle.st_simulation.proofs.Reclaimed.{went_step}
 use Rattle.st_model.proofs.Reclaiming.{reclaim_sound, reclaim_head}
 use Rattle.st_simulation.proofs.Closed.{sound_simulation, stays_sound}
 use Rattle.st_code.specs.Methods.{PartsView}
-use Rattle.st_install.specs.Plans.{Part, There, Made, NewObject, Store, Plan, words_of_all, demand_of_all}
+use Rattle.st_install.specs.Plans.{PlannedValue, There, Made, NewObject, FieldStore, Plan, words_of_all, demand_of_all}
 use Rattle.st_install.specs.Calls.{both, is_crowded, room_or, with_room, planned, ready}
 use Rattle.st_install.specs.Installing.{install}
 use Rattle.st_install.specs.inside.SamePlans.{renamed_part, renamed_parts, renamed_objects, renamed_stores, renamed_plan, renamed_ready, IsLivePart, AllLiveParts, AllLiveObjects, AllLiveStores, IsLivePlan}
@@ -38,19 +38,19 @@ use Rattle.st_install.proofs.SameRooms.{Fits, plan_itself, any_plan, install_bou
 -- A PLAN UNDER OTHER NAMES
 
 module _ (P Q : ℕ → Type 0) (f g : ℕ → ℕ) (up : (n : ℕ) → P n → Q n) (e : (n : ℕ) → P n → f n ≡ g n) where
-  part_up : (p : Part) → IsLivePart P p → IsLivePart Q p
+  part_up : (p : PlannedValue) → IsLivePart P p → IsLivePart Q p
   part_up (There v) h = map_live P Q up v h
   part_up (Made k) h = h
 
-  part_same : (p : Part) → IsLivePart P p → renamed_part f p ≡ renamed_part g p
+  part_same : (p : PlannedValue) → IsLivePart P p → renamed_part f p ≡ renamed_part g p
   part_same (There v) h = ap (λ x. There x) (same_value P f g e v h)
   part_same (Made k) h = refl
 
-  parts_up : (ps : List Part) → AllLiveParts P ps → AllLiveParts Q ps
+  parts_up : (ps : List PlannedValue) → AllLiveParts P ps → AllLiveParts Q ps
   parts_up [] h = h
   parts_up (p ∷ ps) h = (part_up p h.0, parts_up ps h.1)
 
-  parts_same : (ps : List Part) → AllLiveParts P ps → renamed_parts f ps ≡ renamed_parts g ps
+  parts_same : (ps : List PlannedValue) → AllLiveParts P ps → renamed_parts f ps ≡ renamed_parts g ps
   parts_same [] h = refl
   parts_same (p ∷ ps) h = let a = part_same p h.0 in let b = parts_same ps h.1 in λ i. a i ∷ b i
 
@@ -66,11 +66,11 @@ module _ (P Q : ℕ → Type 0) (f g : ℕ → ℕ) (up : (n : ℕ) → P n → 
       let b = objects_same os h.1 in
       λ i. record { class = c i; kind = o.kind; fields = a i; bytes = o.bytes } ∷ b i
 
-  stores_up : (ss : List Store) → AllLiveStores P ss → AllLiveStores Q ss
+  stores_up : (ss : List FieldStore) → AllLiveStores P ss → AllLiveStores Q ss
   stores_up [] h = h
   stores_up (s ∷ ss) h = (record { object = part_up s.object h.0.object; value = part_up s.value h.0.value }, stores_up ss h.1)
 
-  stores_same : (ss : List Store) → AllLiveStores P ss → renamed_stores f ss ≡ renamed_stores g ss
+  stores_same : (ss : List FieldStore) → AllLiveStores P ss → renamed_stores f ss ≡ renamed_stores g ss
   stores_same [] h = refl
   stores_same (s ∷ ss) h =
       let o = part_same s.object h.0.object in

@@ -10,7 +10,7 @@ use Rattle.st_model.specs.Steps.{or_die}
 use Rattle.st_scan.specs.declared.token.Signed.{Signed}
 use Rattle.st_emit.specs.Literals.{LiteralView, LiteralsView}
 use Rattle.st_emit.specs.Literals as literals
-use Rattle.st_install.specs.Plans.{Part, NewObject}
+use Rattle.st_install.specs.Plans.{PlannedValue, NewObject}
 use Rattle.st_install.specs.Symbols.{NamedSymbol}
 use Rattle.st_install.specs.Literals.{Placed, PlacedAll, as_it_is, made_as, negated, place_size, place_signed, place_number, place_character, place_string, place_symbol, place_pointer, place_array, place_owner, then_placed, none_placed, place_literal, place_members, place_literals}
 use Rattle.st_install.specs.inside.SamePlans.{renamed_part, renamed_parts, renamed_objects, IsLivePart, AllLiveParts, AllLiveObjects}
@@ -50,7 +50,7 @@ module _ (live : ℕ → Type 0) (f : ℕ → ℕ) where
   pub all-itself : (p : PlacedAll) → IsLivePlacedAll live p → PlacedAllNamed live f p (renamed_placed_all f p)
   all-itself p h = record { parts = record { live = h.parts; is = refl }; objects = record { live = h.objects; formed = h.formed; is = refl } }
 
-  as_it_is-named : (p q : Part) → PartNamed live f p q → PlacedNamed live f (as_it_is p) (as_it_is q)
+  as_it_is-named : (p q : PlannedValue) → PartNamed live f p q → PlacedNamed live f (as_it_is p) (as_it_is q)
   as_it_is-named p q h = record { part = h; objects = search parts_named }
 
   made_as-named : (next : ℕ) (o q : NewObject) → NewNamed live f o q → PlacedNamed live f (made_as next o) (made_as next q)
@@ -80,7 +80,7 @@ module _ (z : Shown) where
   answer_all-alike : (p q : PlacedAll) → PlacedAllNamed (lives z) (name z) p q → AlikePlacedAll (answer p) (answer q)
   answer_all-alike p q h = answer-alike z _ _ p q (record { parts = h.parts.live; objects = h.objects.live; formed = h.objects.formed }) (λ i. record { parts = h.parts.is i; objects = h.objects.is i })
 
-  pub part_or_die-alike : (cause : Dead) (x y : Option Part) → IsLiveAny (IsLivePart (lives z)) x → y ≡ any_renamed (renamed_part (name z)) x
+  pub part_or_die-alike : (cause : Dead) (x y : Option PlannedValue) → IsLiveAny (IsLivePart (lives z)) x → y ≡ any_renamed (renamed_part (name z)) x
       → Alike z (IsLivePart (lives z)) (renamed_part (name z)) (or_die cause x) (or_die cause y)
   unfolding or_die
   part_or_die-alike cause None y h e = rw e (die-alike z _ _ cause)

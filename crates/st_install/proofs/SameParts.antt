@@ -6,7 +6,7 @@ use Rattle.st_model.specs.declared.kind.Kind.TheVariants.{Pointers, Bytes, Metho
 use Rattle.st_model.specs.Values.{Value, renamed, renamed_all, AllLive}
 use Rattle.st_model.specs.Objects.{is_words, is_method}
 use Rattle.st_simulation.proofs.Same.{ValueNamed, ValuesNamed}
-use Rattle.st_install.specs.Plans.{Part, There, Made, NewObject, Store, pointers_object, bytes_object, method_object}
+use Rattle.st_install.specs.Plans.{PlannedValue, There, Made, NewObject, FieldStore, pointers_object, bytes_object, method_object}
 use Rattle.st_install.specs.inside.SamePlans.{renamed_part, renamed_parts, renamed_new, renamed_objects, renamed_store, renamed_stores, IsLivePart, AllLiveParts, IsLiveNew, AllLiveObjects, IsLiveStore, AllLiveStores}
 
 -- it isn't of kind Words, and a Method has a header
@@ -18,11 +18,11 @@ abbrev pub AllFormed : List NewObject → Type 0
 AllFormed [] = Unit {0}
 AllFormed (o ∷ os) = IsFormedNew o × AllFormed os
 
-pub record PartNamed (lives : ℕ → Type 0) (f : ℕ → ℕ) (p q : Part) : Type 0 where
+pub record PartNamed (lives : ℕ → Type 0) (f : ℕ → ℕ) (p q : PlannedValue) : Type 0 where
   pub live : IsLivePart lives p
   pub is : q ≡ renamed_part f p
 
-pub record PartsNamed (lives : ℕ → Type 0) (f : ℕ → ℕ) (ps qs : List Part) : Type 0 where
+pub record PartsNamed (lives : ℕ → Type 0) (f : ℕ → ℕ) (ps qs : List PlannedValue) : Type 0 where
   pub live : AllLiveParts lives ps
   pub is : qs ≡ renamed_parts f ps
 
@@ -36,15 +36,15 @@ pub record ObjectsNamed (lives : ℕ → Type 0) (f : ℕ → ℕ) (os qs : List
   pub formed : AllFormed os
   pub is : qs ≡ renamed_objects f os
 
-pub record StoreNamed (lives : ℕ → Type 0) (f : ℕ → ℕ) (s t : Store) : Type 0 where
+pub record StoreNamed (lives : ℕ → Type 0) (f : ℕ → ℕ) (s t : FieldStore) : Type 0 where
   pub live : IsLiveStore lives s
   pub is : t ≡ renamed_store f s
 
-pub record StoresNamed (lives : ℕ → Type 0) (f : ℕ → ℕ) (ss ts : List Store) : Type 0 where
+pub record StoresNamed (lives : ℕ → Type 0) (f : ℕ → ℕ) (ss ts : List FieldStore) : Type 0 where
   pub live : AllLiveStores lives ss
   pub is : ts ≡ renamed_stores f ss
 
-pub length-parts : (f : ℕ → ℕ) (ps : List Part) → length (renamed_parts f ps) ≡ length ps
+pub length-parts : (f : ℕ → ℕ) (ps : List PlannedValue) → length (renamed_parts f ps) ≡ length ps
 length-parts f [] = refl
 length-parts f (p ∷ ps) = ap (λ n. suc n) (length-parts f ps)
 
@@ -61,24 +61,24 @@ module _ (lives : ℕ → Type 0) (f : ℕ → ℕ) where
   pub made-named : (k : ℕ) → PartNamed lives f (Made k) (Made k)
   made-named k = record { live = tt; is = refl }
 
-  pub part-itself : (p : Part) → IsLivePart lives p → PartNamed lives f p (renamed_part f p)
+  pub part-itself : (p : PlannedValue) → IsLivePart lives p → PartNamed lives f p (renamed_part f p)
   part-itself p h = record { live = h; is = refl }
 
   pub no_parts-named : PartsNamed lives f [] []
   no_parts-named = record { live = tt; is = refl }
 
-  pub parts-named : (p q : Part) (ps qs : List Part) → PartNamed lives f p q → PartsNamed lives f ps qs → PartsNamed lives f (p ∷ ps) (q ∷ qs)
+  pub parts-named : (p q : PlannedValue) (ps qs : List PlannedValue) → PartNamed lives f p q → PartsNamed lives f ps qs → PartsNamed lives f (p ∷ ps) (q ∷ qs)
   parts-named p q ps qs h k = record { live = (h.live, k.live); is = λ i. h.is i ∷ k.is i }
 
-  both_live : (ps qs : List Part) → AllLiveParts lives ps → AllLiveParts lives qs → AllLiveParts lives (ps ++ qs)
+  both_live : (ps qs : List PlannedValue) → AllLiveParts lives ps → AllLiveParts lives qs → AllLiveParts lives (ps ++ qs)
   both_live [] qs h k = k
   both_live (p ∷ ps) qs h k = (h.0, both_live ps qs h.1 k)
 
-  both-renamed : (ps qs : List Part) → renamed_parts f ps ++ renamed_parts f qs ≡ renamed_parts f (ps ++ qs)
+  both-renamed : (ps qs : List PlannedValue) → renamed_parts f ps ++ renamed_parts f qs ≡ renamed_parts f (ps ++ qs)
   both-renamed [] qs = refl
   both-renamed (p ∷ ps) qs = ap (λ xs. renamed_part f p ∷ xs) (both-renamed ps qs)
 
-  pub append_parts-named : (ps ps' qs qs' : List Part) → PartsNamed lives f ps ps' → PartsNamed lives f qs qs' → PartsNamed lives f (ps ++ qs) (ps' ++ qs')
+  pub append_parts-named : (ps ps' qs qs' : List PlannedValue) → PartsNamed lives f ps ps' → PartsNamed lives f qs qs' → PartsNamed lives f (ps ++ qs) (ps' ++ qs')
   append_parts-named ps ps' qs qs' h k = record { live = both_live ps qs h.live k.live; is = rw (h.is, k.is) (both-renamed ps qs) }
 
   all_there : (vs : List Value) → AllLive lives vs → PartsNamed lives f (map (λ v. There v) vs) (map (λ v. There v) (renamed_all f vs))
@@ -88,26 +88,26 @@ module _ (lives : ℕ → Type 0) (f : ℕ → ℕ) where
   pub values_there-named : (vs ws : List Value) → ValuesNamed lives f vs ws → PartsNamed lives f (map (λ v. There v) vs) (map (λ v. There v) ws)
   values_there-named vs ws h = rw h.is (all_there vs h.live)
 
-  pub replicate-named : (n : ℕ) (p q : Part) → PartNamed lives f p q → PartsNamed lives f (replicate n p) (replicate n q)
+  pub replicate-named : (n : ℕ) (p q : PlannedValue) → PartNamed lives f p q → PartsNamed lives f (replicate n p) (replicate n q)
   replicate-named zero p q h = no_parts-named
   replicate-named (suc n) p q h = parts-named _ _ _ _ h (replicate-named n p q h)
 
-  set_live : (ps : List Part) (i : ℕ) (p : Part) → AllLiveParts lives ps → IsLivePart lives p → AllLiveParts lives (slice_set ps i p)
+  set_live : (ps : List PlannedValue) (i : ℕ) (p : PlannedValue) → AllLiveParts lives ps → IsLivePart lives p → AllLiveParts lives (slice_set ps i p)
   set_live [] i p h k = h
   set_live (x ∷ ps) zero p h k = (k, h.1)
   set_live (x ∷ ps) (suc i) p h k = (h.0, set_live ps i p h.1 k)
 
-  set-renamed : (ps : List Part) (i : ℕ) (p : Part) → slice_set (renamed_parts f ps) i (renamed_part f p) ≡ renamed_parts f (slice_set ps i p)
+  set-renamed : (ps : List PlannedValue) (i : ℕ) (p : PlannedValue) → slice_set (renamed_parts f ps) i (renamed_part f p) ≡ renamed_parts f (slice_set ps i p)
   set-renamed [] i p = refl
   set-renamed (x ∷ ps) zero p = refl
   set-renamed (x ∷ ps) (suc i) p = ap (λ xs. renamed_part f x ∷ xs) (set-renamed ps i p)
 
-  pub set-named : (ps qs : List Part) (i : ℕ) (p q : Part) → PartsNamed lives f ps qs → PartNamed lives f p q → PartsNamed lives f (slice_set ps i p) (slice_set qs i q)
+  pub set-named : (ps qs : List PlannedValue) (i : ℕ) (p q : PlannedValue) → PartsNamed lives f ps qs → PartNamed lives f p q → PartsNamed lives f (slice_set ps i p) (slice_set qs i q)
   set-named ps qs i p q h k = record { live = set_live ps i p h.live k.live; is = rw (h.is, k.is) (set-renamed ps i p) }
 
   -- objects
 
-  pub pointers_object-named : (v w : Value) (ps qs : List Part) → ValueNamed lives f v w → PartsNamed lives f ps qs → NewNamed lives f (pointers_object v ps) (pointers_object w qs)
+  pub pointers_object-named : (v w : Value) (ps qs : List PlannedValue) → ValueNamed lives f v w → PartsNamed lives f ps qs → NewNamed lives f (pointers_object v ps) (pointers_object w qs)
   pointers_object-named v w ps qs h k = record {
     live = record { class = h.live; fields = k.live };
     formed = record { kind = refl; header = λ e. cc };
@@ -121,7 +121,7 @@ module _ (lives : ℕ → Type 0) (f : ℕ → ℕ) where
     is = λ i. record { class = h.is i; kind = Bytes; fields = []; bytes = text };
   }
 
-  pub method_object-named : (v w : Value) (p q : Part) (ps qs : List Part) (code : List ℕ) → ValueNamed lives f v w → PartNamed lives f p q → PartsNamed lives f ps qs
+  pub method_object-named : (v w : Value) (p q : PlannedValue) (ps qs : List PlannedValue) (code : List ℕ) → ValueNamed lives f v w → PartNamed lives f p q → PartsNamed lives f ps qs
       → NewNamed lives f (method_object v (p ∷ ps) code) (method_object w (q ∷ qs) code)
   method_object-named v w p q ps qs code h k l = record {
     live = record { class = h.live; fields = (k.live, l.live) };
@@ -156,25 +156,25 @@ module _ (lives : ℕ → Type 0) (f : ℕ → ℕ) where
 
   -- stores
 
-  pub store-named : (p q : Part) (i : ℕ) (x y : Part) → PartNamed lives f p q → PartNamed lives f x y
+  pub store-named : (p q : PlannedValue) (i : ℕ) (x y : PlannedValue) → PartNamed lives f p q → PartNamed lives f x y
       → StoreNamed lives f (record { object = p; field = i; value = x }) (record { object = q; field = i; value = y })
   store-named p q i x y h k = record { live = record { object = h.live; value = k.live }; is = λ j. record { object = h.is j; field = i; value = k.is j } }
 
   pub no_stores-named : StoresNamed lives f [] []
   no_stores-named = record { live = tt; is = refl }
 
-  pub stores-named : (s t : Store) (ss ts : List Store) → StoreNamed lives f s t → StoresNamed lives f ss ts → StoresNamed lives f (s ∷ ss) (t ∷ ts)
+  pub stores-named : (s t : FieldStore) (ss ts : List FieldStore) → StoreNamed lives f s t → StoresNamed lives f ss ts → StoresNamed lives f (s ∷ ss) (t ∷ ts)
   stores-named s t ss ts h k = record { live = (h.live, k.live); is = λ i. h.is i ∷ k.is i }
 
-  both_stores : (ss ts : List Store) → AllLiveStores lives ss → AllLiveStores lives ts → AllLiveStores lives (ss ++ ts)
+  both_stores : (ss ts : List FieldStore) → AllLiveStores lives ss → AllLiveStores lives ts → AllLiveStores lives (ss ++ ts)
   both_stores [] ts h k = k
   both_stores (s ∷ ss) ts h k = (h.0, both_stores ss ts h.1 k)
 
-  both_stores-renamed : (ss ts : List Store) → renamed_stores f ss ++ renamed_stores f ts ≡ renamed_stores f (ss ++ ts)
+  both_stores-renamed : (ss ts : List FieldStore) → renamed_stores f ss ++ renamed_stores f ts ≡ renamed_stores f (ss ++ ts)
   both_stores-renamed [] ts = refl
   both_stores-renamed (s ∷ ss) ts = ap (λ xs. renamed_store f s ∷ xs) (both_stores-renamed ss ts)
 
-  pub append_stores-named : (ss ss' ts ts' : List Store) → StoresNamed lives f ss ss' → StoresNamed lives f ts ts' → StoresNamed lives f (ss ++ ts) (ss' ++ ts')
+  pub append_stores-named : (ss ss' ts ts' : List FieldStore) → StoresNamed lives f ss ss' → StoresNamed lives f ts ts' → StoresNamed lives f (ss ++ ts) (ss' ++ ts')
   append_stores-named ss ss' ts ts' h k = record { live = both_stores ss ts h.live k.live; is = rw (h.is, k.is) (both_stores-renamed ss ts) }
 
 -- how a search joins parts and objects

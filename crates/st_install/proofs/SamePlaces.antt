@@ -4,7 +4,7 @@ use Rattle.st_model.specs.Values.{Value, renamed}
 use Rattle.st_model.specs.Machine.{Step, answer}
 use Rattle.st_model.specs.Births.{Births, births}
 use Rattle.st_model.specs.Table.{Table, table}
-use Rattle.st_install.specs.Plans.{Part, There, Made, NewObject}
+use Rattle.st_install.specs.Plans.{PlannedValue, There, Made, NewObject}
 use Rattle.st_install.specs.Dictionaries.{Ending, Holds, Vacant, Nowhere, ends_at, seek_at, seek_among, seek_from, count_places, seek, place_of_selector, one_more_if, count_vacant, is_nearly_full, grows_at, grows_for, dictionary_objects, grown_objects}
 use Rattle.st_install.specs.inside.SamePlans.{renamed_part, renamed_objects, IsLivePart, AllLiveObjects}
 use Rattle.st_install.proofs.SameReads.{Shown, lives, name, Alike, ValueAlike, AlikeAnswer, answer-alike, joins_alike}
@@ -63,7 +63,7 @@ module _ (z : Shown) where
   grows_at-alike v w (Vacant k) h = is_nearly_full-alike v w h
   grows_at-alike v w Nowhere h = is_nearly_full-alike v w h
 
-  pub grows_for-alike : (v w : Value) (p : Part) → ValueAlike z v w → IsLivePart (lives z) p → AlikeAnswer z (grows_for births v p) (grows_for table w (renamed_part (name z) p))
+  pub grows_for-alike : (v w : Value) (p : PlannedValue) → ValueAlike z v w → IsLivePart (lives z) p → AlikeAnswer z (grows_for births v p) (grows_for table w (renamed_part (name z) p))
   unfolding grows_for
   grows_for-alike v w (Made k) h l = is_nearly_full-alike v w h
   grows_for-alike v w (There s) h l =

@@ -9,7 +9,7 @@ use Rattle.st_model.specs.Births.{Births, births}
 use Rattle.st_model.specs.Table.{Table, table}
 use Rattle.st_simulation.proofs.Same.{ValueNamed}
 use Rattle.st_code.specs.Methods.{PartsView}
-use Rattle.st_install.specs.Plans.{Part, Made, NewObject, Plan}
+use Rattle.st_install.specs.Plans.{PlannedValue, Made, NewObject, Plan}
 use Rattle.st_install.specs.Symbols.{Symbols, symbols_in, symbol_part}
 use Rattle.st_install.specs.Literals.{PlacedAll, place_owner, place_literals}
 use Rattle.st_install.specs.Shapes.{all_fit, check_size}
@@ -97,7 +97,7 @@ module _ (z : Shown) where
         let x = header-same e in
         search parts_named depth 16 fits 4000
 
-    planned-same : (x y : Value) (grown grown' : List NewObject) (grows : Bool) (p q : Part) (c d : Value) → HasHeader parts → ValueAlike z x y → ObjectsNamed (lives z) (name z) grown grown'
+    planned-same : (x y : Value) (grown grown' : List NewObject) (grows : Bool) (p q : PlannedValue) (c d : Value) → HasHeader parts → ValueAlike z x y → ObjectsNamed (lives z) (name z) grown grown'
         → PartNamed (lives z) (name z) p q → ValueAlike z c d
         → PlanNamed (lives z) (name z)
         (plan_with c v x parts s l p grows grown) (plan_with d w y parts (renamed_symbols (name z) s) (renamed_placed_all (name z) l) q grows grown')
@@ -115,7 +115,7 @@ module _ (z : Shown) where
         → AlikeObjects z (grown_if births x (method_number s l + 1) grows) (grown_if table y (method_number (renamed_symbols (name z) s) (renamed_placed_all (name z) l) + 1) grows)
     grown_next-alike x y grows q = rw number-same (grown_if-alike x y (method_number s l + 1) grows q)
 
-    pub plan_objects-alike : (p : Part) → HasHeader parts → IsLivePart (lives z) p
+    pub plan_objects-alike : (p : PlannedValue) → HasHeader parts → IsLivePart (lives z) p
         → AlikePlan (plan_objects births v parts s l p) (plan_objects table w parts (renamed_symbols (name z) s) (renamed_placed_all (name z) l) (renamed_part (name z) p))
     unfolding plan_objects
     plan_objects-alike p e hp =

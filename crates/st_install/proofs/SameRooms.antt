@@ -17,7 +17,7 @@ use Rattle.st_model.proofs.Names.{AnyName, any_value, any_values}
 use Rattle.st_simulation.proofs.Same.{TransitionSame, Anything, strict, strict_states}
 use Rattle.st_simulation.proofs.Bounded.{same_name, value-itself, values-itself, total-placed, bounded_simulation, bounded_start}
 use Rattle.st_simulation.proofs.Between.{both_same}
-use Rattle.st_install.specs.Plans.{Part, There, Made, NewObject, Store, Plan, words_of_new, words_of_all}
+use Rattle.st_install.specs.Plans.{PlannedValue, There, Made, NewObject, FieldStore, Plan, words_of_new, words_of_all}
 use Rattle.st_install.specs.Installing.{size_by, literals_by, make_new, make_all, fill_and_store, install}
 use Rattle.st_install.specs.inside.SamePlans.{renamed_part, renamed_parts, renamed_objects, renamed_stores, renamed_plan, IsLivePart, AllLiveParts, AllLiveObjects, AllLiveStores, IsLivePlan}
 use Rattle.st_install.proofs.SameParts.{IsFormedNew, AllFormed}
@@ -121,11 +121,11 @@ make_all-bounded (o ∷ os) c f h =
 
 -- WHAT MAKES NOTHING
 
-part_itself : (p : Part) → renamed_part same_name p ≡ p
+part_itself : (p : PlannedValue) → renamed_part same_name p ≡ p
 part_itself (There v) = ap (λ x. There x) (value-itself v)
 part_itself (Made k) = refl
 
-parts_itself : (ps : List Part) → renamed_parts same_name ps ≡ ps
+parts_itself : (ps : List PlannedValue) → renamed_parts same_name ps ≡ ps
 parts_itself [] = refl
 parts_itself (p ∷ ps) = let a = part_itself p in let b = parts_itself ps in λ i. a i ∷ b i
 
@@ -137,7 +137,7 @@ objects_itself (o ∷ os) =
     let b = objects_itself os in
     λ i. record { class = c i; kind = o.kind; fields = f i; bytes = o.bytes } ∷ b i
 
-stores_itself : (ss : List Store) → renamed_stores same_name ss ≡ ss
+stores_itself : (ss : List FieldStore) → renamed_stores same_name ss ≡ ss
 stores_itself [] = refl
 stores_itself (s ∷ ss) =
     let o = part_itself s.object in
@@ -155,11 +155,11 @@ plan_itself p =
     let d = value-itself p.dictionary in
     λ i. record { objects = o i; symbol_stores = s i; selector = x i; method = y i; class = c i; dictionary = d i; grown = p.grown }
 
-any_part : (p : Part) → IsLivePart AnyName p
+any_part : (p : PlannedValue) → IsLivePart AnyName p
 any_part (There v) = any_value v
 any_part (Made k) = tt
 
-any_parts : (ps : List Part) → AllLiveParts AnyName ps
+any_parts : (ps : List PlannedValue) → AllLiveParts AnyName ps
 any_parts [] = tt
 any_parts (p ∷ ps) = (any_part p, any_parts ps)
 
@@ -167,7 +167,7 @@ any_objects : (os : List NewObject) → AllLiveObjects AnyName os
 any_objects [] = tt
 any_objects (o ∷ os) = (record { class = any_value o.class; fields = any_parts o.fields }, any_objects os)
 
-any_stores : (ss : List Store) → AllLiveStores AnyName ss
+any_stores : (ss : List FieldStore) → AllLiveStores AnyName ss
 any_stores [] = tt
 any_stores (s ∷ ss) = (record { object = any_part s.object; value = any_part s.value }, any_stores ss)
 

@@ -6,7 +6,7 @@ use Rattle.st_model.specs.Values.{Value, renamed}
 use Rattle.st_model.specs.Machine.{Step, answer}
 use Rattle.st_model.specs.Births.{Births, births}
 use Rattle.st_model.specs.Table.{Table, table}
-use Rattle.st_install.specs.Plans.{Part, There, Made}
+use Rattle.st_install.specs.Plans.{PlannedValue, There, Made}
 use Rattle.st_install.specs.Symbols.{symbol_text, is_symbol, symbol_named, NamedSymbol, symbol_part, Symbols, is_vacant, grown_size, vacant_field, symbol_in_field, symbol_in_array, with_new_symbol, make_symbol, found_or_made, seek_unless, with_symbol, with_symbols, symbols_there, symbols_for}
 use Rattle.st_install.specs.inside.SamePlans.{renamed_part, renamed_parts, renamed_objects, renamed_stores, IsLivePart, AllLiveParts, AllLiveObjects, AllLiveStores}
 use Rattle.st_install.proofs.SameReads.{Shown, lives, name, Alike, ValueAlike, ValuesAlike, OptionalAlike, AlikeOption, AlikeAnswer, IsLiveAny, any_renamed, then-alike, then_option-alike, answer-alike, same_value-alike}
@@ -50,16 +50,16 @@ module _ (live : ℕ → Type 0) (f : ℕ → ℕ) where
   symbol_part-live [] text h = tt
   symbol_part-live (s ∷ ss) text h = live_if (bytes_eq s.text text) s (find (λ t. bytes_eq t.text text) ss) h.0 (symbol_part-live ss text h.1)
 
-  known_live : (ss : List NamedSymbol) (text : List ℕ) (p : Part) → AllKnown live ss → IsLivePart live p → AllKnown live (ss ++ record { text = text; part = p } ∷ [])
+  known_live : (ss : List NamedSymbol) (text : List ℕ) (p : PlannedValue) → AllKnown live ss → IsLivePart live p → AllKnown live (ss ++ record { text = text; part = p } ∷ [])
   known_live [] text p h k = (k, tt)
   known_live (s ∷ ss) text p h k = (h.0, known_live ss text p h.1 k)
 
-  known-renamed : (ss : List NamedSymbol) (text : List ℕ) (p : Part)
+  known-renamed : (ss : List NamedSymbol) (text : List ℕ) (p : PlannedValue)
       → renamed_known f ss ++ record { text = text; part = renamed_part f p } ∷ [] ≡ renamed_known f (ss ++ record { text = text; part = p } ∷ [])
   known-renamed [] text p = refl
   known-renamed (s ∷ ss) text p = ap (λ xs. renamed_symbol f s ∷ xs) (known-renamed ss text p)
 
-  pub known-named : (ss ts : List NamedSymbol) (text : List ℕ) (p q : Part) → KnownNamed live f ss ts → PartNamed live f p q
+  pub known-named : (ss ts : List NamedSymbol) (text : List ℕ) (p q : PlannedValue) → KnownNamed live f ss ts → PartNamed live f p q
       → KnownNamed live f (ss ++ record { text = text; part = p } ∷ []) (ts ++ record { text = text; part = q } ∷ [])
   known-named ss ts text p q h k = record { live = known_live ss text p h.live k.live; is = rw (h.is, k.is) (known-renamed ss text p) }
 
@@ -110,14 +110,14 @@ module _ (live : ℕ → Type 0) (f : ℕ → ℕ) where
   symbols_if false c s t s' t' e h k = rw e k
 
 module _ (z : Shown) where
-  abbrev PartAlike : Part → Part → Type 0
+  abbrev PartAlike : PlannedValue → PlannedValue → Type 0
   PartAlike p q = PartNamed (lives z) (name z) p q
 
-  vacant-alike : (v w : Value) (p : Part) → ValueAlike z v w → IsLivePart (lives z) p → is_vacant w (renamed_part (name z) p) ≡ is_vacant v p
+  vacant-alike : (v w : Value) (p : PlannedValue) → ValueAlike z v w → IsLivePart (lives z) p → is_vacant w (renamed_part (name z) p) ≡ is_vacant v p
   vacant-alike v w (There x) h k = same_value-alike z x (renamed (name z) x) v w (record { live = k; is = refl }) h
   vacant-alike v w (Made k) h l = refl
 
-  vacant_at : (v w : Value) (ps : List Part) → ValueAlike z v w → AllLiveParts (lives z) ps → position_or_len (is_vacant w) (renamed_parts (name z) ps) ≡ position_or_len (is_vacant v) ps
+  vacant_at : (v w : Value) (ps : List PlannedValue) → ValueAlike z v w → AllLiveParts (lives z) ps → position_or_len (is_vacant w) (renamed_parts (name z) ps) ≡ position_or_len (is_vacant v) ps
   vacant_at v w [] h k = refl
   vacant_at v w (p ∷ ps) h k = rw (vacant-alike v w p h k.0, vacant_at v w ps h k.1) refl
 
@@ -211,7 +211,7 @@ module _ (z : Shown) where
         named = known-named (lives z) (name z) _ _ text _ _ t.named x_there;
       }))
 
-  seek_unless-alike : (v w x y : Value) (text : List ℕ) (s : Symbols) (a : Option Part) (b : Option Part) → ValueAlike z v w → ValueAlike z x y → IsLiveSymbols (lives z) s
+  seek_unless-alike : (v w x y : Value) (text : List ℕ) (s : Symbols) (a : Option PlannedValue) (b : Option PlannedValue) → ValueAlike z v w → ValueAlike z x y → IsLiveSymbols (lives z) s
       → b ≡ any_renamed (renamed_part (name z)) a
       → AlikeSymbols (seek_unless births v x text s a) (seek_unless table w y text (renamed_symbols (name z) s) b)
   unfolding seek_unless

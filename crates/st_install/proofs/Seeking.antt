@@ -15,8 +15,8 @@ use Rattle.st_model.specs.inside.Calls.{Reads, itself}
 use Rattle.st_model.specs.View.{is_live}
 use Rattle.st_model.proofs.Runs.{run-then, run-of_page, after-went, after-died}
 use Rattle.st_model.proofs.Words.{same_words, value_of-nil}
-use Rattle.st_install.specs.declared.places.Place.{Place}
-use Rattle.st_install.specs.declared.places.Place.TheVariants as place
+use Rattle.st_install.specs.declared.places.DictionaryPlace.{DictionaryPlace}
+use Rattle.st_install.specs.declared.places.DictionaryPlace.TheVariants as place
 use Rattle.st_install.specs.Dictionaries.{Ending, Nowhere, ends_at, seek_at, seek_among, seek_from}
 use Rattle.st_install.specs.inside.Endings.{ending_of, seek_of, SeeksAt, SeeksFrom}
 
@@ -91,11 +91,11 @@ module _ (d x : Value) (from to : ℕ) (t : Table) where
   all_left = record { same = λ rest s e. refl }
 
   module _ (k : ℕ) (l : k < to) (h : LeftPlaces d x from to k t) where
-    at_place : (r : Result (Option Place) Dead) → SeeksAt d x k t r → (rest : Step Table Ending) (s : State Table) → s.memory ≡ t
+    at_place : (r : Result (Option DictionaryPlace) Dead) → SeeksAt d x k t r → (rest : Step Table Ending) (s : State Table) → s.memory ≡ t
         → (seek_among table d x from (to - from) rest).run s ≡ seek_of r (seek_among table d x (k + 1) (to - (k + 1)) rest) s
     at_place r e rest s f = h.same rest s f ∙ (next_place d x k to rest s l ∙ e _ s f)
 
-    pub ends_left : (p : Place) → SeeksAt d x k t (Ok (Some p)) → SeeksFrom d x from (to - from) t (Ok (Some p))
+    pub ends_left : (p : DictionaryPlace) → SeeksAt d x k t (Ok (Some p)) → SeeksFrom d x from (to - from) t (Ok (Some p))
     ends_left p e rest s f = at_place (Ok (Some p)) e rest s f
 
     pub dies_left : (cause : Dead) → SeeksAt d x k t (Err cause) → SeeksFrom d x from (to - from) t (Err cause)
@@ -110,7 +110,7 @@ module _ (d x : Value) (from to : ℕ) (t : Table) where
 -- FROM A START
 
 module _ (d x : Oop) (places start : ℕ) (t : Table) where
-  pub ends_first : (p : Place) → SeeksFrom (value d) (value x) start (places - start) t (Ok (Some p)) → Reads (seek_from table (value d) (value x) places start) ending_of t (Ok (Some p))
+  pub ends_first : (p : DictionaryPlace) → SeeksFrom (value d) (value x) start (places - start) t (Ok (Some p)) → Reads (seek_from table (value d) (value x) places start) ending_of t (Ok (Some p))
   unfolding seek_from
   ends_first p e s f = e _ s f
 
@@ -118,14 +118,14 @@ module _ (d x : Oop) (places start : ℕ) (t : Table) where
   unfolding seek_from
   dies_first cause e s f = e _ s f
 
-  second : (r : Result (Option Place) Dead) (s : State Table) → seek_of r (answer Nowhere) s ≡ seek_of r (answer (ending_of None)) s
+  second : (r : Result (Option DictionaryPlace) Dead) (s : State Table) → seek_of r (answer Nowhere) s ≡ seek_of r (answer (ending_of None)) s
   second r s = refl
 
-  answered : (r : Result (Option Place) Dead) (s : State Table) → SeeksFrom (value d) (value x) 0 (start - 0) t r → s.memory ≡ t → (n : ℕ) → n ≡ start
+  answered : (r : Result (Option DictionaryPlace) Dead) (s : State Table) → SeeksFrom (value d) (value x) 0 (start - 0) t r → s.memory ≡ t → (n : ℕ) → n ≡ start
       → (seek_among table (value d) (value x) 0 n (answer Nowhere)).run s ≡ seek_of r (answer Nowhere) s
   answered r s e f n z = let q : n ≡ start - 0 = omega (arith, z) in rw q (e (answer Nowhere) s f)
 
-  pub ends_second : (r : Result (Option Place) Dead) → SeeksFrom (value d) (value x) start (places - start) t (Ok None) → SeeksFrom (value d) (value x) 0 (start - 0) t r → Reads (seek_from table (value d) (value x) places start) ending_of t r
+  pub ends_second : (r : Result (Option DictionaryPlace) Dead) → SeeksFrom (value d) (value x) start (places - start) t (Ok None) → SeeksFrom (value d) (value x) 0 (start - 0) t r → Reads (seek_from table (value d) (value x) places start) ending_of t r
   unfolding seek_from answer
   ends_second (Ok (Some p)) e g s f = e _ s f ∙ answered (Ok (Some p)) s g f start refl
   ends_second (Ok None) e g s f = e _ s f ∙ answered (Ok None) s g f start refl

@@ -15,7 +15,7 @@ use Rattle.st_model.specs.Table.{Table, table, entry}
 use Rattle.st_model.specs.inside.Calls.{Reads}
 use Rattle.st_model.specs.View.{is_live}
 use Rattle.st_model.proofs.Runs.{run-then, after-died}
-use Rattle.st_install.specs.declared.plan.Part.{Part as CodePart}
+use Rattle.st_install.specs.declared.plan.PlannedValue.{PlannedValue as CodePart}
 use Rattle.st_install.specs.Plans.{There}
 use Rattle.st_install.specs.Symbols.{NamedSymbol, symbol_part}
 use Rattle.st_install.specs.Literals.{as_it_is, place_pointer, place_owner}

@@ -14,7 +14,7 @@ use Rattle.st_model.specs.inside.Calls.{Reads}
 use Rattle.st_model.specs.View.{View}
 use Rattle.st_model.proofs.Runs.{run-then, after-went}
 use Rattle.st_model.proofs.Words.{is_small-value_of}
-use Rattle.st_install.specs.declared.places.Place.{Place}
+use Rattle.st_install.specs.declared.places.DictionaryPlace.{DictionaryPlace}
 use Rattle.st_install.specs.declared.plan.SymbolStore.{SymbolStore}
 use Rattle.st_install.specs.Plans.{Plan}
 use Rattle.st_install.specs.inside.Carried.{Goes, Becomes}
@@ -98,14 +98,14 @@ module _ (d s : Oop) (v : View) (h : Goes (find_place table (value d) (value s))
       after_tally : Goes (tally_then (value ms) (value y)) v
       after_tally = goes-read (fetch_field table (value d) 0) (tally_then (value ms)) v after_methods value y f
 
-      sought : (r : Result (Option Place) Dead) → Reads (seek table (value d) (value s) (value s)) ending_of v.objects r → Reads (place_of_selector table (value d) (value s)) ending_of v.objects r
+      sought : (r : Result (Option DictionaryPlace) Dead) → Reads (seek table (value d) (value s) (value s)) ending_of v.objects r → Reads (place_of_selector table (value d) (value s)) ending_of v.objects r
       unfolding place_of_selector
       sought r q = q
 
-      pub place_goes : (r : Result (Option Place) Dead) → Reads (seek table (value d) (value s) (value s)) ending_of v.objects r → IsOk r
+      pub place_goes : (r : Result (Option DictionaryPlace) Dead) → Reads (seek table (value d) (value s) (value s)) ending_of v.objects r → IsOk r
       place_goes r q = read_ok (place_of_selector table (value d) (value s)) ending_of v r (goes-first (place_of_selector table (value d) (value s)) (placed_at (value ms) (value y)) v after_tally) (sought r q)
 
-      pub place_read : (p : Option Place) → Reads (seek table (value d) (value s) (value s)) ending_of v.objects (Ok p)
+      pub place_read : (p : Option DictionaryPlace) → Reads (seek table (value d) (value s) (value s)) ending_of v.objects (Ok p)
           → Reads (find_place table (value d) (value s)) placing_of v.objects (Ok (record { dictionary = d; methods = ms; tally = y; place = p }))
       unfolding find_place answer
       place_read p q z a = simp (run-then, after-went, e z a, f z a, sought (Ok p) q z a) refl
@@ -117,7 +117,7 @@ module _ (p : Placing) (s meth : Value) (v : View) where
   unfolding add_at die
   add_nowhere h = h.gone (state_of v) refl refl
 
-  pub add_somewhere : (q : Option Place) → Goes (add_at table p s meth (ending_of q)) v → IsSome q
+  pub add_somewhere : (q : Option DictionaryPlace) → Goes (add_at table p s meth (ending_of q)) v → IsSome q
   add_somewhere None h = absurd (add_nowhere h)
   add_somewhere (Some q) h = refl
 

@@ -24,14 +24,14 @@ use Rattle.st_emit.specs.declared.literal.Literal.TheVariants.{Symbol, Array}
 use Rattle.st_emit.proofs.Members.{array_view}
 use Rattle.st_emit.specs.inside.Views.{literal_view, literals_view, members_view}
 use Rattle.st_emit.proofs.Noting.{at_put}
-use Rattle.st_install.specs.declared.plan.Part.{Part as CodePart}
-use Rattle.st_install.specs.declared.plan.Part.TheVariants as part
+use Rattle.st_install.specs.declared.plan.PlannedValue.{PlannedValue as CodePart}
+use Rattle.st_install.specs.declared.plan.PlannedValue.TheVariants as part
 use Rattle.st_install.specs.declared.plan.NewObject.{NewObject as CodeObject}
 use Rattle.st_install.specs.declared.plan.SymbolStore.{SymbolStore}
 use Rattle.st_scope.specs.declared.unread.Unread.{Unread}
 use Rattle.st_scope.specs.declared.unread.Unread.TheVariants.{Dies, OutOfMemory}
 use Rattle.st_install.specs.declared.symbol_plan.SymbolPlan.{SymbolPlan}
-use Rattle.st_install.specs.Plans.{Part, There, Made, NewObject, bytes_object, pointers_object}
+use Rattle.st_install.specs.Plans.{PlannedValue, There, Made, NewObject, bytes_object, pointers_object}
 use Rattle.st_install.specs.Symbols.{Symbols, NamedSymbol, is_vacant, grown_size, symbol_part, symbols_of, symbols_among, symbols_in, symbol_named, make_symbol, found_or_made, seek_unless, with_symbol, with_symbols, symbols_there, symbols_for}
 use Rattle.st_scope.specs.Texts.{found}
 use Rattle.st_install.specs.inside.Readies.{part_of, parts_of, object_of, objects_of, store_of, stores_of}
@@ -47,11 +47,11 @@ abbrev by_items : Vec ℕ → Vec ℕ → Ordering
 by_items x y = slice_cmp nat_cmp x.items y.items
 
 -- one more behind the others
-abbrev or_last : Option Part → Option Part → Option Part
+abbrev or_last : Option PlannedValue → Option PlannedValue → Option PlannedValue
 or_last None p = p
 or_last (Some q) p = Some q
 
-symbol_last : (ss : List NamedSymbol) (text t : List ℕ) (p : Part) → symbol_part (ss ++ record { text = text; part = p } ∷ []) t ≡ or_last (symbol_part ss t) (cond (bytes_eq text t) (Some p) None)
+symbol_last : (ss : List NamedSymbol) (text t : List ℕ) (p : PlannedValue) → symbol_part (ss ++ record { text = text; part = p } ∷ []) t ≡ or_last (symbol_part ss t) (cond (bytes_eq text t) (Some p) None)
 symbol_last [] text t p = one (bytes_eq text t)
   where
     one : (b : Bool) → option_map (λ (s : NamedSymbol). s.part) (cond b (Some (record { text = text; part = p })) None) ≡ cond b (Some p) None
@@ -65,7 +65,7 @@ symbol_last (s ∷ ss) text t p = one (bytes_eq s.text t) (symbol_last ss text t
     one true h = refl
     one false h = h
 
-put_last : (b : Bool) (p : CodePart) (a : Option CodePart) (o : Option Part) → option_map part_of a ≡ o → (b ≡ true → o ≡ None) → option_map part_of (cond b (Some p) a) ≡ or_last o (cond b (Some (part_of p)) None)
+put_last : (b : Bool) (p : CodePart) (a : Option CodePart) (o : Option PlannedValue) → option_map part_of a ≡ o → (b ≡ true → o ≡ None) → option_map part_of (cond b (Some p) a) ≡ or_last o (cond b (Some (part_of p)) None)
 put_last true p a o e n = rw (n refl) refl
 put_last false p None o e n = rw (sym e) refl
 put_last false p (Some q) o e n = rw (sym e) refl
@@ -171,14 +171,14 @@ becomes_grown old new association p size x a z b c q d e s h =
           ∙ ap (λ o. s.objects ++ o ∷ []) (q ∙ ap (λ v. pointers_object v (parts_of new.fields.items)) array_class ∙ ap (pointers_object (Ref (place_of ArrayClass))) fields);
       stores =
           ap stores_of d ∙ map-append store_of old.stores.items (record { object = part.There association; field = 1; value = new.table } ∷ []) ∙ ap (λ ss. ss ++ record { object = There (value association); field = 1; value = part_of new.table } ∷ []) h.stores
-          ∙ ap (λ (v : Part). s.stores ++ record { object = There (value association); field = 1; value = v } ∷ []) made;
+          ∙ ap (λ (v : PlannedValue). s.stores ++ record { object = There (value association); field = 1; value = v } ∷ []) made;
       named = λ t. ap (λ es. symbol_part (named_of es) t) e ∙ h.named t;
     }
 
 -- FINDING AND MAKING
 
 module _ (association array : Oop) (text : List ℕ) (t : Table) where
-  known_by : (s : Symbols) (st : State Table) (o : Option Part) → is_some o ≡ true → (seek_unless table (value association) (value array) text s o).run st ≡ Went s st
+  known_by : (s : Symbols) (st : State Table) (o : Option PlannedValue) → is_some o ≡ true → (seek_unless table (value association) (value array) text s o).run st ≡ Went s st
   unfolding seek_unless answer
   known_by s st None e = absurd (true≢false (sym e))
   known_by s st (Some p) e = refl
@@ -191,7 +191,7 @@ module _ (association array : Oop) (text : List ℕ) (t : Table) where
     tells = λ st f. known_by s st (symbol_part s.named text) (ap is_some (sym (h.named text)) ∙ e);
   }
 
-  sought : (s : Symbols) (st : State Table) (o : Option Part) → o ≡ None
+  sought : (s : Symbols) (st : State Table) (o : Option PlannedValue) → o ≡ None
       → (seek_unless table (value association) (value array) text s o).run st ≡ (symbol_named table (value array) text >>= (λ f. found_or_made table (value association) text s f)).run st
   unfolding seek_unless
   sought s st None e = refl
@@ -408,7 +408,7 @@ free_end ps i e h =
     sym (h.same ∙ ap (λ (xs : List CodePart). i + position_or_len (is_vacant nil) (parts_of xs)) (drop_all i ps (omega (arith, e))) ∙ z ∙ e)
 
 module _ (ps : List CodePart) (i : ℕ) (h : LeftFree ps i) (d : CodePart) (l : i < length ps) where
-  position_cons : (x : Part) (xs : List Part) (b : Bool) → is_vacant nil x ≡ b → position_or_len (is_vacant nil) (x ∷ xs) ≡ cond b 0 (1 + position_or_len (is_vacant nil) xs)
+  position_cons : (x : PlannedValue) (xs : List PlannedValue) (b : Bool) → is_vacant nil x ≡ b → position_or_len (is_vacant nil) (x ∷ xs) ≡ cond b 0 (1 + position_or_len (is_vacant nil) xs)
   position_cons x xs true e = rw e refl
   position_cons x xs false e = rw e refl
 

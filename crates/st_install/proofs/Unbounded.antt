@@ -10,7 +10,7 @@ use Rattle.st_model.specs.Steps.{same_value, store_fields, store_bytes}
 use Rattle.st_model.specs.Table.{Table, table, bounded_table}
 use Rattle.st_model.proofs.Tabular.{of_page-as, fetch_field-as, count_fields-as, store_field-as, store_method_field-as, store_byte-as}
 use Rattle.st_memory.specs.inside.Tabular.{bounded_tabular}
-use Rattle.st_install.specs.Plans.{NewObject, Store, Plan}
+use Rattle.st_install.specs.Plans.{NewObject, FieldStore, Plan}
 use Rattle.st_install.specs.Dictionaries.{Ending, Holds, Vacant, Nowhere, ends_at, seek_at, seek_among, seek_from, count_places, seek, place_of_selector, put_method, put_at, refill_unless, refill_from, refill_among, refill, raised_tally}
 use Rattle.st_install.specs.Installing.{part_value, part_values, store_method_fields, fill_method, fill_by, fill_all, store_all, target, Placing, find_place, adopt, add_at, store_planned, fill_and_store}
 use Rattle.st_memory.proofs.Unbounded.{half_bounded}
@@ -45,7 +45,7 @@ module _ (nil : Value) (made : List Value) where
   fill_all-same (v ∷ vs) [] = refl
   fill_all-same (v ∷ vs) (o ∷ os) = λ i. fill_by-same v (part_values nil made o.fields) o.bytes o.kind i >> fill_all-same vs os i
 
-  store_all-same : (ss : List Store) → store_all bounded_table nil made ss ≡ store_all table nil made ss
+  store_all-same : (ss : List FieldStore) → store_all bounded_table nil made ss ≡ store_all table nil made ss
   unfolding store_all
   store_all-same [] = refl
   store_all-same (s ∷ ss) = λ i. store_field-as bounded_tabular (part_value nil made s.object) s.field (part_value nil made s.value) i >> store_all-same ss i

@@ -7,7 +7,7 @@ use Rattle.st_model.specs.declared.page.PageObject.TheVariants.{NilObject, Array
 use Rattle.st_model.specs.Machine.{ObjectMemory, Step, answer, die, ◌>>=◌, ◌>>◌}
 use Rattle.st_model.specs.Steps.{of_page, class_of, same_value, fetch_field, store_field, count_fields}
 use Rattle.st_model.specs.Lookup.{half_word}
-use Rattle.st_install.specs.Plans.{Part, There, Made, NewObject, pointers_object}
+use Rattle.st_install.specs.Plans.{PlannedValue, There, Made, NewObject, pointers_object}
 
 -- the search ends at a place that holds what is sought, or at nil, or it has gone through all places
 pub data Ending : Type 0 where
@@ -95,7 +95,7 @@ module _ {H : Type 0} (m : ObjectMemory H) where
 
   -- Whether the dictionary grows for a selector: where that is added to it and would leave no place of nil. It has no Symbol that is
   -- made only now.
-  unfoldable pub grows_for : Value → Part → Step H Bool
+  unfoldable pub grows_for : Value → PlannedValue → Step H Bool
   grows_for dictionary (Made k) = is_nearly_full dictionary
   grows_for dictionary (There selector) = place_of_selector dictionary selector >>= grows_at dictionary
 

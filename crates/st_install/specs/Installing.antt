@@ -8,7 +8,7 @@ use Rattle.st_model.specs.Values.{Value}
 use Rattle.st_model.specs.declared.page.PageObject.TheVariants.{NilObject}
 use Rattle.st_model.specs.Machine.{ObjectMemory, Step, answer, die, ◌>>=◌, ◌>>◌}
 use Rattle.st_model.specs.Steps.{of_page, fetch_field, store_field, store_fields, store_method_field, store_bytes, make}
-use Rattle.st_install.specs.Plans.{Part, There, Made, NewObject, Store, Plan}
+use Rattle.st_install.specs.Plans.{PlannedValue, There, Made, NewObject, FieldStore, Plan}
 use Rattle.st_install.specs.Dictionaries.{Ending, Holds, Vacant, Nowhere, place_of_selector, put_method, refill, raised_tally}
 
 -- how many fields, words or bytes it has; a Method's header and literals count as bytes
@@ -22,11 +22,11 @@ literals_by kind.Method o = length o.fields - 1
 literals_by _ o = 0
 
 -- the object that a part is, once these are made
-abbrev pub part_value : (nil : Value) → List Value → Part → Value
+abbrev pub part_value : (nil : Value) → List Value → PlannedValue → Value
 part_value nil made (There v) = v
 part_value nil made (Made k) = get_or made k nil
 
-abbrev pub part_values : (nil : Value) → List Value → List Part → List Value
+abbrev pub part_values : (nil : Value) → List Value → List PlannedValue → List Value
 part_values nil made [] = []
 part_values nil made (p ∷ ps) = part_value nil made p ∷ part_values nil made ps
 
@@ -75,7 +75,7 @@ module _ {H : Type 0} (m : ObjectMemory H) where
 
   -- STORES
 
-  unfoldable pub store_all : (nil : Value) → List Value → List Store → Step H Unit
+  unfoldable pub store_all : (nil : Value) → List Value → List FieldStore → Step H Unit
   store_all nil made [] = answer tt
   store_all nil made (s ∷ ss) = do
     store_field m (part_value nil made s.object) s.field (part_value nil made s.value)

@@ -9,19 +9,19 @@ use Rattle.st_model.specs.Primitives.{bytes_within}
 use Rattle.st_scan.specs.declared.token.Signed.{Signed}
 use Rattle.st_emit.specs.Literals.{LiteralView, LiteralsView}
 use Rattle.st_emit.specs.Literals as literals
-use Rattle.st_install.specs.Plans.{Part, There, Made, NewObject, pointers_object, bytes_object}
+use Rattle.st_install.specs.Plans.{PlannedValue, There, Made, NewObject, pointers_object, bytes_object}
 use Rattle.st_install.specs.Symbols.{NamedSymbol, symbol_part}
 
 -- the literal, and what is made for it
 pub record Placed : Type 0 where
-  pub part : Part
+  pub part : PlannedValue
   pub objects : List NewObject
 
 pub record PlacedAll : Type 0 where
-  pub parts : List Part
+  pub parts : List PlannedValue
   pub objects : List NewObject
 
-abbrev pub as_it_is : Part → Placed
+abbrev pub as_it_is : PlannedValue → Placed
 as_it_is p = record { part = p; objects = [] }
 
 -- one object, of this number

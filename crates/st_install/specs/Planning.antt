@@ -7,7 +7,7 @@ use Rattle.st_model.specs.declared.page.PageObject.TheVariants.{MethodClass}
 use Rattle.st_model.specs.Machine.{ObjectMemory, Step, answer, ◌>>=◌, ◌>>◌}
 use Rattle.st_model.specs.Steps.{of_page, or_die, fetch_field}
 use Rattle.st_code.specs.Methods.{PartsView}
-use Rattle.st_install.specs.Plans.{Part, There, Made, NewObject, Plan, method_object}
+use Rattle.st_install.specs.Plans.{PlannedValue, There, Made, NewObject, Plan, method_object}
 use Rattle.st_install.specs.Symbols.{Symbols, symbols_in, symbol_part, symbols_for}
 use Rattle.st_install.specs.Literals.{PlacedAll, place_owner, place_literals}
 use Rattle.st_install.specs.Dictionaries.{grows_for, grown_objects}
@@ -36,7 +36,7 @@ module _ {H : Type 0} (m : ObjectMemory H) where
   grown_if dictionary next true = grown_objects m dictionary next
   grown_if dictionary next false = answer []
 
-  unfoldable pub plan_objects : Value → PartsView → Symbols → PlacedAll → Part → Step H Plan
+  unfoldable pub plan_objects : Value → PartsView → Symbols → PlacedAll → PlannedValue → Step H Plan
   plan_objects class parts symbols literals selector = do
     dictionary ← fetch_field m class 1
     grows ← grows_for m dictionary selector

@@ -6,31 +6,31 @@ use Rattle.st_model.specs.declared.kind.Kind.TheVariants.{Pointers, Bytes, Metho
 use Rattle.st_model.specs.Values.{Value}
 
 -- a value that is there, or the object of this number among those that are made, counted from 0
-pub data Part : Type 0 where
-  There : Value → Part
-  Made : ℕ → Part
+pub data PlannedValue : Type 0 where
+  There : Value → PlannedValue
+  Made : ℕ → PlannedValue
 
 -- an object that is made: its class, its kind, its fields (of a Method the header and the literals), and its bytes
 pub record NewObject : Type 0 where
   pub class : Value
   pub kind : Kind
-  pub fields : List Part
+  pub fields : List PlannedValue
   pub bytes : List ℕ
 
-abbrev pub pointers_object : Value → List Part → NewObject
+abbrev pub pointers_object : Value → List PlannedValue → NewObject
 pointers_object class fields = record { class = class; kind = Pointers; fields = fields; bytes = [] }
 
 abbrev pub bytes_object : Value → List ℕ → NewObject
 bytes_object class bytes = record { class = class; kind = Bytes; fields = []; bytes = bytes }
 
-abbrev pub method_object : Value → List Part → List ℕ → NewObject
+abbrev pub method_object : Value → List PlannedValue → List ℕ → NewObject
 method_object class fields bytes = record { class = class; kind = Method; fields = fields; bytes = bytes }
 
 -- a value that goes into a field
-pub record Store : Type 0 where
-  pub object : Part
+pub record FieldStore : Type 0 where
+  pub object : PlannedValue
   pub field : ℕ
-  pub value : Part
+  pub value : PlannedValue
 
 -- the size word, the class word and the words of the body
 abbrev pub words_of_new : NewObject → ℕ
@@ -48,9 +48,9 @@ demand_of_all os = record { entries = length os; words = words_of_all os }
 -- table; and the dictionary into which the selector and its method go.
 pub record Plan : Type 0 where
   pub objects : List NewObject
-  pub symbol_stores : List Store
-  pub selector : Part
-  pub method : Part
+  pub symbol_stores : List FieldStore
+  pub selector : PlannedValue
+  pub method : PlannedValue
   pub class : Value
   pub dictionary : Value
   -- the dictionary that takes its place, where it grows; the one that was made after it is its Array of methods

@@ -10,7 +10,7 @@ use Rattle.st_model.specs.Primitives.{check_class}
 use Rattle.st_emit.specs.Literals.{LiteralView, LiteralsView}
 use Rattle.st_emit.specs.Literals as literals
 use Rattle.st_scope.specs.Tables.{bytes_of, is_text, first_field}
-use Rattle.st_install.specs.Plans.{Part, There, Made, NewObject, bytes_object, pointers_object, Store}
+use Rattle.st_install.specs.Plans.{PlannedValue, There, Made, NewObject, bytes_object, pointers_object, FieldStore}
 
 -- SYMBOLS THAT ARE THERE
 
@@ -47,20 +47,20 @@ symbols_in (l ∷ ls) = symbols_of l ++ symbols_in ls
 -- a Symbol by its text
 pub record NamedSymbol : Type 0 where
   pub text : List ℕ
-  pub part : Part
+  pub part : PlannedValue
 
-abbrev pub symbol_part : List NamedSymbol → List ℕ → Option Part
+abbrev pub symbol_part : List NamedSymbol → List ℕ → Option PlannedValue
 symbol_part ss text = option_map (λ s. s.part) (find (λ s. bytes_eq s.text text) ss)
 
 -- the table's value and its fields as they come to be, what is made and stored for that, and the Symbols by their texts
 pub record Symbols : Type 0 where
-  pub table : Part
-  pub fields : List Part
+  pub table : PlannedValue
+  pub fields : List PlannedValue
   pub objects : List NewObject
-  pub stores : List Store
+  pub stores : List FieldStore
   pub named : List NamedSymbol
 
-abbrev pub is_vacant : (nil : Value) → Part → Bool
+abbrev pub is_vacant : (nil : Value) → PlannedValue → Bool
 is_vacant nil (There v) = same_value v nil
 is_vacant nil (Made k) = false
 
@@ -78,7 +78,7 @@ module _ (nil array_class symbol_class association : Value) (text : List ℕ) (s
   vacant_field = position_or_len (is_vacant nil) s.fields
 
   -- the old fields, the Symbol behind them, and nil
-  abbrev pub grown_fields : List Part
+  abbrev pub grown_fields : List PlannedValue
   grown_fields = s.fields ++ Made new_number ∷ replicate (grown_size (length s.fields) - (length s.fields + 1)) (There nil)
 
   abbrev pub symbol_in_field : Symbols
@@ -115,7 +115,7 @@ found_or_made m association text s None = make_symbol m association text s
 found_or_made m association text s (Some v) = answer (record s { named = s.named ++ record { text = text; part = There v } ∷ [] })
 
 -- Symbols of the same text are one
-unfoldable pub seek_unless : {H : Type 0} → ObjectMemory H → Value → Value → List ℕ → Symbols → Option Part → Step H Symbols
+unfoldable pub seek_unless : {H : Type 0} → ObjectMemory H → Value → Value → List ℕ → Symbols → Option PlannedValue → Step H Symbols
 seek_unless m association table text s (Some p) = answer s
 seek_unless m association table text s None = do
   found ← symbol_named m table text

@@ -11,7 +11,7 @@ ghost use Rattle.st_protocol.specs.declared.installation.Installation.TheVariant
 use crate::installing::install;
 use crate::preparing::{Prepared, prepare};
 use crate::unprepared::Unprepared;
-use st_chunk::Definition;
+use st_chunk::LentDefinition;
 use st_memory::Memory;
 use st_protocol::Installation;
 use std::alloc::Global;
@@ -32,7 +32,7 @@ pub fn carry_out<M: Memory>(m: &mut M, prepared: Prepared) -> Vec<u8>
 
 /// Installs a definition, or says why it isn't installed. Whatever the registers and the world are for which the memory is
 /// ready, it is ready for them again.
-pub fn define<M: Memory>(alloc: Global, m: &mut M, definition: &Definition<'_>) -> Installation
+pub fn define<M: Memory>(alloc: Global, m: &mut M, definition: &LentDefinition<'_>) -> Installation
     requires good { IsDefinition (definition_of definition.now) }
     ensures installs { (f : Frame) (w : World) (s : State Births) → IsReady (M.view m.old) f w
         → Shows (shown (M.view m.old) f w) s

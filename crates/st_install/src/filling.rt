@@ -9,24 +9,24 @@ ghost use Rattle.st_install.specs.Installing.{part_value, part_values, store_met
 ghost use Rattle.st_install.specs.inside.Readies.{part_of, parts_of, object_of as planned_of, objects_of};
 ghost use Rattle.st_scope.specs.inside.Meanings.{values};
 
-use crate::plan::{NewObject, Part};
+use crate::plan::{NewObject, PlannedValue};
 use crate::sure::{store_byte, store_field, store_method_field};
 use st_memory::Memory;
 use st_model::{Kind, Oop};
 
 /// The pointer that a part stands for, once the objects are made.
-pub fn part_value(made: &[Oop], part: Part) -> Oop
+pub fn part_value(made: &[Oop], part: PlannedValue) -> Oop
     ensures { value result ≡ part_value nil (values made.now) (part_of part) }
 {
     match part {
-        Part::There(o) => o,
-        Part::Made(k) if (k as usize) < made.len() => made[k as usize],
-        Part::Made(_) => Oop::NIL,
+        PlannedValue::There(o) => o,
+        PlannedValue::Made(k) if (k as usize) < made.len() => made[k as usize],
+        PlannedValue::Made(_) => Oop::NIL,
     }
 }
 
 /// The parts go into the fields of an object, from field 0 on.
-fn store_fields<M: Memory>(m: &mut M, made: &[Oop], o: Oop, parts: &[Part])
+fn store_fields<M: Memory>(m: &mut M, made: &[Oop], o: Oop, parts: &[PlannedValue])
     requires goes { let fields = part_values nil (values made.now) (parts_of parts.now) in
         Goes (store_fields table (value o) 0 fields) (M.view m.old) }
     requires few { length parts.now ≤ 65535 }
@@ -41,7 +41,7 @@ fn store_fields<M: Memory>(m: &mut M, made: &[Oop], o: Oop, parts: &[Part])
 }
 
 /// The parts go into the header and the literals of a Method.
-fn store_method_fields<M: Memory>(m: &mut M, made: &[Oop], o: Oop, parts: &[Part])
+fn store_method_fields<M: Memory>(m: &mut M, made: &[Oop], o: Oop, parts: &[PlannedValue])
     requires goes { let fields = part_values nil (values made.now) (parts_of parts.now) in
         Goes (store_method_fields table (value o) 0 fields) (M.view m.old) }
     requires few { length parts.now ≤ 65535 }
@@ -70,7 +70,7 @@ fn store_bytes<M: Memory>(m: &mut M, o: Oop, to: u32, bytes: &[u8])
 }
 
 /// A Method gets its header, its literals and its bytes.
-fn fill_method<M: Memory>(m: &mut M, made: &[Oop], o: Oop, parts: &[Part], bytes: &[u8])
+fn fill_method<M: Memory>(m: &mut M, made: &[Oop], o: Oop, parts: &[PlannedValue], bytes: &[u8])
     requires goes { let fields = part_values nil (values made.now) (parts_of parts.now) in
         Goes (fill_method table (value o) fields bytes.now) (M.view m.old) }
     requires few { 2 * length parts.now + length bytes.now ≤ 131072 }

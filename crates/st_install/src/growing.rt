@@ -7,8 +7,8 @@ ghost use Rattle.st_install.specs.Dictionaries.{count_vacant, is_nearly_full, gr
 ghost use Rattle.st_install.specs.{inside.Readies.{part_of, parts_of}, inside.Naming.nil, inside.Growing.{objects_in, Grows}};
 ghost use Rattle.st_scope.specs.inside.Findings.{Finds};
 
-use crate::places::{Place, count_places, seek};
-use crate::plan::{NewObject, Part};
+use crate::places::{DictionaryPlace, count_places, seek};
+use crate::plan::{NewObject, PlannedValue};
 use crate::single::{ARRAY_CLASS, pointers_object};
 use st_memory::Memory;
 use st_model::{Dead, Oop};
@@ -40,16 +40,20 @@ fn is_nearly_full<M: Memory>(m: &M, dictionary: Oop) -> Result<bool, Dead>
 
 /// Whether a dictionary grows for a selector: where that is added to it and would leave no place of nil.
 #[tactic(auto, using(st_model::proofs::Runs::runs), unfolding(crate::specs::Dictionaries::grows_for, crate::specs::Dictionaries::place_of_selector, crate::specs::Dictionaries::grows_at))]
-pub(crate) fn grows_for<M: Memory>(m: &M, dictionary: Oop, selector: Part) -> Result<bool, Dead>
+pub(crate) fn grows_for<M: Memory>(
+    m: &M,
+    dictionary: Oop,
+    selector: PlannedValue,
+) -> Result<bool, Dead>
     ensures { let t = (M.view m.now).objects in
         Reads (grows_for table (value dictionary) (part_of selector)) itself t result }
 {
-    let Part::There(selector) = selector else {
+    let PlannedValue::There(selector) = selector else {
         return is_nearly_full(m, dictionary);
     };
     match seek(m, dictionary, selector, selector)? {
-        Some(Place::Holds(_)) => Ok(false),
-        Some(Place::Vacant(_)) | None => is_nearly_full(m, dictionary),
+        Some(DictionaryPlace::Holds(_)) => Ok(false),
+        Some(DictionaryPlace::Vacant(_)) | None => is_nearly_full(m, dictionary),
     }
 }
 
@@ -58,13 +62,13 @@ pub(crate) fn grows_for<M: Memory>(m: &M, dictionary: Oop, selector: Part) -> Re
 fn dictionary_fields(
     alloc: Global,
     tally: Oop,
-    methods: Part,
+    methods: PlannedValue,
     places: u32,
-) -> Result<Vec<Part>, AllocError>
+) -> Result<Vec<PlannedValue>, AllocError>
     ensures { IfOk result (λ fields. parts_of fields.items
         ≡ There (value tally) ∷ part_of methods ∷ replicate places (There nil)) }
 {
-    let mut fields = vec![in alloc; Part::There(tally), methods]?;
+    let mut fields = vec![in alloc; PlannedValue::There(tally), methods]?;
     let vacant = vacant_parts(alloc, places)?;
     fields.extend_from_slice(&vacant)?;
     Ok(fields)
@@ -72,10 +76,10 @@ fn dictionary_fields(
 
 /// So many parts of nil.
 #[tactic(auto, using(crate::proofs::Growth::parts))]
-fn vacant_parts(alloc: Global, count: u32) -> Result<Vec<Part>, AllocError>
+fn vacant_parts(alloc: Global, count: u32) -> Result<Vec<PlannedValue>, AllocError>
     ensures { IfOk result (λ parts. parts_of parts.items ≡ replicate count (There nil)) }
 {
-    vec![in alloc; Part::There(Oop::NIL); count as usize]
+    vec![in alloc; PlannedValue::There(Oop::NIL); count as usize]
 }
 
 /// A dictionary of the same class with the same tally and twice the places, which is object number `next`, and its Array.
@@ -94,7 +98,7 @@ fn grown_objects<M: Memory>(
     let class = class_of(m, dictionary)?;
     let tally = fetch_field(m, dictionary, 0)?;
     let places = count_places(m, dictionary)?;
-    let fields = dictionary_fields(alloc, tally, Part::Made(next + 1), 2 * places)?;
+    let fields = dictionary_fields(alloc, tally, PlannedValue::Made(next + 1), 2 * places)?;
     let methods = vacant_parts(alloc, 2 * places)?;
     let mut objects = Vec::new(alloc);
     objects.push(pointers_object(alloc, class, fields))?;
@@ -107,7 +111,7 @@ pub(crate) fn grown_for<M: Memory>(
     alloc: Global,
     m: &M,
     dictionary: Oop,
-    selector: Part,
+    selector: PlannedValue,
     next: u32,
 ) -> Result<Vec<NewObject>, Unread>
     requires { next < 4294967295 }

@@ -5,7 +5,7 @@ ghost use Rattle.st_install.specs.Plans.{Made};
 ghost use Rattle.st_install.specs.inside.Readies.{part_of, objects_of};
 ghost use Rattle.st_install.specs.inside.Told.{single_placed, literal_step, literals_step, array_step, Places, PlacesAll};
 
-use crate::plan::{NewObject, Owner, Part};
+use crate::plan::{NewObject, Owner, PlannedValue};
 use crate::single::{
     ARRAY_CLASS, NamedSymbols, Single, place_character, place_number, place_owner, place_pointer,
     place_string, place_symbol, pointers_object,
@@ -20,7 +20,7 @@ use std::alloc::{AllocError, Global};
 pub(crate) fn put_object(
     objects: &mut Vec<NewObject>,
     object: NewObject,
-) -> Result<Part, AllocError>
+) -> Result<PlannedValue, AllocError>
     ensures part { IfOk result (λ p. part_of p ≡ Made (length objects.old.items)) }
     ensures objects { OnOk result (objects.new.items ≡ objects.old.items ++ object ∷ []) }
 {
@@ -28,11 +28,11 @@ pub(crate) fn put_object(
         return Err(AllocError);
     };
     objects.push(object)?;
-    Ok(Part::Made(number))
+    Ok(PlannedValue::Made(number))
 }
 
 /// Puts what is made for a literal behind the objects.
-fn put(objects: &mut Vec<NewObject>, single: Single) -> Result<Part, AllocError>
+fn put(objects: &mut Vec<NewObject>, single: Single) -> Result<PlannedValue, AllocError>
     ensures part { let next = length objects.old.items in
         IfOk result (λ p. part_of p ≡ (single_placed next single).part) }
     ensures objects { let placed = single_placed (length objects.old.items) single in
@@ -53,7 +53,7 @@ fn place_array<M: Memory>(
     of: Owner,
     members: &[Literal],
     objects: &mut Vec<NewObject>,
-) -> Result<Part, Unread>
+) -> Result<PlannedValue, Unread>
     ensures { let step = array_step named.now.entries of (length objects.old.items) members.now in
         Places step (M.view m.now).objects objects.old.items objects.new.items result }
 {
@@ -76,7 +76,7 @@ fn place_literal<M: Memory>(
     of: Owner,
     literal: &Literal,
     objects: &mut Vec<NewObject>,
-) -> Result<Part, Unread>
+) -> Result<PlannedValue, Unread>
     ensures { let step = literal_step named.now.entries of (length objects.old.items) literal.now in
         Places step (M.view m.now).objects objects.old.items objects.new.items result }
 {
@@ -116,7 +116,7 @@ pub(crate) fn place_literals<M: Memory>(
     of: Owner,
     literals: &[Literal],
     objects: &mut Vec<NewObject>,
-) -> Result<Vec<Part>, Unread>
+) -> Result<Vec<PlannedValue>, Unread>
     ensures { let step = literals_step named.now.entries of (length objects.old.items) literals.now in
         PlacesAll step (M.view m.now).objects objects.old.items objects.new.items result }
 {

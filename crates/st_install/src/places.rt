@@ -11,7 +11,7 @@ use st_scope::{count_fields, fetch_field};
 
 /// The place at which a search ends, counted from 0.
 #[derive(Clone, Copy, Debug, PartialEq, Eq)]
-pub enum Place {
+pub enum DictionaryPlace {
     /// It holds what is sought.
     Holds(u32),
     /// It holds nil, and no place before it what is sought.
@@ -25,17 +25,17 @@ fn look_at_place<M: Memory>(
     dictionary: Oop,
     sought: Oop,
     k: u32,
-) -> Result<Option<Place>, Dead>
+) -> Result<Option<DictionaryPlace>, Dead>
     requires small { k < 262144 }
     ensures ends { SeeksAt (value dictionary) (value sought) k (M.view m.now).objects result }
     ensures small { IfOk result IsSmallPlace }
 {
     let held = fetch_field(m, dictionary, 2 + k)?;
     if held.0 == sought.0 {
-        return Ok(Some(Place::Holds(k)));
+        return Ok(Some(DictionaryPlace::Holds(k)));
     }
     if held.0 == Oop::NIL.0 {
-        return Ok(Some(Place::Vacant(k)));
+        return Ok(Some(DictionaryPlace::Vacant(k)));
     }
     Ok(None)
 }
@@ -47,7 +47,7 @@ fn look_at_places<M: Memory>(
     sought: Oop,
     from: u32,
     to: u32,
-) -> Result<Option<Place>, Dead>
+) -> Result<Option<DictionaryPlace>, Dead>
     requires order { from ≤ to }
     requires small { to < 262144 }
     ensures ends { let t = (M.view m.now).objects in
@@ -69,7 +69,7 @@ fn seek_from<M: Memory>(
     sought: Oop,
     places: u32,
     start: u32,
-) -> Result<Option<Place>, Dead>
+) -> Result<Option<DictionaryPlace>, Dead>
     requires order { start ≤ places }
     requires small { places < 262144 }
     ensures ends { let t = (M.view m.now).objects in
@@ -112,7 +112,7 @@ pub fn seek<M: Memory>(
     dictionary: Oop,
     sought: Oop,
     selector: Oop,
-) -> Result<Option<Place>, Dead>
+) -> Result<Option<DictionaryPlace>, Dead>
     ensures ends { let t = (M.view m.now).objects in
         Reads (seek table (value dictionary) (value sought) (value selector)) ending_of t result }
     ensures small { IfOk result IsSmallPlace }

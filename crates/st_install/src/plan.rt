@@ -13,7 +13,7 @@ pub(crate) struct Owner {
 
 /// A value that is there, or the object of this number among those that are made, counted from 0.
 #[derive(Clone, Copy)]
-pub(crate) enum Part {
+pub(crate) enum PlannedValue {
     There(Oop),
     Made(u32),
 }
@@ -23,16 +23,16 @@ pub(crate) enum Part {
 pub(crate) struct NewObject {
     pub class: Oop,
     pub kind: Kind,
-    pub fields: Vec<Part>,
+    pub fields: Vec<PlannedValue>,
     pub bytes: Vec<u8>,
 }
 
 /// A value that goes into a field of the symbol table.
 #[derive(Clone, Copy)]
 pub(crate) struct SymbolStore {
-    pub object: Part,
+    pub object: PlannedValue,
     pub field: u32,
-    pub value: Part,
+    pub value: PlannedValue,
 }
 
 /// What an installation makes and stores, with room for the pointers of what it makes.
@@ -42,8 +42,8 @@ pub struct Ready {
     pub(crate) objects: Vec<NewObject>,
     /// The stores into the symbol table, in their order.
     pub(crate) symbol_stores: Vec<SymbolStore>,
-    pub(crate) selector: Part,
-    pub(crate) method: Part,
+    pub(crate) selector: PlannedValue,
+    pub(crate) method: PlannedValue,
     pub(crate) class: Oop,
     /// The class's method dictionary.
     pub(crate) dictionary: Oop,

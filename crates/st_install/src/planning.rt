@@ -9,7 +9,7 @@ ghost use Rattle.st_scope.specs.inside.Findings.{Finds};
 
 use crate::growing::grown_for;
 use crate::literals::{place_literals, put_object};
-use crate::plan::{NewObject, Owner, Part, Ready, SymbolStore};
+use crate::plan::{NewObject, Owner, PlannedValue, Ready, SymbolStore};
 use crate::single::named_symbol;
 use crate::sizes::{check_size, method_object};
 use crate::symbol_plan::symbols_for;
@@ -24,8 +24,8 @@ use std::alloc::{AllocError, Global};
 pub(crate) struct PlanDraft {
     pub objects: Vec<NewObject>,
     pub stores: Vec<SymbolStore>,
-    pub literals: Vec<Part>,
-    pub selector: Part,
+    pub literals: Vec<PlannedValue>,
+    pub selector: PlannedValue,
 }
 
 /// The dictionary of a class, and where it grows the number of the one that takes its place, with the objects of that.
@@ -41,7 +41,7 @@ fn growth_of<M: Memory>(
     alloc: Global,
     m: &M,
     class: Oop,
-    selector: Part,
+    selector: PlannedValue,
     next: u32,
 ) -> Result<Growth, Unread>
     requires { next < 4294967295 }

@@ -8,7 +8,7 @@ ghost use Rattle.st_install.specs.inside.Prepareds.{PreparesAs};
 use crate::plan::Ready;
 use crate::readiness::ready;
 use crate::unprepared::Unprepared;
-use st_chunk::Definition;
+use st_chunk::LentDefinition;
 use st_code::compile;
 use st_memory::Memory;
 use st_parse::parse;
@@ -30,7 +30,7 @@ pub struct Prepared {
 pub fn prepare<M: Memory>(
     alloc: Global,
     m: &M,
-    definition: &Definition<'_>,
+    definition: &LentDefinition<'_>,
 ) -> Result<Prepared, Unprepared>
     requires good { IsDefinition (definition_of definition.now) }
     ensures { PreparesAs (M.view m.now) (definition_of definition.now) result }

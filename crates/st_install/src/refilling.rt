@@ -6,7 +6,7 @@ ghost use Rattle.st_install.specs.inside.Carried.{Goes, Becomes};
 ghost use Rattle.st_install.specs.Dictionaries.{put_method, put_at, refill_unless, refill_from, refill};
 ghost use Rattle.st_install.specs.inside.Endings.{ending_of, IsSmallPlace};
 
-use crate::places::{Place, count_places, seek};
+use crate::places::{DictionaryPlace, count_places, seek};
 use crate::sure::{field, store_field};
 use st_memory::Memory;
 use st_model::Oop;
@@ -32,7 +32,7 @@ pub fn put_method<M: Memory>(
 }
 
 /// A selector and its method go to the place of nil at which the search ended.
-fn put_at<M: Memory>(m: &mut M, dictionary: Oop, selector: Oop, method: Oop, place: Place)
+fn put_at<M: Memory>(m: &mut M, dictionary: Oop, selector: Oop, method: Oop, place: DictionaryPlace)
     requires goes { let end = ending_of (Some place) in
         Goes (put_at table (value dictionary) (value selector) (value method) end) (M.view m.old) }
     requires small { IsSmallPlace (Some place) }
@@ -41,11 +41,11 @@ fn put_at<M: Memory>(m: &mut M, dictionary: Oop, selector: Oop, method: Oop, pla
         (M.view m.old) tt (M.view m.new) }
 {
     match place {
-        Place::Holds(k) => {
+        DictionaryPlace::Holds(k) => {
             let methods = field(m, dictionary, 1);
             put_method(m, dictionary, methods, k, selector, method);
         }
-        Place::Vacant(_) => unreachable!(),
+        DictionaryPlace::Vacant(_) => unreachable!(),
     }
 }
 

@@ -7,7 +7,7 @@ ghost use Rattle.st_install.specs.Literals.{negated, large_bytes, place_number, 
 ghost use Rattle.st_install.specs.inside.Readies.{part_of, parts_of, object_of};
 ghost use Rattle.st_install.specs.inside.Told.{IsSingle, TellsSingle, part_placed, owner_step, named_of};
 
-use crate::plan::{NewObject, Owner, Part};
+use crate::plan::{NewObject, Owner, PlannedValue};
 use st_memory::Memory;
 use st_model::{Dead, Kind, Oop};
 use st_scan::{Signed, Text};
@@ -24,12 +24,12 @@ const LARGE_CLASS: Oop = Oop(28);
 const CHARACTERS: Oop = Oop(50);
 
 /// Symbols by their texts.
-pub(crate) type NamedSymbols = BTreeMap<Text, Part>;
+pub(crate) type NamedSymbols = BTreeMap<Text, PlannedValue>;
 
 /// A literal that is a value, or one object that is made for it.
 #[derive(Drop)]
 pub(crate) enum Single {
-    Value(Part),
+    Value(PlannedValue),
     Object(NewObject),
 }
 
@@ -46,7 +46,7 @@ pub(crate) fn bytes_object(alloc: Global, class: Oop, bytes: Text) -> NewObject
 }
 
 /// An object of kind Pointers.
-pub(crate) fn pointers_object(alloc: Global, class: Oop, fields: Vec<Part>) -> NewObject
+pub(crate) fn pointers_object(alloc: Global, class: Oop, fields: Vec<PlannedValue>) -> NewObject
     ensures { object_of result ≡ pointers_object (value class) (parts_of fields.items) }
 {
     NewObject {
@@ -99,10 +99,10 @@ pub(crate) fn place_number(alloc: Global, n: Signed) -> Result<Single, AllocErro
     ensures { IfOk result (λ x. (t : Table) → IsSingle (λ next. place_number table next n) t x) }
 {
     if n.minus {
-        return Ok(Single::Value(Part::There(negated(n.size))));
+        return Ok(Single::Value(PlannedValue::There(negated(n.size))));
     }
     if n.size < 16384 {
-        return Ok(Single::Value(Part::There(small(n.size as u16))));
+        return Ok(Single::Value(PlannedValue::There(small(n.size as u16))));
     }
     let bytes = large_bytes(alloc, n.size)?;
     Ok(Single::Object(bytes_object(alloc, LARGE_CLASS, bytes)))
@@ -110,10 +110,10 @@ pub(crate) fn place_number(alloc: Global, n: Signed) -> Result<Single, AllocErro
 
 /// The Character of a byte: the field of its number in the table of characters.
 #[tactic(auto, using(st_model::proofs::Runs::runs), unfolding(crate::specs::Literals::place_character, st_model::specs::Values::value_of))]
-pub(crate) fn place_character<M: Memory>(m: &M, byte: u8) -> Result<Part, Dead>
+pub(crate) fn place_character<M: Memory>(m: &M, byte: u8) -> Result<PlannedValue, Dead>
     ensures { Reads (place_character table byte) part_placed (M.view m.now).objects result }
 {
-    Ok(Part::There(fetch_field(m, CHARACTERS, u32::from(byte))?))
+    Ok(PlannedValue::There(fetch_field(m, CHARACTERS, u32::from(byte))?))
 }
 
 /// A String.
@@ -126,7 +126,7 @@ pub(crate) fn place_string(alloc: Global, text: &[u8]) -> Result<Single, AllocEr
 }
 
 /// The Symbol of a text, if the map has one.
-pub(crate) fn named_symbol(named: &NamedSymbols, text: &[u8]) -> Option<Part>
+pub(crate) fn named_symbol(named: &NamedSymbols, text: &[u8]) -> Option<PlannedValue>
     ensures { option_map part_of result ≡ symbol_part (named_of named.now.entries) text.now }
 {
     named.get(text).copied()
@@ -134,7 +134,7 @@ pub(crate) fn named_symbol(named: &NamedSymbols, text: &[u8]) -> Option<Part>
 
 /// The Symbol of a text.
 #[tactic(auto, using(st_model::proofs::Runs::runs), unfolding(crate::specs::Literals::place_symbol))]
-pub(crate) fn place_symbol(named: &NamedSymbols, text: &[u8]) -> Result<Part, Dead>
+pub(crate) fn place_symbol(named: &NamedSymbols, text: &[u8]) -> Result<PlannedValue, Dead>
     ensures { let step = place_symbol (named_of named.now.entries) text.now in
         (t : Table) → Reads step part_placed t result }
 {
@@ -146,12 +146,12 @@ pub(crate) fn place_symbol(named: &NamedSymbols, text: &[u8]) -> Result<Part, De
 
 /// The object that bears a pointer: an association, nil, false or true.
 #[tactic(auto, using(st_model::proofs::Runs::runs), unfolding(crate::specs::Literals::place_pointer))]
-pub(crate) fn place_pointer<M: Memory>(m: &M, pointer: Oop) -> Result<Part, Dead>
+pub(crate) fn place_pointer<M: Memory>(m: &M, pointer: Oop) -> Result<PlannedValue, Dead>
     ensures { Reads (place_pointer table pointer.0) part_placed (M.view m.now).objects result }
 {
     let object = Oop(pointer.0 / 2 * 2);
     if m.live(object) {
-        Ok(Part::There(object))
+        Ok(PlannedValue::There(object))
     } else {
         Err(Dead::Kind)
     }
@@ -163,11 +163,11 @@ pub(crate) fn place_owner<M: Memory>(alloc: Global, m: &M, owner: Owner) -> Resu
     ensures { TellsSingle (owner_step owner) (M.view m.now).objects result }
 {
     if !owner.meta {
-        return Ok(Single::Value(Part::There(owner.association)));
+        return Ok(Single::Value(PlannedValue::There(owner.association)));
     }
     let kind = class_of(m, owner.association)?;
     let mut fields = Vec::new(alloc);
-    fields.push(Part::There(Oop::NIL))?;
-    fields.push(Part::There(owner.class))?;
+    fields.push(PlannedValue::There(Oop::NIL))?;
+    fields.push(PlannedValue::There(owner.class))?;
     Ok(Single::Object(pointers_object(alloc, kind, fields)))
 }

@@ -6,7 +6,7 @@ ghost use Rattle.st_install.specs.Plans.{There, method_object, words_of_new};
 ghost use Rattle.st_install.specs.{Shapes.{most_of_one, all_fit, check_size}, inside.Rooms.AreSmall};
 ghost use Rattle.st_install.specs.inside.Readies.{parts_of, object_of, objects_of};
 
-use crate::plan::{NewObject, Part};
+use crate::plan::{NewObject, PlannedValue};
 use st_model::{Dead, Kind, Oop};
 use std::alloc::{AllocError, Global};
 
@@ -53,13 +53,13 @@ pub(crate) fn check_size(objects: &[NewObject]) -> Result<(), Dead>
 pub(crate) fn method_object(
     alloc: Global,
     header: u16,
-    literals: &[Part],
+    literals: &[PlannedValue],
     bytes: Vec<u8>,
 ) -> Result<NewObject, AllocError>
     ensures { IfOk result (λ o. object_of o
         ≡ method_object (value_of 34) (There (value_of header) ∷ parts_of literals.now) bytes.items) }
 {
-    let mut fields = vec![in alloc; Part::There(Oop(header))]?;
+    let mut fields = vec![in alloc; PlannedValue::There(Oop(header))]?;
     fields.extend_from_slice(literals)?;
     Ok(NewObject {
         class: METHOD_CLASS,

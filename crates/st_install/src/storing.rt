@@ -9,8 +9,8 @@ ghost use Rattle.st_install.specs.{inside.Placings.placing_of, inside.Readies.{s
 ghost use Rattle.st_scope.specs.inside.Meanings.{values};
 
 use crate::filling::part_value;
-use crate::places::{Place, seek};
-use crate::plan::{Part, Ready, SymbolStore};
+use crate::places::{DictionaryPlace, seek};
+use crate::plan::{PlannedValue, Ready, SymbolStore};
 use crate::refilling::{put_method, refill};
 use crate::sure::{field, store_field};
 use st_memory::Memory;
@@ -22,7 +22,7 @@ pub struct Placing {
     pub dictionary: Oop,
     pub methods: Oop,
     pub tally: Oop,
-    pub place: Option<Place>,
+    pub place: Option<DictionaryPlace>,
 }
 
 /// The stores into the symbol table, in their order.
@@ -48,7 +48,7 @@ pub fn target<M: Memory>(m: &mut M, made: &[Oop], old: Oop, grown: Option<u32>) 
 {
     match grown {
         Some(k) => {
-            let new = part_value(made, Part::Made(k));
+            let new = part_value(made, PlannedValue::Made(k));
             refill(m, old, new);
             new
         }
@@ -98,8 +98,8 @@ fn add_at<M: Memory>(m: &mut M, placing: Placing, selector: Oop, method: Oop)
 {
     let place = placing.place.unwrap();
     match place {
-        Place::Holds(k) => store_field(m, placing.methods, k, method),
-        Place::Vacant(k) => {
+        DictionaryPlace::Holds(k) => store_field(m, placing.methods, k, method),
+        DictionaryPlace::Vacant(k) => {
             put_method(m, placing.dictionary, placing.methods, k, selector, method);
             store_field(m, placing.dictionary, 0, raised_tally(placing.tally));
         }

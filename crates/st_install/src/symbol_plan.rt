@@ -8,7 +8,7 @@ ghost use Rattle.st_install.specs.{inside.Readies.{part_of, parts_of}, inside.To
 ghost use Rattle.st_install.specs.inside.Naming.{nil, Becomes, with_named, in_field, in_array, with_made, naming, TellsFields, TellsNaming, TellsNames};
 
 use crate::literals::put_object;
-use crate::plan::{NewObject, Part, SymbolStore};
+use crate::plan::{NewObject, PlannedValue, SymbolStore};
 use crate::single::{ARRAY_CLASS, NamedSymbols, bytes_object, named_symbol, pointers_object};
 use crate::symbols::symbol_named;
 use st_emit::Literal;
@@ -23,8 +23,8 @@ const SYMBOL_CLASS: Oop = Oop(56);
 /// The symbol table's value and its fields as they come to be, what is made and stored for that, and the Symbols by their texts.
 #[derive(Drop)]
 pub(crate) struct SymbolPlan {
-    pub table: Part,
-    pub fields: Vec<Part>,
+    pub table: PlannedValue,
+    pub fields: Vec<PlannedValue>,
     pub objects: Vec<NewObject>,
     pub stores: Vec<SymbolStore>,
     pub named: NamedSymbols,
@@ -32,17 +32,17 @@ pub(crate) struct SymbolPlan {
 
 /// Whether it is nil, and not an object that is made.
 #[tactic(auto, using(crate::proofs::Vacancies::vacancies))]
-fn is_vacant(part: Part) -> bool
+fn is_vacant(part: PlannedValue) -> bool
     ensures { result ≡ is_vacant nil (part_of part) }
 {
     match part {
-        Part::There(o) => o.0 == 2,
-        Part::Made(_) => false,
+        PlannedValue::There(o) => o.0 == 2,
+        PlannedValue::Made(_) => false,
     }
 }
 
 /// The first field that is nil, or how many fields there are.
-fn vacant_field(fields: &[Part]) -> usize
+fn vacant_field(fields: &[PlannedValue]) -> usize
     ensures { result ≡ position_or_len (is_vacant nil) (parts_of fields.now) }
 {
     for (i, part) in fields.iter().enumerate() {
@@ -54,7 +54,12 @@ fn vacant_field(fields: &[Part]) -> usize
 }
 
 /// Notes the Symbol of a text of which none is noted.
-fn note(alloc: Global, plan: &mut SymbolPlan, text: &[u8], symbol: Part) -> Result<(), AllocError>
+fn note(
+    alloc: Global,
+    plan: &mut SymbolPlan,
+    text: &[u8],
+    symbol: PlannedValue,
+) -> Result<(), AllocError>
     requires { symbol_part (named_of plan.old.named.entries) text.now ≡ None }
     ensures { OnOk result (Becomes (with_named text.now (part_of symbol)) plan.old plan.new) }
 {
@@ -63,7 +68,11 @@ fn note(alloc: Global, plan: &mut SymbolPlan, text: &[u8], symbol: Part) -> Resu
 }
 
 /// Puts a new Symbol into a field of the table.
-fn put_in_field(plan: &mut SymbolPlan, symbol: Part, vacant: usize) -> Result<(), AllocError>
+fn put_in_field(
+    plan: &mut SymbolPlan,
+    symbol: PlannedValue,
+    vacant: usize,
+) -> Result<(), AllocError>
     requires { vacant < length plan.old.fields.items }
     ensures { OnOk result (Becomes (in_field vacant (part_of symbol)) plan.old plan.new) }
 {
@@ -83,21 +92,21 @@ fn put_in_field(plan: &mut SymbolPlan, symbol: Part, vacant: usize) -> Result<()
 fn put_in_array(
     alloc: Global,
     plan: &mut SymbolPlan,
-    symbol: Part,
+    symbol: PlannedValue,
     association: Oop,
 ) -> Result<(), AllocError>
     ensures { OnOk result (Becomes (in_array association (part_of symbol)) plan.old plan.new) }
 {
     let size = (2 * plan.fields.len()).max(16);
     plan.fields.push(symbol)?;
-    plan.fields.resize(size, Part::There(Oop::NIL))?;
+    plan.fields.resize(size, PlannedValue::There(Oop::NIL))?;
     let fields = plan.fields.to_vec(alloc)?;
     let array = put_object(
         &mut plan.objects,
         pointers_object(alloc, ARRAY_CLASS, fields),
     )?;
     plan.stores.push(SymbolStore {
-        object: Part::There(association),
+        object: PlannedValue::There(association),
         field: 1,
         value: array,
     })?;
@@ -140,7 +149,7 @@ fn seek_symbol<M: Memory>(
         TellsNaming step (M.view m.now).objects plan.old plan.new result }
 {
     match symbol_named(m, array, text)? {
-        Some(symbol) => Ok(note(alloc, plan, text, Part::There(symbol))?),
+        Some(symbol) => Ok(note(alloc, plan, text, PlannedValue::There(symbol))?),
         None => Ok(make_symbol(alloc, plan, association, text)?),
     }
 }
@@ -207,13 +216,13 @@ fn name_literals<M: Memory>(
 }
 
 /// The fields of an object of kind Pointers.
-fn fields_of<M: Memory>(alloc: Global, m: &M, o: Oop) -> Result<Vec<Part>, Unread>
+fn fields_of<M: Memory>(alloc: Global, m: &M, o: Oop) -> Result<Vec<PlannedValue>, Unread>
     ensures { TellsFields (value o) (M.view m.now).objects result }
 {
     let count = count_fields(m, o)?;
     let mut fields = Vec::new(alloc);
     for i in 0..count {
-        fields.push(Part::There(fetch_field(m, o, i)?))?;
+        fields.push(PlannedValue::There(fetch_field(m, o, i)?))?;
     }
     Ok(fields)
 }
@@ -232,7 +241,7 @@ pub(crate) fn symbols_for<M: Memory>(
 {
     let array = fetch_field(m, association, 1)?;
     let mut plan = SymbolPlan {
-        table: Part::There(array),
+        table: PlannedValue::There(array),
         fields: fields_of(alloc, m, array)?,
         objects: Vec::new(alloc),
         stores: Vec::new(alloc),

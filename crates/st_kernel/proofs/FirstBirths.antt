@@ -24,7 +24,7 @@ use Rattle.st_first_objects.specs.declared.thing.What.{What}
 use Rattle.st_first_objects.specs.declared.thing.What.TheVariants as what
 use Rattle.st_first_objects.specs.Things.{Thing, only, same, class as class_thing, symbol}
 use Rattle.st_first_objects.specs.Orders.{want, want_all, empty, page}
-use Rattle.st_first_objects.specs.Plans.{Plan, plan}
+use Rattle.st_first_objects.specs.Plans.{FirstObjects, plan}
 use Rattle.st_first_objects.specs.Contents.{Field, Empty, Number, To, Body, Fields, Bytes, NoWords, content_of, content}
 use Rattle.st_first_objects.specs.Pointers.{place, place_at, place_in, value_in, object, object_by, object_in}
 use Rattle.st_first_objects.specs.First.{head_in, first_view, fit_beside, has_room}
@@ -43,17 +43,17 @@ use Rattle.st_model.proofs.Entries.{entry-set_same, entry-set_other}
 
 -- EACH THING'S OBJECT AT ITS PLACE
 
-pub record IsAt (p : Plan) (k : ℕ) (o : Object) : Type 0 where
+pub record IsAt (p : FirstObjects) (k : ℕ) (o : Object) : Type 0 where
   pub turn : ℕ
   pub thing : Thing
   pub at_place : k ≡ place turn
   pub is_thing : slice_get p.order.things turn ≡ Some thing
   pub is_object : o ≡ object p thing
 
-abbrev pub AreAt : Plan → Table → Type 0
+abbrev pub AreAt : FirstObjects → Table → Type 0
 AreAt p t = (k : ℕ) (o : Object) → entry t k ≡ Some o → IsAt p k o
 
-module _ (p : Plan) (begun : View) (is : IsBegun p begun) where
+module _ (p : FirstObjects) (begun : View) (is : IsBegun p begun) where
   abbrev Done : Type 0
   Done = (v : View) × (used : ℕ) × Underway p begun v used (length p.order.things) × AreAt p v.objects
 
@@ -126,7 +126,7 @@ tail_same : (a b : Value) (xs ys : List Value) → a ∷ xs ≡ b ∷ ys → xs 
 tail_same a b xs ys q = cc
 
 -- the place of an ordinary thing
-record IsOrdinaryPlace (p : Plan) (k : ℕ) : Type 0 where
+record IsOrdinaryPlace (p : FirstObjects) (k : ℕ) : Type 0 where
   turn : ℕ
   thing : Thing
   at_place : k ≡ place turn
@@ -134,7 +134,7 @@ record IsOrdinaryPlace (p : Plan) (k : ℕ) : Type 0 where
   ordinary : IsOrdinary thing
 
 -- a kept birth that bears one
-abbrev Among : Plan → Births → ℕ → Type 0
+abbrev Among : FirstObjects → Births → ℕ → Type 0
 Among p h n = (k : ℕ) × (borne h n ≡ Some k) × IsOrdinaryPlace p k
 
 nil_paged : slice_get (want_all empty page).things 0 ≡ Some (only what.Nil)
@@ -154,7 +154,7 @@ unfolding place
 place_3 = refl
 
 module _ (text : Account) (first : Placed text) where
-  abbrev p : Plan
+  abbrev p : FirstObjects
   p = plan text
 
   abbrev things : List Thing

@@ -15,7 +15,7 @@ use Rattle.st_first_objects.specs.declared.thing.What.TheVariants as what
 use Rattle.st_first_objects.specs.Things.{Thing, only, named, within, is, same, class as class_thing}
 use Rattle.st_first_objects.specs.Classes.{is_nil}
 use Rattle.st_first_objects.specs.Orders.{Order, put, is_made, with_symbol, want, want_all, empty, page, characters, want_parts, selectors, selector_symbols, lists, first_things, order, numbered_from}
-use Rattle.st_first_objects.specs.Plans.{Plan, declared}
+use Rattle.st_first_objects.specs.Plans.{FirstObjects, declared}
 use Rattle.st_first_objects.specs.Contents.{Field, Empty, Number, To, Body, Fields, Bytes, NoWords, all_of, members, instance, superclass, meta_superclass, is_shared_of, padded, selector_fields, content_of}
 use Rattle.st_first_objects.proofs.Counts.{further, all_begins}
 use Rattle.st_first_objects.proofs.Complete.{got_before, page_begins}
@@ -62,7 +62,7 @@ filtered holds f (t ∷ ts) = by_test (filtered holds f ts) (holds t) refl
     by_test later true e = (f t e, later)
     by_test later false e = later
 
-members_to : (p : Plan) (holds : Thing → Bool) → ((t : Thing) → holds t ≡ true → IsOrdinary t) → AllByRecursion ToOrdinary (members p holds)
+members_to : (p : FirstObjects) (holds : Thing → Bool) → ((t : Thing) → holds t ≡ true → IsOrdinary t) → AllByRecursion ToOrdinary (members p holds)
 members_to p holds f = all_to (filter holds p.order.things) (filtered holds f p.order.things)
 
 numbered_ordinary : (w : What) (from count : ℕ) → is_ordinary w ≡ true → AllByRecursion IsOrdinary (numbered_from w from count)
@@ -126,7 +126,7 @@ eight_to = empties_to 8
 
 -- CONTENTS
 
-pub content_to : (p : Plan) (w : What) (name : List ℕ) (number : ℕ) → is_ordinary w ≡ true → OfOrdinary (content_of p w name number).body
+pub content_to : (p : FirstObjects) (w : What) (name : List ℕ) (number : ℕ) → is_ordinary w ≡ true → OfOrdinary (content_of p w name number).body
 content_to p what.Nil name number h = instance_to (codes "UndefinedObject") _ _
 content_to p what.False name number h = instance_to (codes "False") _ _
 content_to p what.True name number h = instance_to (codes "True") _ _
@@ -153,7 +153,7 @@ content_to p what.Scheduler name number h = cc
 content_to p what.Lists name number h = lists_to
 content_to p what.List name number h = (tt, (tt, tt))
 
-pub class_ordinary : (p : Plan) (w : What) (name : List ℕ) (number : ℕ) → IsOrdinary (content_of p w name number).class
+pub class_ordinary : (p : FirstObjects) (w : What) (name : List ℕ) (number : ℕ) → IsOrdinary (content_of p w name number).class
 class_ordinary p what.Nil name number = instance_class (codes "UndefinedObject") (declared p (codes "UndefinedObject")).shape (declared p (codes "UndefinedObject")).fields
 class_ordinary p what.False name number = instance_class (codes "False") (declared p (codes "False")).shape (declared p (codes "False")).fields
 class_ordinary p what.True name number = instance_class (codes "True") (declared p (codes "True")).shape (declared p (codes "True")).fields

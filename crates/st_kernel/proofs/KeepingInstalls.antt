@@ -16,7 +16,7 @@ use Rattle.st_model.specs.Formed.{fresh_with}
 use Rattle.st_model.specs.Steps.{found, object_named, object, of_page, stored_at, store_at, set_field, fit_units, units_set, set_units_at, set_units, made, new_of, make_named, make, check, store_field, store_fields, store_byte, store_bytes, store_method_field}
 use Rattle.st_model.proofs.BirthLemmas.{replaced-born, replaced-other, length-replaced, bearer-replaced, length-born, born-last, born-other, bearer-born, object_within}
 use Rattle.st_simulation.proofs.Same.{Anything, set_all_live}
-use Rattle.st_install.specs.Plans.{Part, There, Made, NewObject, Store, Plan}
+use Rattle.st_install.specs.Plans.{PlannedValue, There, Made, NewObject, FieldStore, Plan}
 use Rattle.st_install.specs.Dictionaries.{Ending, Holds, Vacant, Nowhere, put_method, put_at, refill_unless, refill_from, refill_among, refill, raised_tally}
 use Rattle.st_install.specs.Installing.{size_by, literals_by, make_new, make_all, part_value, part_values, store_method_fields, fill_method, fill_by, fill_all, store_all, Placing, target, find_place, adopt, add_at, store_planned, fill_and_store, install}
 use Rattle.st_kernel.proofs.Keeping.{IsIn, Leads, Kept, Keeps, then_keeps, next_keeps, answer_keeps, die_keeps, page_keeps, field_keeps}
@@ -364,7 +364,7 @@ module _ (K : ℕ → Type 0) (z : Fixed) (p : Plan) (is : IsPlanIn K p) (from :
     made_live : (k : ℕ) → C k → IsLive K' (get_or all_made k nil)
     made_live k c = name_or (λ v. IsLive K' v) from k p.objects nil nil_there (λ l. inr (k, refl, l, c))
 
-    part_live : (q : Part) → IsPartIn K C q → IsLive K' (part_value nil all_made q)
+    part_live : (q : PlannedValue) → IsPartIn K C q → IsLive K' (part_value nil all_made q)
     part_live (There v) h = live_up v h
     part_live (Made k) h = made_live k h
 
@@ -372,12 +372,12 @@ module _ (K : ℕ → Type 0) (z : Fixed) (p : Plan) (is : IsPlanIn K p) (from :
     takes_live (Small n) x h = tt
     takes_live (Ref n) x h = λ k. h
 
-    parts_take : (v : Value) (qs : List Part) → AllByRecursion (IsPartIn K C) qs → AllByRecursion (Takes K' z full v) (part_values nil all_made qs)
+    parts_take : (v : Value) (qs : List PlannedValue) → AllByRecursion (IsPartIn K C) qs → AllByRecursion (Takes K' z full v) (part_values nil all_made qs)
     parts_take v [] h = tt
     parts_take v (q ∷ qs) h = (takes_live v _ (part_live q h.0), parts_take v qs h.1)
 
     -- into what was all_made for a literal goes anything
-    unchosen : (k : ℕ) (qs : List Part) → ((K' (from + k)) → AllByRecursion (Takes K' z full (Ref (from + k))) (part_values nil all_made qs))
+    unchosen : (k : ℕ) (qs : List PlannedValue) → ((K' (from + k)) → AllByRecursion (Takes K' z full (Ref (from + k))) (part_values nil all_made qs))
         → AllByRecursion (Takes K' z full (Ref (from + k))) (part_values nil all_made qs)
     unchosen k [] h = tt
     unchosen k (q ∷ qs) h = (λ c. (h c).0 c, unchosen k qs (λ c. (h c).1))
@@ -455,7 +455,7 @@ module _ (K : ℕ → Type 0) (z : Fixed) (p : Plan) (is : IsPlanIn K p) (from :
         (λ t b. then_keeps J Anything IsPlacingIn _ _ (place_keeps K' J leads d x h)
         (λ e u. answer_keeps J IsPlacingIn _ (record { dictionary = h; methods = a; tally = b }))))
 
-    stores_keep : (ss : List Store) → AllByRecursion (IsStoreIn K C) ss → Keeps J Anything (store_all births nil all_made ss)
+    stores_keep : (ss : List FieldStore) → AllByRecursion (IsStoreIn K C) ss → Keeps J Anything (store_all births nil all_made ss)
     unfolding store_all
     stores_keep [] h = answer_keeps J Anything tt tt
     stores_keep (s ∷ ss) h =

@@ -20,7 +20,7 @@ use Rattle.st_scope.specs.declared.fault.InstallFault.TheVariants.{NoClass}
 use Rattle.st_scope.specs.Tables.{check_fields, bytes_of, member_key, member_name, has_name, is_text, found_or, first_from, first_field, member_named}
 use Rattle.st_scope.specs.Classes.{class_association, class_on_side, class_named}
 use Rattle.st_scope.specs.Calls.{or_fault, class_among, class_of_name}
-use Rattle.st_install.specs.Plans.{Part, There, Made, NewObject, Store, Plan, bytes_object, pointers_object, method_object}
+use Rattle.st_install.specs.Plans.{PlannedValue, There, Made, NewObject, FieldStore, Plan, bytes_object, pointers_object, method_object}
 use Rattle.st_install.specs.Symbols.{symbol_text, is_symbol, symbol_named, NamedSymbol, symbol_part, Symbols, grown_fields, symbol_in_field, symbol_in_array, with_new_symbol, make_symbol, found_or_made, seek_unless, with_symbol, with_symbols, symbols_there, symbols_for}
 use Rattle.st_install.specs.Literals.{Placed, PlacedAll, place_size, place_signed, place_number, place_character, place_string, place_symbol, place_pointer, place_array, place_owner, place_literal, place_members, place_literals}
 use Rattle.st_install.specs.Dictionaries.{Ending, Holds, Vacant, Nowhere, ends_at, seek_at, seek_among, seek_from, count_places, seek, place_of_selector, count_vacant, is_nearly_full, grows_at, grows_for, dictionary_objects, grown_objects}
@@ -52,7 +52,7 @@ module _ {A : Type 0} where
 
 -- PARTS OF PLANS: what is there is among these objects, and what is made has one of these numbers
 
-abbrev pub IsPartIn : (K C : ℕ → Type 0) → Part → Type 0
+abbrev pub IsPartIn : (K C : ℕ → Type 0) → PlannedValue → Type 0
 IsPartIn K C (There v) = IsLive K v
 IsPartIn K C (Made k) = C k
 
@@ -60,7 +60,7 @@ pub record IsNewIn (K C : ℕ → Type 0) (o : NewObject) : Type 0 where
   pub class : IsLive K o.class
   pub fields : is_pointers o.kind ≡ true → AllByRecursion (IsPartIn K C) o.fields
 
-pub record IsStoreIn (K C : ℕ → Type 0) (s : Store) : Type 0 where
+pub record IsStoreIn (K C : ℕ → Type 0) (s : FieldStore) : Type 0 where
   pub object : IsPartIn K C s.object
   pub value : IsPartIn K C s.value
 
@@ -75,7 +75,7 @@ pub record AreSymbolsIn (K C : ℕ → Type 0) (s : Symbols) : Type 0 where
   pub named : AllByRecursion (IsNamedIn K C) s.named
 
 module _ (K C D : ℕ → Type 0) (more : (k : ℕ) → C k → D k) where
-  part_up : (p : Part) → IsPartIn K C p → IsPartIn K D p
+  part_up : (p : PlannedValue) → IsPartIn K C p → IsPartIn K D p
   part_up (There v) h = h
   part_up (Made k) h = more k h
 
@@ -137,7 +137,7 @@ module _ (K : ℕ → Type 0) (nil array symbol association : Value) (text : Lis
   pub new_symbol : IsWith K (with_new_symbol nil array symbol association text s)
   new_symbol = either _ _ _ in_field in_array
 
-symbol_part_in : (K C : ℕ → Type 0) (ss : List NamedSymbol) (text : List ℕ) (p : Part) → AllByRecursion (IsNamedIn K C) ss → symbol_part ss text ≡ Some p → IsPartIn K C p
+symbol_part_in : (K C : ℕ → Type 0) (ss : List NamedSymbol) (text : List ℕ) (p : PlannedValue) → AllByRecursion (IsNamedIn K C) ss → symbol_part ss text ≡ Some p → IsPartIn K C p
 symbol_part_in K C [] text p h e = cc
 symbol_part_in K C (s ∷ ss) text p h e = by_test (symbol_part_in K C ss text p h.1) (bytes_eq s.text text) e
   where
@@ -261,7 +261,7 @@ module _ (K : ℕ → Type 0) (I : State Births → Type 0) (leads : (s : State 
     found_or_made_keeps text s (Some v) h l = answer_keeps I (IsWith K) _ (known_symbol text s v h l)
 
     module _ (table : Value) (table_there : IsLive K table) where
-      unless_keeps : (text : List ℕ) (s : Symbols) (x : Option Part) → IsWith K s → Keeps I (IsWith K) (seek_unless births association table text s x)
+      unless_keeps : (text : List ℕ) (s : Symbols) (x : Option PlannedValue) → IsWith K s → Keeps I (IsWith K) (seek_unless births association table text s x)
       unfolding seek_unless
       unless_keeps text s (Some p) h = answer_keeps I (IsWith K) s h
       unless_keeps text s None h =
@@ -333,7 +333,7 @@ module _ (K : ℕ → Type 0) (I : State Births → Type 0) (leads : (s : State 
   grows_at_keeps d (Vacant k) h = full_keeps d h
   grows_at_keeps d Nowhere h = full_keeps d h
 
-  grows_keeps : (d : Value) (p : Part) → IsLive K d → Keeps I Anything (grows_for births d p)
+  grows_keeps : (d : Value) (p : PlannedValue) → IsLive K d → Keeps I Anything (grows_for births d p)
   unfolding grows_for
   grows_keeps d (Made k) h = full_keeps d h
   grows_keeps d (There v) h = then_keeps I Anything Anything _ _ (place_keeps d v h) (λ e l. grows_at_keeps d e h)
@@ -355,7 +355,7 @@ module _ (K : ℕ → Type 0) (I : State Births → Type 0) (leads : (s : State 
         (λ a m. then_keeps I (IsLive K) _ _ _ (page_keeps K I leads NilObject tt)
         (λ n q. answer_keeps I _ _ (new_dictionary c t a n (2 * p) l k m q))))))
 
-  part_or_die_keeps : (C : ℕ → Type 0) (cause : Dead) (x : Option Part) → ((p : Part) → x ≡ Some p → IsPartIn K C p) → Keeps I (IsPartIn K C) (or_die cause x)
+  part_or_die_keeps : (C : ℕ → Type 0) (cause : Dead) (x : Option PlannedValue) → ((p : PlannedValue) → x ≡ Some p → IsPartIn K C p) → Keeps I (IsPartIn K C) (or_die cause x)
   unfolding or_die
   part_or_die_keeps C cause None h = die_keeps I (IsPartIn K C) cause
   part_or_die_keeps C cause (Some p) h = answer_keeps I (IsPartIn K C) p (h p refl)
@@ -535,7 +535,7 @@ module _ (K : ℕ → Type 0) (I : State Births → Type 0) (leads : (s : State 
     grown_chosen true k e = let q : method_number s l + 1 ≡ k = cc in inr (omega (arith, q))
     grown_chosen false k e = cc
 
-    planned_in : (dictionary : Value) (grows : Bool) (grown : List NewObject) (method_class : Value) (p : Part) → IsLive K dictionary → AllByRecursion P grown → IsLive K method_class → IsPartIn K C p
+    planned_in : (dictionary : Value) (grows : Bool) (grown : List NewObject) (method_class : Value) (p : PlannedValue) → IsLive K dictionary → AllByRecursion P grown → IsLive K method_class → IsPartIn K C p
         → IsPlanIn K (record {
           objects = objects_with_method method_class parts s l ++ grown;
           symbol_stores = s.stores;
@@ -557,7 +557,7 @@ module _ (K : ℕ → Type 0) (I : State Births → Type 0) (leads : (s : State 
       grown = grown_chosen grows;
     }
 
-    objects_keep : (p : Part) → IsPartIn K C p → Keeps I (IsPlanIn K) (plan_objects births class parts s l p)
+    objects_keep : (p : PlannedValue) → IsPartIn K C p → Keeps I (IsPlanIn K) (plan_objects births class parts s l p)
     unfolding plan_objects sized check_size
     objects_keep p q =
         then_keeps I (IsLive K) _ _ _ (field_keeps K I leads class 1 there)

@@ -24,7 +24,11 @@ const IDLE: Frame = Frame {
 
 /// Begins the first process by a start, in an empty world, and fetches the registers from it, or says that there is no room for it
 /// and its context. Dead where the start isn't found, or there is no scheduler.
-pub(crate) fn begin<M: Memory>(m: &mut M, world: &World, start: &Start) -> Result<bool, Dead>
+pub(crate) fn start_process<M: Memory>(
+    m: &mut M,
+    world: &World,
+    start: &Start,
+) -> Result<bool, Dead>
     requires quiet { IsQuiet (M.view m.old) }
     requires world { world.now ≡ empty_world nil }
     ensures begins { let v = M.view m.old in

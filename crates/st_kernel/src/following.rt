@@ -8,7 +8,7 @@ ghost use Rattle.st_kernel.specs.Built.{Built, Fault, no_side};
 ghost use Rattle.st_kernel.specs.inside.Answered.{IsBegun, IsFaultOf};
 ghost use Rattle.st_kernel.specs.inside.Following.{side_in, IsUnderway, Finishes, IsQuiet};
 
-use crate::beginning::begin;
+use crate::beginning::start_process;
 use crate::fault::{KernelFault, cause_number, unfinished};
 use crate::part::{Heading, Next, follow_part};
 use st_frames::World;
@@ -17,7 +17,7 @@ use st_memory::Memory;
 use std::alloc::Global;
 
 /// Begins the first process by the start, which is the chunk of this number, where the text is over behind it.
-fn finish<M: Memory>(
+fn finish_text<M: Memory>(
     alloc: Global,
     m: &mut M,
     first: &Start,
@@ -32,7 +32,7 @@ fn finish<M: Memory>(
     ensures begun { IfOk result (λ u. IsBegun (M.view m.new)) }
 {
     let world = World::new(alloc)?;
-    match begin(m, &world, first) {
+    match start_process(m, &world, first) {
         Err(_) => Err(KernelFault::At { chunk, cause: 6 }),
         Ok(false) => Err(KernelFault::At { chunk, cause: 7 }),
         Ok(true) => match cause {
@@ -46,7 +46,7 @@ fn finish<M: Memory>(
 }
 
 /// Follows a whole text over the memory of its first objects.
-pub(crate) fn follow<M: Memory>(
+pub(crate) fn install_methods<M: Memory>(
     alloc: Global,
     m: &mut M,
     kernel: &Kernel,
@@ -69,7 +69,7 @@ pub(crate) fn follow<M: Memory>(
     while let [part, later @ ..] = rest {
         match follow_part(alloc, m, heading, chunk, part)? {
             Next::On(next) => heading = next,
-            Next::Starts(first) => return finish(alloc, m, first, chunk, kernel.cause),
+            Next::Starts(first) => return finish_text(alloc, m, first, chunk, kernel.cause),
         }
         chunk += 1;
         rest = later;

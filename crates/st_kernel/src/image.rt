@@ -8,7 +8,7 @@ ghost use Rattle.st_kernel.specs.Built.{built, without_room};
 ghost use Rattle.st_kernel.specs.inside.Answered.{IsBuilt, IsBegun, IsFaultOf};
 
 use crate::fault::{KernelFault, unfinished};
-use crate::following::follow;
+use crate::following::install_methods;
 use st_first_objects::{Unmade, make_first};
 use st_kernel_text::{Kernel, Part, read};
 use st_memory::{Loader, Memory};
@@ -69,7 +69,7 @@ pub fn build<L: Loader>(alloc: Global, text: &[u8]) -> Result<L::Done, KernelFau
     let kernel = read(alloc, text)?;
     match make_first::<L>(alloc, &kernel) {
         Ok(mut m) => {
-            follow(alloc, &mut m, &kernel)?;
+            install_methods(alloc, &mut m, &kernel)?;
             Ok(m)
         }
         Err(Unmade::NoRoom) => Err(without_room(&kernel)),

@@ -8,7 +8,7 @@ ghost use Rattle.st_kernel.specs.Built.{Built, Fault};
 ghost use Rattle.st_kernel.specs.inside.Following.{side_in, IsUnderway, Installs, GoesOn, StaysGood, IsQuiet};
 
 use crate::fault::KernelFault;
-use st_chunk::Definition;
+use st_chunk::LentDefinition;
 use st_install::define;
 use st_kernel_text::{Part, Side, Start};
 use st_memory::Memory;
@@ -42,10 +42,10 @@ fn heading_of(side: &Side) -> Heading<'_>
 }
 
 /// The definition of a method, which has no category.
-fn definition_by<'a>(heading: Heading<'a>, text: &'a [u8]) -> Definition<'a>
+fn definition_by<'a>(heading: Heading<'a>, text: &'a [u8]) -> LentDefinition<'a>
     ensures { definition_of result ≡ definition_by (side_in heading.entry) text.now }
 {
-    Definition {
+    LentDefinition {
         class: heading.class,
         meta: heading.meta,
         category: &[],

@@ -5,13 +5,13 @@ use Rattle.std.specs.Option.{option_zip}
 use Rattle.std.proofs.lemmas.Bool.Decides.{leb_tells}
 use Rattle.st_chunk.specs.Texts.{mark, most, cut_behind, behind_mark, cut, is_empty}
 use Rattle.st_chunk.specs.Feeding.{start as fed_none}
-use Rattle.st_chunk.specs.Groups.{Header, header_of, header_text, side_text, quoted, quotes_doubled, trimmed, is_name}
+use Rattle.st_chunk.specs.Groups.{GroupHeader, header_of, header_text, side_text, quoted, quotes_doubled, trimmed, is_name}
 use Rattle.st_chunk.specs.Definitions.{IsDefinition}
 use Rattle.st_chunk.proofs.Cases.{by_test}
 use Rattle.st_chunk.specs.Scripts.{IsHeading}
 use Rattle.st_chunk.proofs.Sound.{heading_sound, method_sound}
-use Rattle.st_kernel_text.specs.declared.place.Place.{Place}
-use Rattle.st_kernel_text.specs.declared.place.Place.TheVariants.{Declarations, Header as InHeader, Methods, Groups, End}
+use Rattle.st_kernel_text.specs.declared.place.ChunkPlace.{ChunkPlace}
+use Rattle.st_kernel_text.specs.declared.place.ChunkPlace.TheVariants.{Declarations, Header as InHeader, Methods, Groups, End}
 use Rattle.st_kernel_text.specs.declared.shape.Shape.{Shape}
 use Rattle.st_kernel_text.specs.declared.keyword.Keyword.{Keyword}
 use Rattle.st_kernel_text.specs.declared.keyword.Keyword.TheVariants.{Class, Pool, Global, Start}
@@ -38,12 +38,12 @@ mutual
       (λ e. rw e (omega (arith, cut_few (before ++ b ∷ []) text)))
       (λ e. rw e (omega (arith, cut_few (b ∷ []) text)))
 
-behind_few : (n : ℕ) (names : Names) (goes_on : Place → Known → Account) → ((p : Place) (k : Known) → length (goes_on p k).parts ≤ n) → (r : Result (Part × Known) Cause)
+behind_few : (n : ℕ) (names : Names) (goes_on : ChunkPlace → Known → Account) → ((p : ChunkPlace) (k : Known) → length (goes_on p k).parts ≤ n) → (r : Result (Part × Known) Cause)
     → length (behind names goes_on r).parts ≤ n + 1
 behind_few n names goes_on few (Ok read) = omega (arith, few (behind_part read.0) read.1)
 behind_few n names goes_on few (Err cause) = omega arith
 
-account_few : (place : Place) (k : Known) (number : ℕ) (chunks : List (List ℕ)) (rest : List ℕ) → length (account_from place k number chunks rest).parts ≤ length chunks
+account_few : (place : ChunkPlace) (k : Known) (number : ℕ) (chunks : List (List ℕ)) (rest : List ℕ) → length (account_from place k number chunks rest).parts ≤ length chunks
 account_few place k number [] rest = omega arith
 account_few place k number (c ∷ cs) rest =
     let few = behind_few (length cs) k.names (λ next after. account_from next after (suc number) cs rest) (λ next after. account_few next after (suc number) cs rest)
@@ -58,11 +58,11 @@ few_parts text =
 
 -- HEADERS AND METHODS
 
-abbrev header_by : Side → Header
+abbrev header_by : Side → GroupHeader
 header_by side = record { class = side.class; meta = side.meta; category = [] }
 
 -- what is known of the side that a group names
-abbrev IsNamed : Place → Side → Type 0
+abbrev IsNamed : ChunkPlace → Side → Type 0
 IsNamed Methods side = IsHeading (header_by side)
 IsNamed _ side = Unit {0}
 
@@ -174,7 +174,7 @@ opening_or true x other = tt
 opening_or false x other = other
 
 -- without its category a header is no longer
-short_header : (h : Header) → length (header_text (header_by (side_of h))) ≤ length (header_text h)
+short_header : (h : GroupHeader) → length (header_text (header_by (side_of h))) ≤ length (header_text h)
 short_header h =
     let all = length-append h.class (side_text h.meta ++ (codes " methodsFor: " ++ quoted h.category)) in
     let side = length-append (side_text h.meta) (codes " methodsFor: " ++ quoted h.category) in
@@ -183,10 +183,10 @@ short_header h =
     let category = length-append (quotes_doubled h.category) (39 ∷ []) in
     omega (arith, all, side, none, none_side, category)
 
-plain_heading : (h : Header) → IsHeading h → IsHeading (header_by (side_of h))
+plain_heading : (h : GroupHeader) → IsHeading h → IsHeading (header_by (side_of h))
 plain_heading h heading = record { named = heading.named; short = omega (arith, heading.short, short_header h) }
 
-header_good : (side : Side) (chunk : List ℕ) (o : Option Header) (p : Part) → header_of chunk ≡ o → length chunk ≤ most → option_map (λ h. header (side_of h)) o ≡ Some p → IsGoodPart side p
+header_good : (side : Side) (chunk : List ℕ) (o : Option GroupHeader) (p : Part) → header_of chunk ≡ o → length chunk ≤ most → option_map (λ h. header (side_of h)) o ≡ Some p → IsGoodPart side p
 header_good side chunk (Some h) p e short is =
     let q : header (side_of h) ≡ p = cc in
     subst (IsGoodPart side) q (plain_heading h (heading_sound chunk h short e))
@@ -202,7 +202,7 @@ method_good side chunk false p e short heading is =
 some_other : (side : Side) (x : Option Part) (p : Part) → IsOther x → x ≡ Some p → IsGoodPart side p
 some_other side x p other is = other_good side p (subst IsOther is other)
 
-part_good : (place : Place) (side : Side) (chunk : List ℕ) (p : Part) → IsNamed place side → length chunk ≤ most → part_at place chunk ≡ Some p → IsGoodPart side p
+part_good : (place : ChunkPlace) (side : Side) (chunk : List ℕ) (p : Part) → IsNamed place side → length chunk ≤ most → part_at place chunk ≡ Some p → IsGoodPart side p
 part_good Declarations side chunk p names short is =
     some_other side (part_at Declarations chunk) p (opening_or (is_empty chunk) (by_words declaration_by (words chunk)) (words_other declaration_by declaration_other (words chunk))) is
 part_good Groups side chunk p names short is =
@@ -211,29 +211,29 @@ part_good InHeader side chunk p names short is = header_good side chunk (header_
 part_good Methods side chunk p names short is = method_good side chunk (is_empty chunk) p refl short names is
 part_good End side chunk p names short is = absurd cc
 
-formed_good : (place : Place) (side : Side) (chunk : List ℕ) (p : Part) → IsNamed place side → formed_at place chunk ≡ Some p → IsGoodPart side p
+formed_good : (place : ChunkPlace) (side : Side) (chunk : List ℕ) (p : Part) → IsNamed place side → formed_at place chunk ≡ Some p → IsGoodPart side p
 formed_good place side chunk p names is = by_test (nat_le (length chunk) most)
     (λ e. part_good place side chunk p names (grind (arith, leb_tells (length chunk) most)) (rw e at is))
     (λ e. absurd (let none = rw e at is in cc))
 
 -- THE TEXT
 
-read_known : (place : Place) (k : Known) (n : ℕ) (p : Part) (r : Result Known Cause) (read : Part × Known) → known_behind place k n p ≡ r → read_part place k n (Some p) ≡ Ok read → read.0 ≡ p
+read_known : (place : ChunkPlace) (k : Known) (n : ℕ) (p : Part) (r : Result Known Cause) (read : Part × Known) → known_behind place k n p ≡ r → read_part place k n (Some p) ≡ Ok read → read.0 ≡ p
 read_known place k n p (Ok after) read e is = let ok = rw e at is in cc
 read_known place k n p (Err cause) read e is = let no = rw e at is in absurd cc
 
-read_some : (place : Place) (k : Known) (n : ℕ) (x : Option Part) (read : Part × Known) → read_part place k n x ≡ Ok read → x ≡ Some read.0
+read_some : (place : ChunkPlace) (k : Known) (n : ℕ) (x : Option Part) (read : Part × Known) → read_part place k n x ≡ Ok read → x ≡ Some read.0
 read_some place k n None read is = absurd cc
 read_some place k n (Some p) read is = ap (λ q. Some q) (sym (read_known place k n p (known_behind place k n p) read refl is))
 
-behind_good : (side : Side) (names : Names) (goes_on : Place → Known → Account) (r : Result (Part × Known) Cause) → ((read : Part × Known) → r ≡ Ok read → IsGoodPart side read.0)
-    → ((place : Place) (k : Known) (next : Side) → IsNamed place next → AreDefinitions next (goes_on place k).parts) → AreDefinitions side (behind names goes_on r).parts
+behind_good : (side : Side) (names : Names) (goes_on : ChunkPlace → Known → Account) (r : Result (Part × Known) Cause) → ((read : Part × Known) → r ≡ Ok read → IsGoodPart side read.0)
+    → ((place : ChunkPlace) (k : Known) (next : Side) → IsNamed place next → AreDefinitions next (goes_on place k).parts) → AreDefinitions side (behind names goes_on r).parts
 behind_good side names goes_on (Ok read) good others =
     let first = good read refl in
     with_others side read.0 (goes_on (behind_part read.0) read.1).parts first (others (behind_part read.0) read.1 (side_behind side read.0) (names_behind side read.0 first))
 behind_good side names goes_on (Err cause) good others = tt
 
-account_good : (place : Place) (k : Known) (n : ℕ) (chunks : List (List ℕ)) (rest : List ℕ) (side : Side) → IsNamed place side → AreDefinitions side (account_from place k n chunks rest).parts
+account_good : (place : ChunkPlace) (k : Known) (n : ℕ) (chunks : List (List ℕ)) (rest : List ℕ) (side : Side) → IsNamed place side → AreDefinitions side (account_from place k n chunks rest).parts
 account_good place k n [] rest side named = tt
 account_good place k n (c ∷ cs) rest side named =
     behind_good side k.names (λ next after. account_from next after (suc n) cs rest) (read_part place k n (formed_at place c))

@@ -3,13 +3,13 @@ use Rattle.std.specs.Prelude.{ℕ, ◌&&◌, nat_le, List, [], ◌∷◌, length
 use Rattle.std.specs.Option.{option_zip}
 use Rattle.std.specs.Map.{lookup}
 use Rattle.st_chunk.specs.Texts.{most, is_empty}
-use Rattle.st_chunk.specs.Groups.{is_name, trimmed, header_of, Header}
+use Rattle.st_chunk.specs.Groups.{is_name, trimmed, header_of, GroupHeader}
 use Rattle.st_kernel_text.specs.declared.shape.Shape.{Shape}
 use Rattle.st_kernel_text.specs.declared.shape.Shape.TheVariants.{Fixed, Indexed, Words, Bytes}
 use Rattle.st_kernel_text.specs.declared.keyword.Keyword.{Keyword}
 use Rattle.st_kernel_text.specs.declared.keyword.Keyword.TheVariants.{Class, Pool, Global, Start}
-use Rattle.st_kernel_text.specs.declared.place.Place.{Place}
-use Rattle.st_kernel_text.specs.declared.place.Place.TheVariants.{Declarations, Header as InHeader, Methods, Groups, End}
+use Rattle.st_kernel_text.specs.declared.place.ChunkPlace.{ChunkPlace}
+use Rattle.st_kernel_text.specs.declared.place.ChunkPlace.TheVariants.{Declarations, Header as InHeader, Methods, Groups, End}
 use Rattle.st_kernel_text.specs.Words.{words, is_word, names_in}
 use Rattle.st_kernel_text.specs.Parts.{Side, Part, class, pool, global, opening, header, method, closing, start}
 
@@ -68,11 +68,11 @@ by_words says [] = None
 
 -- CHUNKS
 
-abbrev pub side_of : Header → Side
+abbrev pub side_of : GroupHeader → Side
 side_of h = record { class = h.class; meta = h.meta }
 
 -- what a chunk says by where it stands, if it has the form that is asked there
-abbrev pub part_at : Place → List ℕ → Option Part
+abbrev pub part_at : ChunkPlace → List ℕ → Option Part
 part_at Declarations chunk = if is_empty chunk then Some opening else by_words declaration_by (words chunk)
 part_at Groups chunk = if is_empty chunk then Some opening else by_words start_by (words chunk)
 part_at InHeader chunk = option_map (λ h. header (side_of h)) (header_of chunk)
@@ -80,11 +80,11 @@ part_at Methods chunk = if is_empty chunk then Some closing else Some (method (t
 part_at End chunk = None
 
 -- it has at most 65,536 bytes
-abbrev pub formed_at : Place → List ℕ → Option Part
+abbrev pub formed_at : ChunkPlace → List ℕ → Option Part
 formed_at place chunk = if nat_le (length chunk) most then part_at place chunk else None
 
 -- where the chunk behind it stands
-abbrev pub behind_part : Part → Place
+abbrev pub behind_part : Part → ChunkPlace
 behind_part (class c) = Declarations
 behind_part (pool p) = Declarations
 behind_part (global name) = Declarations

@@ -7,8 +7,8 @@ use Rattle.std.specs.Map.{lookup}
 use Rattle.st_kernel_text.specs.contracts.shape.Shape.{the_type}
 use Rattle.st_kernel_text.specs.declared.shape.Shape.{Shape}
 use Rattle.st_kernel_text.specs.declared.shape.Shape.TheVariants.{Fixed, Indexed, Words, Bytes}
-use Rattle.st_kernel_text.specs.declared.place.Place.{Place}
-use Rattle.st_kernel_text.specs.declared.place.Place.TheVariants.{Declarations}
+use Rattle.st_kernel_text.specs.declared.place.ChunkPlace.{ChunkPlace}
+use Rattle.st_kernel_text.specs.declared.place.ChunkPlace.TheVariants.{Declarations}
 use Rattle.st_kernel_text.specs.declared.cause.Cause.{Cause}
 use Rattle.st_kernel_text.specs.declared.cause.Cause.TheVariants.{Name, Variables, Missing}
 use Rattle.st_kernel_text.specs.declared.named.Layout.{Layout}
@@ -145,7 +145,7 @@ needs =
 -- PARTS
 
 -- what ends the declarations finds the needed classes
-abbrev pub complete : Place → Known → Result Known Cause
+abbrev pub complete : ChunkPlace → Known → Result Known Cause
 complete Declarations k = if has_all k needs then Ok k else Err Missing
 complete _ k = Ok k
 
@@ -153,7 +153,7 @@ abbrev pub if_known : Known → List ℕ → Result Known Cause → Result Known
 if_known k name after = if is_known k name then after else Err Name
 
 -- what is known behind the part of this number that stands here, or the least cause why it cannot stand
-abbrev pub known_behind : Place → Known → (number : ℕ) → Part → Result Known Cause
+abbrev pub known_behind : ChunkPlace → Known → (number : ℕ) → Part → Result Known Cause
 known_behind place k number (class c) = with_class k number c
 known_behind place k number (pool p) = with_pool k p
 known_behind place k number (global name) = with_global k name

@@ -1,14 +1,14 @@
 // The form of a chunk.
 ghost use Rattle.std.specs.{Prelude.{◌≡◌, ◌≤◌, ◌∷◌, [], None, IfOk, MatchOption, length}, Option.option_map};
 ghost use Rattle.st_chunk.specs.Texts.{most};
-ghost use Rattle.st_kernel_text.specs.declared.place.Place.TheVariants.{Declarations, Header as InHeader, Methods, Groups};
+ghost use Rattle.st_kernel_text.specs.declared.place.ChunkPlace.TheVariants.{Declarations, Header as InHeader, Methods, Groups};
 ghost use Rattle.st_kernel_text.specs.Words.{words, words as words_in};
 ghost use Rattle.st_kernel_text.specs.Forms.{shape_named, keyword_named, class_by, class_in, pool_in, global_in, start_in, start_by, declaration_by};
 ghost use Rattle.st_kernel_text.specs.{Forms.{part_at, formed_at}, inside.Views.part_of};
 
 use crate::keyword::Keyword;
 use crate::part::{Class, Part, Pool, Side, Start};
-use crate::place::Place;
+use crate::place::ChunkPlace;
 use crate::shape::Shape;
 use crate::table::value_named;
 use crate::words::{first_word, is_name, names_in};
@@ -248,17 +248,21 @@ fn header_of(alloc: Global, chunk: &[u8]) -> Result<Option<Part>, AllocError>
 }
 
 /// What a chunk says by where it stands, where it has the form that is asked there.
-pub(crate) fn part_at(alloc: Global, place: Place, chunk: &[u8]) -> Result<Option<Part>, AllocError>
+pub(crate) fn part_at(
+    alloc: Global,
+    place: ChunkPlace,
+    chunk: &[u8],
+) -> Result<Option<Part>, AllocError>
     ensures { IfOk result (λ p. option_map part_of p ≡ formed_at place chunk.now) }
 {
     if chunk.len() > MOST {
         return Ok(None);
     }
     match place {
-        Place::Declarations => declaration_in(alloc, chunk),
-        Place::Header => header_of(alloc, chunk),
-        Place::Methods => method_in(alloc, chunk),
-        Place::Groups => next_in(alloc, chunk),
-        Place::End => Ok(None),
+        ChunkPlace::Declarations => declaration_in(alloc, chunk),
+        ChunkPlace::Header => header_of(alloc, chunk),
+        ChunkPlace::Methods => method_in(alloc, chunk),
+        ChunkPlace::Groups => next_in(alloc, chunk),
+        ChunkPlace::End => Ok(None),
     }
 }

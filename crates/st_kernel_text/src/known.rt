@@ -10,7 +10,7 @@ use crate::declarations::Declarations;
 use crate::named::{Layout, Named};
 use crate::needs::{NEEDS, Need};
 use crate::part::{Class, Part, Pool, Text};
-use crate::place::Place;
+use crate::place::ChunkPlace;
 use crate::shape::Shape;
 use crate::variables::Variables;
 use std::alloc::Global;
@@ -221,10 +221,10 @@ impl Known {
     }
 
     /// The needed classes are declared, where the declarations end.
-    fn check_complete(&self, place: Place) -> Result<(), Stop>
+    fn check_complete(&self, place: ChunkPlace) -> Result<(), Stop>
         ensures { Declares (complete place self.now) self.now self.now result }
     {
-        if place == Place::Declarations && !self.has_all(&NEEDS) {
+        if place == ChunkPlace::Declarations && !self.has_all(&NEEDS) {
             return Err(Stop::At(Cause::Missing));
         }
         Ok(())
@@ -244,7 +244,7 @@ impl Known {
     pub(crate) fn add(
         &mut self,
         alloc: Global,
-        place: Place,
+        place: ChunkPlace,
         number: usize,
         part: &Part,
     ) -> Result<(), Stop>

@@ -2,7 +2,7 @@
 
 /// Where a chunk stands.
 #[derive(Clone, Copy, PartialEq, Eq)]
-pub(crate) enum Place {
+pub(crate) enum ChunkPlace {
     /// Among the declarations.
     Declarations,
     /// Behind the empty chunk that opens a group.

@@ -9,7 +9,7 @@ use crate::declarations::Declarations;
 use crate::form::part_at;
 use crate::known::Known;
 use crate::part::Part;
-use crate::place::Place;
+use crate::place::ChunkPlace;
 use st_chunk::{Chunks, Fed, is_empty};
 use std::alloc::{AllocError, Global};
 
@@ -26,21 +26,21 @@ pub struct Kernel {
 /// A text as far as it is read.
 #[derive(Drop)]
 struct Reader {
-    place: Place,
+    place: ChunkPlace,
     known: Known,
     parts: Vec<Part>,
 }
 
 /// Where the chunk behind a part stands.
-fn behind_part(part: &Part) -> Place
+fn behind_part(part: &Part) -> ChunkPlace
     ensures { result ≡ behind_part (part_of part.now) }
 {
     match part {
-        Part::Class(_) | Part::Pool(_) | Part::Global(_) => Place::Declarations,
-        Part::Opening => Place::Header,
-        Part::Header(_) | Part::Method(_) => Place::Methods,
-        Part::Closing => Place::Groups,
-        Part::Start(_) => Place::End,
+        Part::Class(_) | Part::Pool(_) | Part::Global(_) => ChunkPlace::Declarations,
+        Part::Opening => ChunkPlace::Header,
+        Part::Header(_) | Part::Method(_) => ChunkPlace::Methods,
+        Part::Closing => ChunkPlace::Groups,
+        Part::Start(_) => ChunkPlace::End,
     }
 }
 
@@ -65,7 +65,7 @@ impl Reader {
     fn end(&self, rest: &[u8]) -> Result<(), Stop>
         ensures { Tells (end_of (state_of self.now) rest.now) complete (state_of self.now) result }
     {
-        if self.place == Place::End && is_empty(rest) {
+        if self.place == ChunkPlace::End && is_empty(rest) {
             Ok(())
         } else {
             Err(Stop::At(Cause::Form))
@@ -115,7 +115,7 @@ pub fn read(alloc: Global, text: &[u8]) -> Result<Kernel, AllocError>
     ensures { IfOk result (λ k. account_of k ≡ account text.now) }
 {
     let mut reader = Reader {
-        place: Place::Declarations,
+        place: ChunkPlace::Declarations,
         known: Known::new(alloc),
         parts: Vec::new(alloc),
     };

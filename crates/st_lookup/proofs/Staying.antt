@@ -14,8 +14,8 @@ use Rattle.st_model.proofs.TableLemmas.{changed-other, placed-other}
 use Rattle.st_model.proofs.SettledLemmas.{settled-entry, entry-settled, is_some-of, some_is}
 use Rattle.st_memory.specs.inside.Copied.{with_units_in}
 use Rattle.st_memory.specs.inside.Searched.{Finds}
-use Rattle.st_lookup.specs.declared.entry.Entry.{Entry}
-use Rattle.st_lookup.specs.declared.entry.TheConstants.Entry.{NONE}
+use Rattle.st_lookup.specs.declared.entry.CachedLookup.{CachedLookup}
+use Rattle.st_lookup.specs.declared.entry.TheConstants.CachedLookup.{NONE}
 use Rattle.st_lookup.specs.inside.Remembered.{on, IsOn, IsOff, watched, IsRemembered, AllRemembered, Grows, SameWatched, StaysIfOff}
 use Rattle.st_lookup.proofs.Carried.{IsOf, SameHalf, found_carried_on, selector_met}
 use Rattle.st_model.proofs.SettledIs.{or_left, or_right, or_cases}
@@ -57,7 +57,7 @@ half_back t u (Small n) e = tt
 half_back t u (Ref n) e = sym e
 
 -- what is remembered is so of the whole table
-pub finds_all : (bits : List ℕ) (t : Table) (e : Entry) → IsRemembered bits t e → is_live t (value e.class) ≡ true
+pub finds_all : (bits : List ℕ) (t : Table) (e : CachedLookup) → IsRemembered bits t e → is_live t (value e.class) ≡ true
     → Finds t (value e.class) (value e.selector) (value e.method)
 finds_all bits t e r live =
     found_carried_on (λ n. Unit {0}) (watched bits t) t
@@ -70,7 +70,7 @@ pub on_grown : (old new : List ℕ) (v : Value) → Grows old new → IsOn old v
 on_grown old new (Small n) g h = refl
 on_grown old new (Ref n) g h = g n h
 
-pub remembered_grown : (old new : List ℕ) (t : Table) (e : Entry) → Grows old new → IsRemembered old t e → IsRemembered new t e
+pub remembered_grown : (old new : List ℕ) (t : Table) (e : CachedLookup) → Grows old new → IsRemembered old t e → IsRemembered new t e
 remembered_grown old new t e g r =
     let x = value e.selector in
     let more = on_grown old new x g r.selector in
@@ -96,7 +96,7 @@ half_same : (bits : List ℕ) (t u : Table) (v : Value) → SameWatched bits t u
 half_same bits t u (Small n) s h = tt
 half_same bits t u (Ref n) s h = ap is_some (s n h)
 
-pub remembered_same : (bits : List ℕ) (t u : Table) (e : Entry) → SameWatched bits t u → IsRemembered bits t e → IsRemembered bits u e
+pub remembered_same : (bits : List ℕ) (t u : Table) (e : CachedLookup) → SameWatched bits t u → IsRemembered bits t e → IsRemembered bits u e
 remembered_same bits t u e s r =
     let x = value e.selector in
     record {
@@ -115,10 +115,10 @@ remembered_same bits t u e s r =
 pub stays_as : (bits : List ℕ) (v : Value) (t u w : Table) → w ≡ u → StaysIfOff bits v t u → StaysIfOff bits v t w
 stays_as bits v t u w e s off k h = ap (λ x. entry x k) e ∙ s off k h
 
-pub all_same : (bits : List ℕ) (t u : Table) (es : List Entry) → SameWatched bits t u → AllRemembered bits t es → AllRemembered bits u es
+pub all_same : (bits : List ℕ) (t u : Table) (es : List CachedLookup) → SameWatched bits t u → AllRemembered bits t es → AllRemembered bits u es
 all_same bits t u es s r = λ i e f. remembered_same bits t u e s (r i e f)
 
-pub all_grown : (old new : List ℕ) (t : Table) (es : List Entry) → Grows old new → AllRemembered old t es → AllRemembered new t es
+pub all_grown : (old new : List ℕ) (t : Table) (es : List CachedLookup) → Grows old new → AllRemembered old t es → AllRemembered new t es
 all_grown old new t es g r = λ i e f. remembered_grown old new t e g (r i e f)
 
 -- a name that isn't watched
@@ -236,7 +236,7 @@ module _ (v w : View) (whole : IsWhole v) (s : SettlesTo v w) where
       some_settled (Some o) (Some p) e f = refl
 
   -- what a search among watched objects that are members meets is there still, with the selector
-  pub remembered_settled : (bits : List ℕ) (e : Entry) → IsRemembered bits v.objects e → IsRemembered bits w.objects e
+  pub remembered_settled : (bits : List ℕ) (e : CachedLookup) → IsRemembered bits v.objects e → IsRemembered bits w.objects e
   remembered_settled bits e r =
       let x = value e.selector in
       let old = watched bits v.objects in
@@ -258,7 +258,7 @@ module _ (v w : View) (whole : IsWhole v) (s : SettlesTo v w) where
             finds;
       }
 
-  pub all_settled : (bits : List ℕ) (es : List Entry) → AllRemembered bits v.objects es → AllRemembered bits w.objects es
+  pub all_settled : (bits : List ℕ) (es : List CachedLookup) → AllRemembered bits v.objects es → AllRemembered bits w.objects es
   all_settled bits es r = λ i e f. remembered_settled bits e (r i e f)
 
 -- NOTHING IS REMEMBERED
@@ -267,12 +267,12 @@ pub none_remembered : (bits : List ℕ) (t : Table) → IsRemembered bits t NONE
 unfolding value_of is_live
 none_remembered bits t = record { class = refl; selector = refl; finds = λ live. cc }
 
-pub nothing_remembered : (bits : List ℕ) (t : Table) (es : List Entry) (n : ℕ) → es ≡ replicate n NONE → AllRemembered bits t es
+pub nothing_remembered : (bits : List ℕ) (t : Table) (es : List CachedLookup) (n : ℕ) → es ≡ replicate n NONE → AllRemembered bits t es
 nothing_remembered bits t es n q i e f =
-    let g : slice_get (replicate n NONE) i ≡ Some e = subst (λ (xs : List Entry). slice_get xs i ≡ Some e) q f in
+    let g : slice_get (replicate n NONE) i ≡ Some e = subst (λ (xs : List CachedLookup). slice_get xs i ≡ Some e) q f in
     let l : i < length (replicate n NONE) = slice_get_within (replicate n NONE) i e g in
     let s : e ≡ NONE = sym (get_or_from_slice_get (replicate n NONE) i e NONE g) ∙ get_or-replicate n i NONE NONE (subst (λ (k : ℕ). i < k) (length-replicate n NONE) l) in
-    subst (λ (x : Entry). IsRemembered bits t x) (sym s) (none_remembered bits t)
+    subst (λ (x : CachedLookup). IsRemembered bits t x) (sym s) (none_remembered bits t)
 
 -- the pointer of a value that is a name
 pub off_name : (bits : List ℕ) (v : Value) (n : ℕ) → v ≡ Ref n → IsOff bits v → on bits n ≡ false

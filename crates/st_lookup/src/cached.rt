@@ -5,7 +5,7 @@ ghost use Rattle.st_memory.specs.{inside.Places.KeepsPlaces, inside.Searched.Fin
 ghost use Rattle.st_lookup.specs.inside.Remembered.{watched, IsOff, Grows, HasNone, AllRemembered, StaysIfOff};
 
 use crate::class::look_up;
-use crate::entry::Entry;
+use crate::entry::CachedLookup;
 use crate::places::search_dictionary;
 use crate::reading::Watched;
 use crate::watch::Watch;
@@ -19,7 +19,7 @@ use st_model::{Dead, Demand, Kind, Oop, PageObject, RootPlace, Word};
 pub struct Cached<M: Memory> {
     pub(crate) memory: M,
     pub(crate) watch: Watch,
-    pub(crate) entries: Vec<Entry>,
+    pub(crate) entries: Vec<CachedLookup>,
     ghost size: { length entries.items ≡ 512 },
     ghost remembered: { AllRemembered watch.words.items (M.view memory).objects entries.items },
 }
@@ -33,7 +33,7 @@ fn slot(class: Oop, selector: Oop) -> usize
 
 impl<M: Memory> Cached<M> {
     /// A memory of which nothing is remembered.
-    pub(crate) fn new(memory: M, watch: Watch, entries: Vec<Entry>) -> Cached<M>
+    pub(crate) fn new(memory: M, watch: Watch, entries: Vec<CachedLookup>) -> Cached<M>
         requires { HasNone entries.items }
         ensures { result.memory ≡ memory }
     {
@@ -135,19 +135,19 @@ fn is_seen<M: Memory>(m: &M, watch: &Watch, class: Oop, selector: Oop, method: O
 
 /// Forgets all.
 #[inline(never)]
-fn forget(watch: &mut Watch, entries: &mut Vec<Entry>)
+fn forget(watch: &mut Watch, entries: &mut Vec<CachedLookup>)
     ensures size { length entries.new.items ≡ length entries.old.items }
     ensures off { (v : Value) → IsOff watch.new.words.items v }
     ensures none { (t : Table) → AllRemembered watch.new.words.items t entries.new.items }
 {
-    entries.fill(Entry::NONE);
+    entries.fill(CachedLookup::NONE);
     watch.clear();
 }
 
 /// Forgets all where the pointer is watched, whose object was changed or is about to be. Where it isn't, that is a test of one
 /// bit; a store asks before it stores, so that nothing has to be kept over it.
 #[inline(always)]
-fn forget_if(watch: &mut Watch, entries: &mut Vec<Entry>, o: Oop)
+fn forget_if(watch: &mut Watch, entries: &mut Vec<CachedLookup>, o: Oop)
     ensures size { length entries.new.items ≡ length entries.old.items }
     ensures off { IsOff watch.new.words.items (value o) }
     ensures fewer { (v : Value) → IsOff watch.old.words.items v → IsOff watch.new.words.items v }
@@ -299,7 +299,7 @@ impl<M: Memory> Memory for Cached<M> {
             Word::from(selector),
         );
         if is_seen(&self.memory, &self.watch, class, selector, method) {
-            self.entries[slot(class, selector)] = Entry {
+            self.entries[slot(class, selector)] = CachedLookup {
                 class,
                 selector,
                 method,

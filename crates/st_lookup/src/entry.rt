@@ -2,15 +2,15 @@ use st_model::Oop;
 
 /// A method that was found for a selector in a class.
 #[derive(Clone, Copy)]
-pub struct Entry {
+pub struct CachedLookup {
     pub class: Oop,
     pub selector: Oop,
     pub method: Oop,
 }
 
-impl Entry {
+impl CachedLookup {
     /// Nothing: a SmallInteger is no class.
-    pub const NONE: Entry = Entry {
+    pub const NONE: CachedLookup = CachedLookup {
         class: Oop(1),
         selector: Oop(1),
         method: Oop(1),

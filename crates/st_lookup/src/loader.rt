@@ -2,7 +2,7 @@ ghost use Rattle.std.specs.Prelude.{IfOk};
 ghost use Rattle.st_lookup.specs.inside.Remembered.{HasNone};
 
 use crate::cached::Cached;
-use crate::entry::Entry;
+use crate::entry::CachedLookup;
 use crate::watch::Watch;
 use st_memory::Loader;
 use st_model::{Demand, Kind, Oop};
@@ -13,15 +13,15 @@ use std::alloc::{AllocError, Global};
 pub struct CachedLoader<L: Loader> {
     loader: L,
     watch: Watch,
-    entries: Vec<Entry>,
+    entries: Vec<CachedLookup>,
     ghost none: { HasNone entries.items },
 }
 
 /// As many entries as there are slots, of nothing.
-fn nothing(alloc: Global) -> Result<Vec<Entry>, AllocError>
+fn nothing(alloc: Global) -> Result<Vec<CachedLookup>, AllocError>
     ensures { IfOk result (λ es. HasNone es.items) }
 {
-    vec![in alloc; Entry::NONE; 512]
+    vec![in alloc; CachedLookup::NONE; 512]
 }
 
 impl<L: Loader> Loader for CachedLoader<L> {

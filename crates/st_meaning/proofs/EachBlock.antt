@@ -1,8 +1,8 @@
 -- What is so of code with all that stands in it is so of each of its blocks.
 use Rattle.std.proofs.Common.{ℕ, ◌+◌, Bool, false, List, [], ◌∷◌, ◌++◌}
-use Rattle.st_emit.specs.declared.step.Step.{Step}
-use Rattle.st_emit.specs.declared.step.Step.TheVariants.{PushConstant, SendSpecial, Jump, JumpIf, JumpPast, Pop, ReturnTop}
-use Rattle.st_emit.specs.declared.step.Constant.TheVariants.{Context}
+use Rattle.st_emit.specs.declared.instruction.Instruction.{Instruction}
+use Rattle.st_emit.specs.declared.instruction.Instruction.TheVariants.{PushConstant, SendSpecial, Jump, JumpIf, JumpPast, Pop, ReturnTop}
+use Rattle.st_emit.specs.declared.instruction.Constant.TheVariants.{Context}
 use Rattle.st_emit.specs.declared.form.TwoSided.TheVariants.{TrueFirst, FalseFirst}
 use Rattle.st_emit.specs.Literals.{LiteralView}
 use Rattle.st_emit.specs.Steps.{size, size_of}
@@ -19,25 +19,25 @@ abbrev pub FewBlock : OfBlock
 FewBlock at first i b = BodyFew b
 
 module _ (most : ℕ) (literals : List LiteralView) (bytes : List ℕ) (P : OfBlock) where
-  abbrev pub Stand : ℕ → List Step → Type 0
+  abbrev pub Stand : ℕ → List Instruction → Type 0
   Stand at xs = leads.Stand most literals bytes at xs
 
   -- the code of a block's body stands at its place
   abbrev pub Stands : (at first i : ℕ) → Body → Type 0
   Stands at first i b = Stand at (pop_arguments first i ++ (body_code b ++ block_end (returns b)))
 
-  front : (at : ℕ) (a b : List Step) → Stand at (a ++ b) → Stand at a
+  front : (at : ℕ) (a b : List Instruction) → Stand at (a ++ b) → Stand at a
   front = leads.stand_front most literals bytes
 
-  back : (at : ℕ) (a b : List Step) → Stand at (a ++ b) → Stand (at + size a) b
+  back : (at : ℕ) (a b : List Instruction) → Stand at (a ++ b) → Stand (at + size a) b
   back = leads.stand_back most literals bytes
 
-  used_front : (u : Use) (at : ℕ) (c : List Step) → Stand at (used u c) → Stand at c
+  used_front : (u : Use) (at : ℕ) (c : List Instruction) → Stand at (used u c) → Stand at c
   used_front for_value at c h = h
   used_front for_effect at c h = front at c (Pop ∷ []) h
 
   -- the parts of a choice, each at its place
-  sides_stand : (c a b : List Step) (at : ℕ) → Stand at (choice false c a b) → Stand at c × Stand (at + size c + size_of (JumpIf false (size a + size_of (Jump (size b))))) a
+  sides_stand : (c a b : List Instruction) (at : ℕ) → Stand at (choice false c a b) → Stand at c × Stand (at + size c + size_of (JumpIf false (size a + size_of (Jump (size b))))) a
       × Stand (at + size c + size_of (JumpIf false (size a + size_of (Jump (size b)))) + size a + size_of (Jump (size b))) b
   sides_stand c a b at h =
       let over = Jump (size b) in

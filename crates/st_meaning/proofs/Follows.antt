@@ -2,12 +2,12 @@
 use Rattle.std.proofs.Common.{◌≡◌, ℕ, zero, suc, ◌+◌, ◌-◌, ◌%◌, ◌<◌, ◌==◌, Option, Some, Bool, true, false, List, [], ◌∷◌, ◌++◌, length, refl, sym, ap, ◌∙◌, subst, arith, ne_eqb, zero-add}
 use Rattle.std.proofs.lemmas.Bool.Decides.{nat_tests}
 use Rattle.std.specs.Prelude.{if◌then◌else◌, nat_lt, slice_get, option_map}
-use Rattle.st_emit.specs.declared.step.Constant.{Constant}
-use Rattle.st_emit.specs.declared.step.Constant.TheVariants.{Receiver, True, False, Nil, Context}
-use Rattle.st_emit.specs.declared.step.Place.{Place}
-use Rattle.st_emit.specs.declared.step.Place.TheVariants.{Field, Temporary, Literal, Shared}
-use Rattle.st_emit.specs.declared.step.Step.{Step}
-use Rattle.st_emit.specs.declared.step.Step.TheVariants.{Push, PushConstant, PushNumber, Store, PopStore, Pop, Duplicate, Send, SendSuper, SendSpecial, ReturnConstant, ReturnTop, Jump, JumpBack, JumpIf, JumpPast}
+use Rattle.st_emit.specs.declared.instruction.Constant.{Constant}
+use Rattle.st_emit.specs.declared.instruction.Constant.TheVariants.{Receiver, True, False, Nil, Context}
+use Rattle.st_emit.specs.declared.instruction.InstructionOperand.{InstructionOperand}
+use Rattle.st_emit.specs.declared.instruction.InstructionOperand.TheVariants.{Field, Temporary, Literal, Shared}
+use Rattle.st_emit.specs.declared.instruction.Instruction.{Instruction}
+use Rattle.st_emit.specs.declared.instruction.Instruction.TheVariants.{Push, PushConstant, PushNumber, Store, PopStore, Pop, Duplicate, Send, SendSuper, SendSpecial, ReturnConstant, ReturnTop, Jump, JumpBack, JumpIf, JumpPast}
 use Rattle.st_emit.specs.declared.form.By.{By}
 use Rattle.st_emit.specs.declared.form.By.TheVariants.{Special, SelectorAt}
 use Rattle.st_emit.specs.declared.form.OneSided.{OneSided}
@@ -49,7 +49,7 @@ left_by for_value s v = v ∷ s
 left_by for_effect s v = s
 
 module _ (most : ℕ) (literals : List LiteralView) (bytes : List ℕ) where
-  abbrev pub Stand : ℕ → List Step → Type 0
+  abbrev pub Stand : ℕ → List Instruction → Type 0
   Stand at xs = leads.Stand most literals bytes at xs
 
   abbrev pub Leads : {A : Type 0} → ℕ → List Value → Going → ℕ → (A → List Value) → Outcome A → Type 0
@@ -58,20 +58,20 @@ module _ (most : ℕ) (literals : List LiteralView) (bytes : List ℕ) where
   abbrev pub go : ℕ → Next
   go k = walk most literals bytes k
 
-  pub front : (at : ℕ) (a b : List Step) → Stand at (a ++ b) → Stand at a
+  pub front : (at : ℕ) (a b : List Instruction) → Stand at (a ++ b) → Stand at a
   front = leads.stand_front most literals bytes
 
-  pub back : (at : ℕ) (a b : List Step) → Stand at (a ++ b) → Stand (at + size a) b
+  pub back : (at : ℕ) (a b : List Instruction) → Stand at (a ++ b) → Stand (at + size a) b
   back = leads.stand_back most literals bytes
 
   at_end : {A : Type 0} (at at1 at2 : ℕ) (s : List Value) (g : Going) (st : A → List Value) (o : Outcome A) → at1 ≡ at2 → Leads at s g at1 st o → Leads at s g at2 st o
   at_end = leads.leads_at most literals bytes
 
-  act_at : (at : ℕ) (x : Step) (s : List Value) (g : Going) (xs : List Step) → Stand at (x ∷ xs) → (k : ℕ) → go (suc k) at s g ≡ act most literals (read_as x) (go k) (at + size_of x) s g
+  act_at : (at : ℕ) (x : Instruction) (s : List Value) (g : Going) (xs : List Instruction) → Stand at (x ∷ xs) → (k : ℕ) → go (suc k) at s g ≡ act most literals (read_as x) (go k) (at + size_of x) s g
   act_at = leads.one_act most literals bytes
 
   -- an instruction that pushes a value
-  pushes : (at : ℕ) (x : Step) (xs : List Step) (s : List Value) (g : Going) (v : Value) → Stand at (x ∷ xs)
+  pushes : (at : ℕ) (x : Instruction) (xs : List Instruction) (s : List Value) (g : Going) (v : Value) → Stand at (x ∷ xs)
       → ((k : ℕ) → act most literals (read_as x) (go k) (at + size_of x) s g ≡ go k (at + size_of x) (v ∷ s) g)
       → Leads at s g (at + size (x ∷ [])) (λ (w : Value). w ∷ s) (went v g)
   pushes at x xs s g v has does =
@@ -79,7 +79,7 @@ module _ (most : ℕ) (literals : List LiteralView) (bytes : List ℕ) where
       record { by = λ k. (suc k, act_at at x s g xs has k ∙ does k ∙ ap (λ n. go k n (v ∷ s) g) e) }
 
   -- code whose value isn't used
-  used_leads : (u : Use) (at : ℕ) (code : List Step) (s : List Value) (g : Going) (o : Outcome Value) → Stand at (used u code)
+  used_leads : (u : Use) (at : ℕ) (code : List Instruction) (s : List Value) (g : Going) (o : Outcome Value) → Stand at (used u code)
       → (Stand at code → Leads at s g (at + size code) (λ v. v ∷ s) o) → Leads at s g (at + size (used u code)) (left_by u s) o
   used_leads for_value at code s g o has run = run has
   used_leads for_effect at code s g o has run =
@@ -96,7 +96,7 @@ module _ (most : ℕ) (literals : List LiteralView) (bytes : List ℕ) where
       dropped unfinished l = tt
 
   -- a value that is returned
-  pub returns_leads : {A : Type 0} (at at' : ℕ) (x : Step) (xs : List Step) (s : List Value) (g : Going) (st : A → List Value) (v : Value) → Stand at (x ∷ xs)
+  pub returns_leads : {A : Type 0} (at at' : ℕ) (x : Instruction) (xs : List Instruction) (s : List Value) (g : Going) (st : A → List Value) (v : Value) → Stand at (x ∷ xs)
       → ((k : ℕ) → act most literals (read_as x) (go k) (at + size_of x) s g ≡ return_value most v g)
       → Leads at s g at' st (return_value most {A = A} v g)
   unfolding return_value
@@ -104,7 +104,7 @@ module _ (most : ℕ) (literals : List LiteralView) (bytes : List ℕ) where
       leads.over_leads most literals bytes at at' s g st (has_returned v) (λ k. leads.one_act most literals bytes at x s g xs has k ∙ does k)
 
   -- a conditional jump
-  jumps : {A : Type 0} (on : Bool) (d at at' : ℕ) (xs : List Step) (v : Value) (s : List Value) (g : Going) (st : A → List Value) (jump stay : Run A)
+  jumps : {A : Type 0} (on : Bool) (d at at' : ℕ) (xs : List Instruction) (v : Value) (s : List Value) (g : Going) (st : A → List Value) (jump stay : Run A)
       → Stand at (JumpIf on d ∷ xs)
       → Leads (at + size_of (JumpIf on d) + d) s g at' st (jump g) → Leads (at + size_of (JumpIf on d)) s g at' st (stay g)
       → Leads at (v ∷ s) g at' st (on_boolean most on v jump stay g)
@@ -140,7 +140,7 @@ module _ (most : ℕ) (literals : List LiteralView) (bytes : List ℕ) where
       by_value false (values.Answer n) e j t = unsure_leads (values.Answer n) e
 
   -- a choice between two sides, behind the value of its test
-  choice_leads : {A : Type 0} (on : Bool) (a b : List Step) (at : ℕ) (v : Value) (s : List Value) (g : Going) (st : A → List Value) (run_a run_b : Run A)
+  choice_leads : {A : Type 0} (on : Bool) (a b : List Instruction) (at : ℕ) (v : Value) (s : List Value) (g : Going) (st : A → List Value) (run_a run_b : Run A)
       → Stand at (choice on [] a b)
       → ((at1 : ℕ) → Stand at1 a → Leads at1 s g (at1 + size a) st (run_a g)) → ((at1 : ℕ) → Stand at1 b → Leads at1 s g (at1 + size b) st (run_b g))
       → Leads at (v ∷ s) g (at + size (choice on [] a b)) st (on_boolean most on v run_b run_a g)
@@ -149,7 +149,7 @@ module _ (most : ℕ) (literals : List LiteralView) (bytes : List ℕ) where
       (at_end at_b (at_b + size b) end s g st (run_b g) (omega (arith, sizes)) (rb at_b stand_b))
       (over_leads (run_a g) (ra at_a (front at_a a (over ∷ b) has.1)))
     where
-      over : Step
+      over : Instruction
       over = Jump (size b)
 
       d : ℕ
@@ -203,7 +203,7 @@ module _ (most : ℕ) (literals : List LiteralView) (bytes : List ℕ) where
   few_read n j h = let e : nat_lt n 256 ≡ true = grind (arith, nat_tests, h) in ap (λ (b : Bool). if b then n else long_count (n % 256) j) e
 
   -- the instruction that sends a message
-  sends : (above : Bool) (text : List ℕ) (by : By) (n at : ℕ) (vs : List Value) (r : Value) (s : List Value) (g : Going) (xs : List Step) → length vs ≡ n → n < 256 → SendingPlaced above text by n
+  sends : (above : Bool) (text : List ℕ) (by : By) (n at : ℕ) (vs : List Value) (r : Value) (s : List Value) (g : Going) (xs : List Instruction) → length vs ≡ n → n < 256 → SendingPlaced above text by n
       → Stand at (send_step above by n ∷ xs)
       → (k : ℕ) → go (suc k) at (vs ++ r ∷ s) g ≡ then_go (answer_to most r text (in_order vs) above g) (λ v. go k (at + size_of (send_step above by n)) (v ∷ s))
   sends true text (SelectorAt j) n at vs r s g xs len few p has k =
@@ -251,7 +251,7 @@ module _ (most : ℕ) (literals : List LiteralView) (bytes : List ℕ) where
   then_leads = leads.leads_then most literals bytes
 
   -- a message whose arguments are on the stack
-  send_leads : (above : Bool) (text : List ℕ) (by : By) (n at : ℕ) (vs : List Value) (r : Value) (s : List Value) (g : Going) (xs : List Step) → length vs ≡ n → n < 256 → SendingPlaced above text by n
+  send_leads : (above : Bool) (text : List ℕ) (by : By) (n at : ℕ) (vs : List Value) (r : Value) (s : List Value) (g : Going) (xs : List Instruction) → length vs ≡ n → n < 256 → SendingPlaced above text by n
       → Stand at (send_step above by n ∷ xs)
       → Leads at (vs ++ r ∷ s) g (at + size_of (send_step above by n)) (λ v. v ∷ s) (answer_to most r text (in_order vs) above g)
   send_leads above text by n at vs r s g xs len few p has =
@@ -259,7 +259,7 @@ module _ (most : ℕ) (literals : List LiteralView) (bytes : List ℕ) where
 
   -- VARIABLES AND LITERALS
 
-  reads : (p : Place) → IsVariable p → (f : Next) (at : ℕ) (s : List Value) (g : Going) → act most literals (Push p) f at s g ≡ f at (g.held (variable_of p) ∷ s) g
+  reads : (p : InstructionOperand) → IsVariable p → (f : Next) (at : ℕ) (s : List Value) (g : Going) → act most literals (Push p) f at s g ≡ f at (g.held (variable_of p) ∷ s) g
   reads (Field n) v f at s g = refl
   reads (Temporary n) v f at s g = refl
   reads (Shared n) v f at s g = refl
@@ -278,7 +278,7 @@ module _ (most : ℕ) (literals : List LiteralView) (bytes : List ℕ) where
   literal_pushed : (x : LiteralView) (place : ℕ) (f : Next) (at : ℕ) (s : List Value) (g : Going) → slice_get literals place ≡ Some x → act most literals (Push (Literal place)) f at s g ≡ f at (literal_value x place ∷ s) g
   literal_pushed x place f at s g p = ap (λ (o : Option LiteralView). done most (codes.on_some (option_map (λ l. literal_value l place) o) (λ y. codes.went (y ∷ s))) f at g) p
 
-  pub stores : (u : Use) (p : Place) (at : ℕ) (v : Value) (s : List Value) (g : Going) (xs : List Step) → Stand at (stored u p ∷ xs) → Leads at (v ∷ s) g (at + size_of (stored u p)) (left_by u s) (assign_to most (variable_of p) v g)
+  pub stores : (u : Use) (p : InstructionOperand) (at : ℕ) (v : Value) (s : List Value) (g : Going) (xs : List Instruction) → Stand at (stored u p ∷ xs) → Leads at (v ∷ s) g (at + size_of (stored u p)) (left_by u s) (assign_to most (variable_of p) v g)
   stores for_value p at v s g xs has = leads.act_leads most literals bytes at _ (v ∷ s) g (λ w. w ∷ s) (assign_to most (variable_of p) v g) (λ k. act_at at (Store p) (v ∷ s) g xs has k ∙ stored_same (variable_of p) v s k (at + size_of (Store p)) g)
   stores for_effect p at v s g xs has = leads.act_leads most literals bytes at _ (v ∷ s) g (λ w. s) (assign_to most (variable_of p) v g) (act_at at (PopStore p) (v ∷ s) g xs has)
 
@@ -306,16 +306,16 @@ module _ (most : ℕ) (literals : List LiteralView) (bytes : List ℕ) where
       by_test true = refl
       by_test false = refl
 
-  block_leads : (n : Node) (inside : List Step) (at : ℕ) (s : List Value) (g : Going) → Placed literals n → IsCount n → Stand at (block_code (code_of for_value n) inside)
+  block_leads : (n : Node) (inside : List Instruction) (at : ℕ) (s : List Value) (g : Going) → Placed literals n → IsCount n → Stand at (block_code (code_of for_value n) inside)
       → Leads at s g (at + size (block_code (code_of for_value n) inside)) (λ v. v ∷ s) (make_block most g)
   block_leads n inside at s g p c has =
       leads.comes_leads most literals bytes at at2 _ s (counted.0 ∷ constant_value Context ∷ s) g g (λ (v : Value). v ∷ s) (make_block most g) to_copy
       (then_at (make_block most g) (act_at at2 (SendSpecial (first_special + block_copy)) (counted.0 ∷ constant_value Context ∷ s) g (JumpPast (size inside) ∷ inside) stand_copy))
     where
-      code : List Step
+      code : List Instruction
       code = code_of for_value n
 
-      rest : List Step
+      rest : List Instruction
       rest = SendSpecial (first_special + block_copy) ∷ JumpPast (size inside) ∷ inside
 
       at1 : ℕ
@@ -347,7 +347,7 @@ module _ (most : ℕ) (literals : List LiteralView) (bytes : List ℕ) where
 
   -- CONDITIONAL FORMS
 
-  side_leads : (side : OneSided) (a : List Step) (at : ℕ) (v : Value) (s : List Value) (g : Going) (run_a : Run Value)
+  side_leads : (side : OneSided) (a : List Instruction) (at : ℕ) (v : Value) (s : List Value) (g : Going) (run_a : Run Value)
       → Stand at (choice (passes_on side) [] a (PushConstant (other_side side) ∷ []))
       → ((at1 : ℕ) → Stand at1 a → Leads at1 s g (at1 + size a) (λ (w : Value). w ∷ s) (run_a g))
       → Leads at (v ∷ s) g (at + size (choice (passes_on side) [] a (PushConstant (other_side side) ∷ []))) (λ (w : Value). w ∷ s) (sided most side v run_a g)
@@ -358,7 +358,7 @@ module _ (most : ℕ) (literals : List LiteralView) (bytes : List ℕ) where
   side_leads Or a at v s g run_a has ra =
       choice_leads true a (PushConstant True ∷ []) at v s g (λ (w : Value). w ∷ s) run_a (gives (constant_value True)) has ra (λ at1 h. pushes at1 (PushConstant True) [] s g (constant_value True) h (λ j. refl))
 
-  two_leads : (side : TwoSided) (a b : List Step) (at : ℕ) (v : Value) (s : List Value) (g : Going) (run_a run_b : Run Value)
+  two_leads : (side : TwoSided) (a b : List Instruction) (at : ℕ) (v : Value) (s : List Value) (g : Going) (run_a run_b : Run Value)
       → Stand at (chosen side [] a b)
       → ((at1 : ℕ) → Stand at1 a → Leads at1 s g (at1 + size a) (λ (w : Value). w ∷ s) (run_a g))
       → ((at1 : ℕ) → Stand at1 b → Leads at1 s g (at1 + size b) (λ (w : Value). w ∷ s) (run_b g))
@@ -371,7 +371,7 @@ module _ (most : ℕ) (literals : List LiteralView) (bytes : List ℕ) where
   goes_by WhileFalse v again leave = refl
 
   -- a loop's turn, and what comes after the jump back
-  turn_leads : (P : Type 0) (kind : Loop) (x a : List Step) (at : ℕ) (s : List Value) (run_x run_a rest : Run Value) (g : Going) → Stand at (repeat (leaves_on kind) x a)
+  turn_leads : (P : Type 0) (kind : Loop) (x a : List Instruction) (at : ℕ) (s : List Value) (run_x run_a rest : Run Value) (g : Going) → Stand at (repeat (leaves_on kind) x a)
       → Always (λ (v : Value). P) (run_x g) → Leads at s g (at + size x) (λ (v : Value). v ∷ s) (run_x g)
       → (P → (at1 : ℕ) (g : Going) → Stand at1 a → Leads at1 s g (at1 + size a) (λ (v : Value). v ∷ s) (run_a g))
       → ((g : Going) → Leads at s g (at + size (repeat (leaves_on kind) x a)) (λ (v : Value). v ∷ s) (rest g))
@@ -385,13 +385,13 @@ module _ (most : ℕ) (literals : List LiteralView) (bytes : List ℕ) where
       on : Bool
       on = leaves_on kind
 
-      leave : Step
+      leave : Instruction
       leave = JumpIf on (size a + 3)
 
       back_by : ℕ
       back_by = size x + size_of leave + size a + 3
 
-      behind : List Step
+      behind : List Instruction
       behind = a ++ Pop ∷ JumpBack back_by ∷ PushConstant Nil ∷ []
 
       st : Value → List Value
@@ -445,7 +445,7 @@ module _ (most : ℕ) (literals : List LiteralView) (bytes : List ℕ) where
           then_leads at_a at_pop end s g' st st (run_a g') (λ w. jump_back most rest) (ra p at_a g' (front at_a a (Pop ∷ JumpBack back_by ∷ PushConstant Nil ∷ []) stand_test.1))
           (λ w g2. leads.comes_leads most literals bytes at_pop (at_pop + 1) end (w ∷ s) s g2 g2 st (jump_back most rest g2) (record { by = λ k. (suc k, act_at at_pop Pop (w ∷ s) g2 (JumpBack back_by ∷ PushConstant Nil ∷ []) stand_pop k) }) (turns_back g2))
 
-  turns_lead : (P : Type 0) (kind : Loop) (x a : List Step) (at : ℕ) (s : List Value) (run_x run_a : Run Value) → Stand at (repeat (leaves_on kind) x a)
+  turns_lead : (P : Type 0) (kind : Loop) (x a : List Instruction) (at : ℕ) (s : List Value) (run_x run_a : Run Value) → Stand at (repeat (leaves_on kind) x a)
       → ((g : Going) → Always (λ (v : Value). P) (run_x g)) → ((g : Going) → Leads at s g (at + size x) (λ (v : Value). v ∷ s) (run_x g))
       → (P → (at1 : ℕ) (g : Going) → Stand at1 a → Leads at1 s g (at1 + size a) (λ (v : Value). v ∷ s) (run_a g))
       → (n : ℕ) (g : Going) → Leads at s g (at + size (repeat (leaves_on kind) x a)) (λ (v : Value). v ∷ s) (turns most n kind run_x run_a g)
@@ -465,7 +465,7 @@ module _ (most : ℕ) (literals : List LiteralView) (bytes : List ℕ) where
       (returns_leads (at + 1) at' ReturnTop [] (constant_value Context ∷ s) g st (constant_value Context) has.1 (λ k. refl))
 
   -- the value of a node that is no constant, returned
-  value_returns : {A : Type 0} (code : List Step) (at at' : ℕ) (s : List Value) (g : Going) (st : A → List Value) (o : Outcome Value) → Stand at (code ++ ReturnTop ∷ [])
+  value_returns : {A : Type 0} (code : List Instruction) (at at' : ℕ) (s : List Value) (g : Going) (st : A → List Value) (o : Outcome Value) → Stand at (code ++ ReturnTop ∷ [])
       → (Stand at code → Leads at s g (at + size code) (λ v. v ∷ s) o) → Leads at s g at' st (then_go o (λ v. return_value most {A = A} v))
   value_returns code at at' s g st o has run =
       then_leads at (at + size code) at' s g (λ v. v ∷ s) st o (λ v. return_value most v) (run (front at code (ReturnTop ∷ []) has))

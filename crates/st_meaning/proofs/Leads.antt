@@ -1,7 +1,7 @@
 -- What a walk comes to, piece by piece.
 use Rattle.std.proofs.Common.{◌≡◌, ℕ, suc, ◌+◌, ◌==◌, Bool, true, false, List, [], ◌∷◌, ◌++◌, length, drop, Option, Some, ap, ◌∙◌, subst, arith}
 use Rattle.std.specs.Prelude.{if◌then◌else◌}
-use Rattle.st_emit.specs.declared.step.Step.{Step}
+use Rattle.st_emit.specs.declared.instruction.Instruction.{Instruction}
 use Rattle.st_emit.specs.Literals.{LiteralView}
 use Rattle.st_emit.specs.Steps.{size, size_of}
 use Rattle.st_resolved.specs.declared.reading.Found.{Found}
@@ -16,15 +16,15 @@ module _ (most : ℕ) (literals : List LiteralView) (bytes : List ℕ) where
   go n = walk most literals bytes n
 
   -- these instructions stand at this place
-  abbrev pub Stand : ℕ → List Step → Type 0
+  abbrev pub Stand : ℕ → List Instruction → Type 0
   Stand at [] = Unit {0}
   Stand at (x ∷ xs) = (instruction (drop at bytes) ≡ Some (record { step = read_as x; size = size_of x })) × Stand (at + size_of x) xs
 
-  pub stand_front : (at : ℕ) (a b : List Step) → Stand at (a ++ b) → Stand at a
+  pub stand_front : (at : ℕ) (a b : List Instruction) → Stand at (a ++ b) → Stand at a
   stand_front at [] b h = tt
   stand_front at (x ∷ a) b h = (h.0, stand_front (at + size_of x) a b h.1)
 
-  pub stand_back : (at : ℕ) (a b : List Step) → Stand at (a ++ b) → Stand (at + size a) b
+  pub stand_back : (at : ℕ) (a b : List Instruction) → Stand at (a ++ b) → Stand (at + size a) b
   stand_back at [] b h = let e : at ≡ at + 0 = omega arith in subst (λ n. Stand n b) e h
   stand_back at (x ∷ a) b h =
       let e : at + size_of x + size a ≡ at + (size_of x + size a) = omega arith in
@@ -62,7 +62,7 @@ module _ (most : ℕ) (literals : List LiteralView) (bytes : List ℕ) where
   leads_at at at1 at2 s g st o e l = subst (λ n. Leads at s g n st o) e l
 
   -- one instruction
-  pub one_act : (at : ℕ) (x : Step) (s : List Value) (g : Going) (xs : List Step) → Stand at (x ∷ xs) → (k : ℕ) → go (suc k) at s g ≡ act most literals (read_as x) (go k) (at + size_of x) s g
+  pub one_act : (at : ℕ) (x : Instruction) (s : List Value) (g : Going) (xs : List Instruction) → Stand at (x ∷ xs) → (k : ℕ) → go (suc k) at s g ≡ act most literals (read_as x) (go k) (at + size_of x) s g
   unfolding walk
   one_act at x s g xs h k = ap (λ (o : Option Found). act_found most literals o (go k) at s g) h.0
 

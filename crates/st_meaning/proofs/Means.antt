@@ -4,7 +4,7 @@ use Rattle.std.specs.Prelude.{nat_lt}
 use Rattle.std.proofs.Common.{append_assoc, drop_at, length-append}
 use Rattle.st_scan.specs.Views.{MethodView}
 use Rattle.st_emit.specs.Bounds.{large_room}
-use Rattle.st_emit.specs.declared.step.Step.{Step}
+use Rattle.st_emit.specs.declared.instruction.Instruction.{Instruction}
 use Rattle.st_emit.specs.Names.{NamesView}
 use Rattle.st_emit.specs.Literals.{LiteralView}
 use Rattle.st_emit.specs.Steps.{size_of, bytes_of, all_bytes}
@@ -31,7 +31,7 @@ use Rattle.st_meaning.proofs.Methods.{method_comes, block_comes}
 use Rattle.st_scan.proofs.Classes.{neither}
 
 -- the instructions stand in their bytes
-all_stand : (most : ℕ) (literals : List LiteralView) (xs : List Step) (before : List ℕ) → AllFit xs → leads.Stand most literals (before ++ all_bytes xs) (length before) xs
+all_stand : (most : ℕ) (literals : List LiteralView) (xs : List Instruction) (before : List ℕ) → AllFit xs → leads.Stand most literals (before ++ all_bytes xs) (length before) xs
 all_stand most literals [] before h = tt
 all_stand most literals (x ∷ xs) before h =
     let bytes = before ++ all_bytes (x ∷ xs) in

@@ -1,9 +1,9 @@
 -- The walk over a method's code, and over a block's, does what its trace does.
 use Rattle.std.proofs.Common.{◌≡◌, ℕ, zero, suc, ◌+◌, Bool, true, false, ◌&&◌, List, [], ◌∷◌, ◌++◌, refl, ap, arith}
-use Rattle.st_emit.specs.declared.step.Constant.TheVariants.{Receiver}
-use Rattle.st_emit.specs.declared.step.Place.TheVariants as place
-use Rattle.st_emit.specs.declared.step.Step.{Step}
-use Rattle.st_emit.specs.declared.step.Step.TheVariants.{PopStore, ReturnBlock}
+use Rattle.st_emit.specs.declared.instruction.Constant.TheVariants.{Receiver}
+use Rattle.st_emit.specs.declared.instruction.InstructionOperand.TheVariants as place
+use Rattle.st_emit.specs.declared.instruction.Instruction.{Instruction}
+use Rattle.st_emit.specs.declared.instruction.Instruction.TheVariants.{PopStore, ReturnBlock}
 use Rattle.st_emit.specs.Literals.{LiteralView}
 use Rattle.st_emit.specs.Steps.{size, size_of}
 use Rattle.st_emit.specs.Nodes.{Body, nothing, last, next, returned, returns}
@@ -23,7 +23,7 @@ use Rattle.st_meaning.proofs.Leads as leads
 use Rattle.st_meaning.proofs.Follows.{node_leads, body_leads, then_leads, leads_where, constant_returns, node_returns, returns_leads, stores, front, back}
 
 module _ (most : ℕ) (literals : List LiteralView) (bytes : List ℕ) where
-  abbrev pub Stand : ℕ → List Step → Type 0
+  abbrev pub Stand : ℕ → List Instruction → Type 0
   Stand at xs = leads.Stand most literals bytes at xs
 
   abbrev Leads : {A : Type 0} → ℕ → List Value → Going → ℕ → (A → List Value) → Outcome A → Type 0

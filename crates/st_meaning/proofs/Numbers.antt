@@ -12,8 +12,8 @@ use Rattle.st_model.specs.declared.bytecode.Bytecode.{Bytecode}
 use Rattle.st_model.specs.declared.bytecode.Bytecode.TheVariants as code
 use Rattle.st_model.specs.Decoded.{decoded, operand_of, IsNumberedOperand}
 use Rattle.st_emit.specs.declared.names.Around.{Around}
-use Rattle.st_emit.specs.declared.step.Step.{Step}
-use Rattle.st_emit.specs.declared.step.Step.TheVariants.{Jump, JumpBack, JumpPast}
+use Rattle.st_emit.specs.declared.instruction.Instruction.{Instruction}
+use Rattle.st_emit.specs.declared.instruction.Instruction.TheVariants.{Jump, JumpBack, JumpPast}
 use Rattle.st_emit.specs.Names.{NamesView, Scope, Declared, Variable, temporary, field, shared, declared_as, own_variable, variable_named, or_else, if_named, field_from, field_named, shared_named}
 use Rattle.st_emit.specs.Literals.{LiteralView, named, named_literal}
 use Rattle.st_emit.specs.Steps.{is_short}
@@ -192,7 +192,7 @@ constant_low constant.Zero = tt
 constant_low constant.One = tt
 constant_low constant.Two = tt
 
-returned_low : (k : Constant) → FoundShort (option_map (λ (s : Step). record { step = s; size = 1 }) (returned_constant k))
+returned_low : (k : Constant) → FoundShort (option_map (λ (s : Instruction). record { step = s; size = 1 }) (returned_constant k))
 returned_low constant.True = tt
 returned_low constant.False = tt
 returned_low constant.Nil = tt

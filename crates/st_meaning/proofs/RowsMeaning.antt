@@ -3,8 +3,8 @@ use Rattle.std.proofs.Common.{ℕ, Bool, true, false, List, [], ◌∷◌, refl,
 use Rattle.std.specs.Prelude.{codes, pos, ◌≡◌}
 use Rattle.st_scan.specs.Views.{MethodView}
 use Rattle.st_scan.specs.Views as v
-use Rattle.st_emit.specs.declared.step.Constant.{Constant}
-use Rattle.st_emit.specs.declared.step.Constant.TheVariants.{Receiver, True, False, Nil, Context}
+use Rattle.st_emit.specs.declared.instruction.Constant.{Constant}
+use Rattle.st_emit.specs.declared.instruction.Constant.TheVariants.{Receiver, True, False, Nil, Context}
 use Rattle.st_scan.proofs.Worked.{signed, name_at as nm, literal_at as lit}
 use Rattle.st_emit.proofs.Worked.{point}
 use Rattle.st_code.specs.Methods.{body, parts}

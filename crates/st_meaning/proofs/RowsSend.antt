@@ -17,9 +17,9 @@ use Rattle.st_model.specs.Primitives.{succeed, primitive}
 use Rattle.st_model.specs.Arithmetic.{arithmetic, arithmetic_number, integer_answer, value_of_answer, equivalence, receiver_class}
 use Rattle.st_model.specs.Blocks.{primitive_value, value_if_any, value_with_words, start_of}
 use Rattle.st_model.specs.Bytecodes.{send_literal, send_literal_to_super, return_receiver, return_constant, return_top_to_sender, return_top_to_caller, or_send, arithmetic_by, arithmetic_send}
-use Rattle.st_emit.specs.declared.step.Constant.TheVariants.{Receiver}
-use Rattle.st_emit.specs.declared.step.Step.{Step as Code}
-use Rattle.st_emit.specs.declared.step.Step.TheVariants.{Send, SendSuper, SendSpecial, ReturnConstant, ReturnTop, ReturnBlock, JumpIf}
+use Rattle.st_emit.specs.declared.instruction.Constant.TheVariants.{Receiver}
+use Rattle.st_emit.specs.declared.instruction.Instruction.{Instruction as Code}
+use Rattle.st_emit.specs.declared.instruction.Instruction.TheVariants.{Send, SendSuper, SendSpecial, ReturnConstant, ReturnTop, ReturnBlock, JumpIf}
 use Rattle.st_emit.specs.Resolving.{special_selectors, first_special, block_copy}
 use Rattle.st_emit.specs.Selectors.{arity}
 use Rattle.st_meaning.specs.inside.Codes.{sent, returned, tested, on_top, on_some, on_message, sends, copies, sends_special, walk_code}

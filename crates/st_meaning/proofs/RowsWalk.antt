@@ -13,11 +13,11 @@ use Rattle.st_model.specs.Outcomes.{Outcome}
 use Rattle.st_model.specs.Outcomes as outcome
 use Rattle.st_model.specs.Executing.{goes_on}
 use Rattle.st_model.specs.Bytecodes.{fetch_receiver_variable, fetch_temporary_variable, fetch_literal_constant, fetch_literal_variable, fetch_operand, store_receiver_variable, store_temporary_variable, store_literal_variable, store_operand, push_operand, store_and_pop, push_receiver, constant_value, push_constant, pop_stack, duplicate_top, push_active_context}
-use Rattle.st_emit.specs.declared.step.Constant.TheVariants.{Receiver, Context}
-use Rattle.st_emit.specs.declared.step.Place.{Place}
-use Rattle.st_emit.specs.declared.step.Place.TheVariants.{Field, Temporary, Literal, Shared}
-use Rattle.st_emit.specs.declared.step.Step.{Step as Code}
-use Rattle.st_emit.specs.declared.step.Step.TheVariants.{Push, PushConstant, Store, PopStore, Pop, Duplicate}
+use Rattle.st_emit.specs.declared.instruction.Constant.TheVariants.{Receiver, Context}
+use Rattle.st_emit.specs.declared.instruction.InstructionOperand.{InstructionOperand}
+use Rattle.st_emit.specs.declared.instruction.InstructionOperand.TheVariants.{Field, Temporary, Literal, Shared}
+use Rattle.st_emit.specs.declared.instruction.Instruction.{Instruction as Code}
+use Rattle.st_emit.specs.declared.instruction.Instruction.TheVariants.{Push, PushConstant, Store, PopStore, Pop, Duplicate}
 use Rattle.st_resolved.specs.Instructions.{place_of, pushed_constant}
 use Rattle.st_meaning.specs.inside.Codes.{Walked, went, stored, ahead, aback, on_top, on_some, walk_code}
 use Rattle.st_meaning.specs.inside.Machines.{KeepsOthers, literal_in, object_in, field_at, literal_at, value_at, variable_at, values_in, words_from, stack_in, IsApart, IsWalked, IsOwn, Keeps, KeepsBut, GoesOn, Shows}
@@ -74,7 +74,7 @@ module _ {H : Type 0} (m : ObjectMemory H) (laws : KeepsOthers m) (k b : ℕ) wh
 
   -- STORES
 
-  abbrev StoredAt : Place → Value → State H → State H → Type 0
+  abbrev StoredAt : InstructionOperand → Value → State H → State H → Type 0
   StoredAt p x u t = GoesOn m b (stack_in m b u) u.registers.ip u t × (variable_at m t p ≡ Some x) × KeepsBut m k p u t
 
   goes_with : (u : State H) (g : H) → words_from m g u.registers.active u.registers.sp (u.registers.sp - (5 + b)) ≡ stack_in m b u
@@ -82,7 +82,7 @@ module _ {H : Type 0} (m : ObjectMemory H) (laws : KeepsOthers m) (k b : ℕ) wh
   goes_with u g e = record { active = refl; home = refl; method = refl; receiver = refl; stands = e; place = refl }
 
   field_kept : (u : State H) (g : H) (n : ℕ) (x : Value) → Frame u → Stored m u.memory g u.registers.receiver n x
-      → (p : Place) → IsOwn m k p → p ≢ Field n → variable_at m (record u { memory = g }) p ≡ variable_at m u p
+      → (p : InstructionOperand) → IsOwn m k p → p ≢ Field n → variable_at m (record u { memory = g }) p ≡ variable_at m u p
   field_kept u g n x f st (Field j) own d = field_else m laws u.memory g _ _ x st j (λ e. d (ap Field e))
   field_kept u g n x f st (Temporary j) own d = field_other m laws u.memory g _ _ x st u.registers.home (6 + j) (λ e. f.no_home (sym e))
   field_kept u g n x f st (Literal j) own d = absurd own
@@ -96,7 +96,7 @@ module _ {H : Type 0} (m : ObjectMemory H) (laws : KeepsOthers m) (k b : ℕ) wh
   )
 
   temporary_kept : (u : State H) (g : H) (n : ℕ) (x : Value) → Frame u → Stored m u.memory g u.registers.home (6 + n) x
-      → (p : Place) → IsOwn m k p → p ≢ Temporary n → variable_at m (record u { memory = g }) p ≡ variable_at m u p
+      → (p : InstructionOperand) → IsOwn m k p → p ≢ Temporary n → variable_at m (record u { memory = g }) p ≡ variable_at m u p
   temporary_kept u g n x f st (Field j) own d = field_other m laws u.memory g _ _ x st u.registers.receiver j f.no_home
   temporary_kept u g n x f st (Temporary j) own d = field_else m laws u.memory g _ _ x st (6 + j) (λ e. d (ap Temporary (omega (arith, e))))
   temporary_kept u g n x f st (Literal j) own d = absurd own
@@ -129,7 +129,7 @@ module _ {H : Type 0} (m : ObjectMemory H) (laws : KeepsOthers m) (k b : ℕ) wh
   }
 
   shared_kept : (u : State H) (g : H) (n : ℕ) (a x : Value) → Apart u a → Stored m u.memory g a 1 x
-      → (p : Place) → IsOwn m k p → p ≢ Shared n → variable_at m (record u { memory = g }) p ≡ variable_at m u p
+      → (p : InstructionOperand) → IsOwn m k p → p ≢ Shared n → variable_at m (record u { memory = g }) p ≡ variable_at m u p
   shared_kept u g n a x d st (Field j) own e = field_other m laws u.memory g _ _ x st u.registers.receiver j d.receiver
   shared_kept u g n a x d st (Temporary j) own e = field_other m laws u.memory g _ _ x st u.registers.home (6 + j) d.home
   shared_kept u g n a x d st (Literal j) own e = absurd own
@@ -143,7 +143,7 @@ module _ {H : Type 0} (m : ObjectMemory H) (laws : KeepsOthers m) (k b : ℕ) wh
   )
 
   -- what a store's code asks
-  abbrev MayStore : State H → Place → Type 0
+  abbrev MayStore : State H → InstructionOperand → Type 0
   MayStore u (Temporary n) = n < k
   MayStore u (Shared n) = IsApart m u (literal_at m u n)
   MayStore u p = Unit {0}
@@ -310,7 +310,7 @@ module _ {H : Type 0} (m : ObjectMemory H) (laws : KeepsOthers m) (k b : ℕ) wh
   ]
 
   -- what a code shows that takes the top: nothing where the stack is empty
-  pub by_top : (u t : State H) (z : Transition (State H) Outcome) (c : Code) (x : Value) (g : Option Value → List (Option Value) → Walked Place (Option Value)) → Frame u → Topped m u x
+  pub by_top : (u t : State H) (z : Transition (State H) Outcome) (c : Code) (x : Value) (g : Option Value → List (Option Value) → Walked InstructionOperand (Option Value)) → Frame u → Topped m u x
       → (5 + b < u.registers.sp → Shows m k b c (g (Some x) (stack_in m b (record u { registers = record u.registers { sp = u.registers.sp - 1 } }))) u t z)
       → Shows m k b c (on_top (stack_in m b u) g) u t z
   by_top u t z c x g f p shows = elim (below_or_not (5 + b) u.registers.sp) [
@@ -338,20 +338,20 @@ module _ {H : Type 0} (m : ObjectMemory H) (laws : KeepsOthers m) (k b : ℕ) wh
   may_store u (LiteralConstant n) w = tt
   may_store u (LiteralVariable n) w = w.apart
 
-  may_lowered : (u : State H) (p : Place) → MayStore u p → MayStore (lowered u) p
+  may_lowered : (u : State H) (p : InstructionOperand) → MayStore u p → MayStore (lowered u) p
   may_lowered u (Field n) y = tt
   may_lowered u (Temporary n) y = y
   may_lowered u (Literal n) y = tt
   may_lowered u (Shared n) y = y
 
   -- what is shown of the state without its top is shown of the state with it
-  kept_lowered : (u t : State H) (q : Place) → KeepsBut m k q (lowered u) t → KeepsBut m k q u t
+  kept_lowered : (u t : State H) (q : InstructionOperand) → KeepsBut m k q (lowered u) t → KeepsBut m k q u t
   kept_lowered u t q h (Field n) own d = h (Field n) own d
   kept_lowered u t q h (Temporary n) own d = h (Temporary n) own d
   kept_lowered u t q h (Literal n) own d = absurd own
   kept_lowered u t q h (Shared n) own d = absurd own
 
-  stored_lowered : (u t : State H) (p : Place) (x : Value) (c : Code) (z : Transition (State H) Outcome) → StoredAt p x (lowered u) t
+  stored_lowered : (u t : State H) (p : InstructionOperand) (x : Value) (c : Code) (z : Transition (State H) Outcome) → StoredAt p x (lowered u) t
       → Shows m k b c (stored p (Some x) (stack_in m b (lowered u))) u t z
   stored_lowered u t p x c z h =
       (record { active = h.0.active; home = h.0.home; method = h.0.method; receiver = h.0.receiver; stands = h.0.stands; place = h.0.place }, h.1, kept_lowered u t p h.2)
@@ -371,7 +371,7 @@ module _ {H : Type 0} (m : ObjectMemory H) (laws : KeepsOthers m) (k b : ℕ) wh
   abbrev pub store_top : Operand → Step H Unit
   store_top o = top m >>= (λ x. store_operand m o x)
 
-  stored_shown : (u t : State H) (p : Place) (x : Value) (z : Transition (State H) Outcome) → Frame u → Topped m u x → StoredAt p x u t
+  stored_shown : (u t : State H) (p : InstructionOperand) (x : Value) (z : Transition (State H) Outcome) → Frame u → Topped m u x → StoredAt p x u t
       → Shows m k b (Store p) (on_top (stack_in m b u) (λ y rest. stored p y (stack_in m b u))) u t z
   stored_shown u t p x z f top h = elim (below_or_not (5 + b) u.registers.sp) [
     | inl l ↦ subst (λ (s : List (Option Value)). Shows m k b (Store p) (on_top s (λ y rest. stored p y (stack_in m b u))) u t z) (sym (top_on u x f l top)) h

@@ -14,8 +14,8 @@ use Rattle.st_scan.specs.Views.{NameView, ExpressionView, StatementsView, block,
 use Rattle.st_scan.specs.inside.Chains.{LinkView, sent as sent_link, with_link, link_view}
 use Rattle.st_emit.specs.declared.draft.Draft.{Draft}
 use Rattle.st_emit.specs.declared.names.Around.{Around}
-use Rattle.st_emit.specs.declared.step.Constant.{Constant}
-use Rattle.st_emit.specs.declared.step.Place.{Place}
+use Rattle.st_emit.specs.declared.instruction.Constant.{Constant}
+use Rattle.st_emit.specs.declared.instruction.InstructionOperand.{InstructionOperand}
 use Rattle.st_emit.specs.declared.form.By.{By}
 use Rattle.st_emit.specs.declared.form.TwoSided.{TwoSided}
 use Rattle.st_emit.specs.declared.form.TwoSided.TheVariants.{TrueFirst, FalseFirst}
@@ -131,7 +131,7 @@ builds_given m Is s x e h = record {
 -- LEAVES
 
 -- a variable
-pub named_built : (a : Around) (n : Name) (place : Place) (v : Variable) (old new : Sketch) → constant_named n.text.items ≡ None → IsFew a → Resolves (place_at a n) old.draft new.draft place → new.nodes.items ≡ old.nodes.items
+pub named_built : (a : Around) (n : Name) (place : InstructionOperand) (v : Variable) (old new : Sketch) → constant_named n.text.items ≡ None → IsFew a → Resolves (place_at a n) old.draft new.draft place → new.nodes.items ≡ old.nodes.items
     → (IsShort place → v ≡ variable_of place) → Builds (name_node (context a) (name_view n)) (IsStart (Held v)) old new
 named_built a n place v old new plain few r same is =
     let short = λ (h : length (place_at a n (literals_of old)).literals ≤ 256). subst IsShort (sym r.part) (name_short a n (literals_of old) few h) in
@@ -139,7 +139,7 @@ named_built a n place v old new plain few r same is =
     (builds_resolved (place_at a n) (λ p. variable p) (IsStart (Held v)) old new place (name_grows a n) r same (λ ms h j. ap (λ (w : Variable). λ (g : Going). went (g.held w) g) (is (short h))))
 
 -- an assignment
-pub assign_built : (a : Around) (n : Name) (place : Place) (v : Variable) (old new : Sketch) → IsFew a → Resolves (place_at a n) old.draft new.draft place → new.nodes.items ≡ old.nodes.items
+pub assign_built : (a : Around) (n : Name) (place : InstructionOperand) (v : Variable) (old new : Sketch) → IsFew a → Resolves (place_at a n) old.draft new.draft place → new.nodes.items ≡ old.nodes.items
     → (IsShort place → v ≡ variable_of place) → Builds (place_at a n >>= λ p. given (assigned p)) (IsAct (Assign v)) old new
 assign_built a n place v old new few r same is =
     let short = λ (h : length (place_at a n (literals_of old)).literals ≤ 256). subst IsShort (sym r.part) (name_short a n (literals_of old) few h) in

@@ -23,10 +23,10 @@ use Rattle.st_model.specs.Returns.{jump_on}
 use Rattle.st_model.specs.Blocks.{primitive_block_copy, primitive_value}
 use Rattle.st_model.specs.Arithmetic.{equivalence, receiver_class}
 use Rattle.st_model.specs.Bytecodes.{bytecode, step, push_receiver, push_constant, return_receiver, return_top_to_sender, return_top_to_caller, pop_stack, duplicate_top, push_active_context, arithmetic_send, push_operand, store_and_pop, extended_push, extended_store, extended_store_and_pop, short_unconditional_jump, long_offset, long_unconditional_jump, send_literal, send_literal_to_super, extended_send, double_extended_send, extended_super_send, double_extended_super_send, short_jump_on_false, long_jump_on_true, long_jump_on_false, primitive_send, or_send, return_constant}
-use Rattle.st_emit.specs.declared.step.Constant.TheVariants.{Receiver, True, False, Nil, Context}
-use Rattle.st_emit.specs.declared.step.Place.TheVariants.{Field, Shared}
-use Rattle.st_emit.specs.declared.step.Step.{Step as Code}
-use Rattle.st_emit.specs.declared.step.Step.TheVariants.{Push, PushConstant, Store, PopStore, Pop, Duplicate, Send, SendSuper, SendSpecial, ReturnConstant, ReturnTop, ReturnBlock, Jump, JumpBack, JumpIf, JumpPast}
+use Rattle.st_emit.specs.declared.instruction.Constant.TheVariants.{Receiver, True, False, Nil, Context}
+use Rattle.st_emit.specs.declared.instruction.InstructionOperand.TheVariants.{Field, Shared}
+use Rattle.st_emit.specs.declared.instruction.Instruction.{Instruction as Code}
+use Rattle.st_emit.specs.declared.instruction.Instruction.TheVariants.{Push, PushConstant, Store, PopStore, Pop, Duplicate, Send, SendSuper, SendSpecial, ReturnConstant, ReturnTop, ReturnBlock, Jump, JumpBack, JumpIf, JumpPast}
 use Rattle.st_emit.specs.Steps.{is_short}
 use Rattle.st_emit.specs.Resolving.{first_special}
 use Rattle.st_resolved.specs.declared.reading.Found.{Found}

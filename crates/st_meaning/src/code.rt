@@ -12,7 +12,7 @@ use crate::deed::{CONTEXT, FALSE, NIL, RECEIVER, TRUE, Value, ValueList, Variabl
 use crate::held::Held;
 use crate::message::sends;
 use crate::short::{byte_of, variable_of};
-use st_emit::{Constant, Literal, Place, SPECIAL_SENDS, Step};
+use st_emit::{Constant, Instruction, InstructionOperand, Literal, SPECIAL_SENDS};
 use st_scan::Signed;
 use std::alloc::{AllocError, Global};
 
@@ -292,22 +292,26 @@ pub fn walk_code<'p>(
     stack: &mut ValueList,
     held: &Held,
     literals: &'p [Literal],
-    step: Step,
+    step: Instruction,
 ) -> Result<Walked<'p>, AllocError>
     requires { NamesShort step }
     ensures { IfOk result (Does (codes.walk_code (values_of (literals_view literals.now) (held_of held.now))
         step (stack_view stack.old.items)) stack.new.items) }
 {
     match step {
-        Step::Push(Place::Literal(n)) => pushes_literal(stack, literals, byte_of(n)),
-        Step::Push(place) => pushed(stack, held.value(variable_of(place))),
-        Step::PushConstant(constant) => pushed(stack, constant_value(constant)),
-        Step::PushNumber(n) => pushed(stack, small_value(n)),
-        Step::Store(place) => on_top(stack, Top::Stored(variable_of(place))),
-        Step::PopStore(place) => on_top(stack, Top::Popped(variable_of(place))),
-        Step::Pop => on_top(stack, Top::Dropped),
-        Step::Duplicate => on_top(stack, Top::Doubled),
-        Step::Send {
+        Instruction::Push(InstructionOperand::Literal(n)) => pushes_literal(
+            stack,
+            literals,
+            byte_of(n),
+        ),
+        Instruction::Push(place) => pushed(stack, held.value(variable_of(place))),
+        Instruction::PushConstant(constant) => pushed(stack, constant_value(constant)),
+        Instruction::PushNumber(n) => pushed(stack, small_value(n)),
+        Instruction::Store(place) => on_top(stack, Top::Stored(variable_of(place))),
+        Instruction::PopStore(place) => on_top(stack, Top::Popped(variable_of(place))),
+        Instruction::Pop => on_top(stack, Top::Dropped),
+        Instruction::Duplicate => on_top(stack, Top::Doubled),
+        Instruction::Send {
             arguments,
             selector,
         } => {
@@ -319,7 +323,7 @@ pub fn walk_code<'p>(
                 selector_at(literals, selector),
             )
         }
-        Step::SendSuper {
+        Instruction::SendSuper {
             arguments,
             selector,
         } => {
@@ -331,11 +335,13 @@ pub fn walk_code<'p>(
                 selector_at(literals, selector),
             )
         }
-        Step::SendSpecial(code) => sends_special(alloc, stack, code),
-        Step::ReturnConstant(constant) => Ok(Walked::Returned(constant_value(constant))),
-        Step::ReturnTop | Step::ReturnBlock => on_top(stack, Top::Returned),
-        Step::Jump(distance) | Step::JumpPast(distance) => Ok(Walked::Ahead(distance)),
-        Step::JumpBack(distance) => Ok(Walked::Back(distance)),
-        Step::JumpIf(on, distance) => on_top(stack, Top::Tested(on, distance)),
+        Instruction::SendSpecial(code) => sends_special(alloc, stack, code),
+        Instruction::ReturnConstant(constant) => Ok(Walked::Returned(constant_value(constant))),
+        Instruction::ReturnTop | Instruction::ReturnBlock => on_top(stack, Top::Returned),
+        Instruction::Jump(distance) | Instruction::JumpPast(distance) => Ok(Walked::Ahead(
+            distance,
+        )),
+        Instruction::JumpBack(distance) => Ok(Walked::Back(distance)),
+        Instruction::JumpIf(on, distance) => on_top(stack, Top::Tested(on, distance)),
     }
 }

@@ -13,16 +13,16 @@ use crate::deed::{AnswerList, Deeds};
 use crate::fault::MeaningFault;
 use crate::sketch::{Sketch, body};
 use crate::tracing::method;
-use st_emit::{Around, Frame, Names, inner_scope, places_of, sum};
+use st_emit::{Around, DeclaredNames, Names, inner_scope, places_of, sum};
 use st_scan::MethodTree;
 use std::alloc::{AllocError, Global};
 
 /// A scope of the arguments and the temporaries of a method.
 fn scope_of<'f>(
     alloc: Global,
-    arguments: Frame<'f>,
-    temporaries: Frame<'f>,
-) -> Result<Vec<Frame<'f>>, AllocError>
+    arguments: DeclaredNames<'f>,
+    temporaries: DeclaredNames<'f>,
+) -> Result<Vec<DeclaredNames<'f>>, AllocError>
     ensures { IfOk result (λ s.
         scope_view s.items ≡ frame_view arguments.entry ++ frame_view temporaries.entry) }
 {
@@ -41,14 +41,14 @@ fn sketched<'t>(
 {
     let first = tree.arguments.len();
     let argument_places = places_of(alloc, &tree.arguments)?;
-    let arguments = Frame {
+    let arguments = DeclaredNames {
         names: &tree.arguments,
         places: &argument_places,
         first: 0,
         assignable: false,
     };
     let temporary_places = places_of(alloc, &tree.temporaries)?;
-    let temporaries = Frame {
+    let temporaries = DeclaredNames {
         names: &tree.temporaries,
         places: &temporary_places,
         first,

@@ -12,7 +12,7 @@ use Rattle.st_code.specs.declared.fault.Fault.{Fault}
 use Rattle.st_code.specs.declared.fault.Cause.TheVariants.{Unknown, Store}
 use Rattle.st_code.specs.Faults.{fault_at, read_fault, stored_fault, store_fault, declare_fault, expression_fault, statements_fault, messages_fault, expressions_fault, method_fault}
 use Rattle.st_code.specs.Methods.{PartsView, code, body, parts, parts_or, fault, variables, own_variables, scope_from, simple, flag_of, count_of, room_bit, last_of, symbols_fault, primitive_fault, bounds_fault}
-use Rattle.st_emit.specs.declared.step.Step.{Step}
+use Rattle.st_emit.specs.declared.instruction.Instruction.{Instruction}
 use Rattle.st_emit.specs.Steps.{all_bytes}
 use Rattle.st_emit.specs.Emitting.{method_code}
 use Rattle.st_emit.specs.Depths.{empty, method_level}
@@ -97,7 +97,7 @@ module _ (a b : NamesView) (alike : SeesAlike a b) where
 
 module _ (tree : MethodView) where
   -- what is made of the body's nodes and literals
-  abbrev steps_of : Named Body → List Step
+  abbrev steps_of : Named Body → List Instruction
   steps_of made = method_code made.part
 
   abbrev literals_of : Named Body → List LiteralView

@@ -3,7 +3,7 @@ use Rattle.std.proofs.Common.{◌≡◌, ◌≢◌, ℕ, zero, suc, ◌+◌, ◌
 use Rattle.std.specs.Prelude.{Some, Result, nat_lt}
 use Rattle.std.proofs.lemmas.Bool.{lt-ltb}
 use Rattle.std.proofs.lemmas.List.{append-nil, append_cancel_left, take_all}
-use Rattle.st_host.specs.Runs.{Changes, WritesAbove, IsSynced, Makes}
+use Rattle.st_host.specs.Runs.{ChangesOneFile, WritesAbove, IsSynced, Makes}
 use Rattle.st_host.specs.declared.host.Host.{Ghosts}
 use Rattle.st_host.proofs.Touching.{above_changes}
 use Rattle.st_chunk.specs.Definitions.{entries}
@@ -60,8 +60,8 @@ module _ {D : Type 0} (host : Ghosts D) (st : StoreState) (slot : ℕ) (c : Comm
   other : List ℕ
   other = image_file st.name (other_image slot)
 
-  run : Changes host (image_file st.name (other_image slot)) a b
-  run = subst (λ (n : List ℕ). Changes host n a b) is (above_changes host file 0 a b writes)
+  run : ChangesOneFile host (image_file st.name (other_image slot)) a b
+  run = subst (λ (n : List ℕ). ChangesOneFile host n a b) is (above_changes host file 0 a b writes)
 
   pub still_kept : IsKept host b st (stored_of slot c)
   still_kept = record {

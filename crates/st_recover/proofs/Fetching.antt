@@ -2,7 +2,7 @@
 use Rattle.std.proofs.Common.{◌≡◌, ◌≤◌, ℕ, List, take, Option, IsTrue, ap, subst, ◌∙◌}
 use Rattle.st_host.specs.Files.{Files, bytes_of}
 use Rattle.st_host.specs.Stops.{Here}
-use Rattle.st_host.specs.Runs.{LeavesOnly, ReadsAlike, Narrows, NarrowsBut, Changes, Spares, IsAtRest}
+use Rattle.st_host.specs.Runs.{LeavesOnly, ReadsAlike, Narrows, NarrowsBut, ChangesOneFile, Spares, IsAtRest}
 use Rattle.st_host.specs.declared.host.Host.{Ghosts}
 use Rattle.st_host.proofs.Joining.{moments_join}
 use Rattle.st_host.proofs.Touching.{narrows_but, but_join, changes_spare, spares_join}
@@ -62,12 +62,12 @@ module _ {D : Type 0} (host : Ghosts D) where
   pub but_reading : (name : List ℕ) (a b d : D) → NarrowsBut host (roots_file name) a b → Narrows host b d → NarrowsBut host (roots_file name) a d
   but_reading name a b d first narrows = but_join host (roots_file name) a b d first (narrows_but host (roots_file name) b d narrows)
 
-  pub spares_image : (name other : List ℕ) (slot : ℕ) (a b m : D) → other ≡ name → Spares host (IsNoFileOf name) a b → Changes host (image_file other slot) b m → Spares host (IsNoFileOf name) a m
+  pub spares_image : (name other : List ℕ) (slot : ℕ) (a b m : D) → other ≡ name → Spares host (IsNoFileOf name) a b → ChangesOneFile host (image_file other slot) b m → Spares host (IsNoFileOf name) a m
   spares_image name other slot a b m same first changes =
       spares_join host (IsNoFileOf name) a b m first
       (changes_spare host (image_file other slot) (IsNoFileOf name) b m (λ n no e. no.image slot (e ∙ ap (λ x. image_file x slot) same)) changes)
 
-  pub spares_changes : (name other : List ℕ) (slot : ℕ) (a m d : D) → other ≡ name → Spares host (IsNoFileOf name) a m → Changes host (changes_file other slot) m d → Spares host (IsNoFileOf name) a d
+  pub spares_changes : (name other : List ℕ) (slot : ℕ) (a m d : D) → other ≡ name → Spares host (IsNoFileOf name) a m → ChangesOneFile host (changes_file other slot) m d → Spares host (IsNoFileOf name) a d
   spares_changes name other slot a m d same first changes =
       spares_join host (IsNoFileOf name) a m d first
       (changes_spare host (changes_file other slot) (IsNoFileOf name) m d (λ n no e. no.changes slot (e ∙ ap (λ x. changes_file x slot) same)) changes)

@@ -4,7 +4,7 @@ use Rattle.std.specs.Prelude.{◌⊎◌, Some, None, Result}
 use Rattle.std.proofs.lemmas.List.Elements.{All-nil}
 use Rattle.st_host.specs.Files.{Files, bytes_of}
 use Rattle.st_host.specs.Stops.{Here}
-use Rattle.st_host.specs.Runs.{LeavesOnly, Elsewhere, Changes, ChangesBoth, Spares, IsSynced, IsAtRest, Makes}
+use Rattle.st_host.specs.Runs.{LeavesOnly, Elsewhere, ChangesOneFile, ChangesBoth, Spares, IsSynced, IsAtRest, Makes}
 use Rattle.st_host.specs.declared.host.Host.{Ghosts}
 use Rattle.st_host.proofs.Joining.{weaker, moments_join}
 use Rattle.st_host.proofs.Touching.{changes_spare, spares_join}
@@ -37,11 +37,11 @@ module _ {D : Type 0} (host : Ghosts D) (name image : List ℕ) (a : D) where
   module _ (b : D) (told : IsTrue host.is_told) (none : HasLetters (bytes_of (host.files a (roots_file name))) → ⊥)
       (empty : Leaves host b (roots_file name) (λ file. bytes_of file ≡ [])) (quiet : host.said b ≡ host.said a) where
     -- while the image is written
-    pub imaging : (d : D) → LeavesOnly host a b Moment → Changes host (image_file name 0) b d → LeavesOnly host a d Moment
+    pub imaging : (d : D) → LeavesOnly host a b Moment → ChangesOneFile host (image_file name 0) b d → LeavesOnly host a d Moment
     imaging d first run = moments_join host a b d Moment (Elsewhere host (image_file name 0) b) first (run.moments told)
         (λ f s so. (so.0 ∙ quiet, inr (none, inl (empty_none (f (roots_file name)) (empty (f (roots_file name)) (so.1 (roots_file name) (λ e. image_roots name 0 (sym e))))))))
 
-    pub still_empty : (d : D) → Changes host (image_file name 0) b d → Leaves host d (roots_file name) (λ file. bytes_of file ≡ [])
+    pub still_empty : (d : D) → ChangesOneFile host (image_file name 0) b d → Leaves host d (roots_file name) (λ file. bytes_of file ≡ [])
     still_empty d run x can = empty x ((run.others told).fewer (roots_file name) x (λ e. image_roots name 0 (sym e)) can)
 
     maybe_made : (f : Files) → IsReadable image → OpensMaybe name None f ⊎ OpensMaybe name (Some (first_stored (length image) image)) f → IsMade host name (first_commit image) a f
@@ -137,14 +137,14 @@ found_store name image n l store named long is = is ∙ (λ i. record { name = n
 
 -- the files that it spares
 module _ {D : Type 0} (host : Ghosts D) (name : List ℕ) (a b d : D) where
-  pub roots_spared : Changes host (roots_file name) a b → Spares host (IsNoFirstFile name) a b
+  pub roots_spared : ChangesOneFile host (roots_file name) a b → Spares host (IsNoFirstFile name) a b
   roots_spared run = changes_spare host (roots_file name) (IsNoFirstFile name) a b (λ n no. no.roots) run
 
-  pub image_spared : Changes host (roots_file name) a b → Changes host (image_file name 0) b d → Spares host (IsNoFirstFile name) a d
+  pub image_spared : ChangesOneFile host (roots_file name) a b → ChangesOneFile host (image_file name 0) b d → Spares host (IsNoFirstFile name) a d
   image_spared first second =
       spares_join host (IsNoFirstFile name) a b d (roots_spared first) (changes_spare host (image_file name 0) (IsNoFirstFile name) b d (λ n no. no.image) second)
 
-  pub found_spared : (e : D) (n : List ℕ) → n ≡ name → Changes host (roots_file name) a b → Changes host (image_file name 0) b d → ChangesBoth host (changes_file n 0) (roots_file n) d e
+  pub found_spared : (e : D) (n : List ℕ) → n ≡ name → ChangesOneFile host (roots_file name) a b → ChangesOneFile host (image_file name 0) b d → ChangesBoth host (changes_file n 0) (roots_file n) d e
       → Spares host (IsNoFirstFile name) a e
   found_spared e n named first second third =
       spares_join host (IsNoFirstFile name) a d e (image_spared first second)

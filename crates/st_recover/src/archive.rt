@@ -11,7 +11,7 @@ ghost use Rattle.st_recover.specs.inside.Archives.{Holds, IsStoreOf, IsBesideCha
 ghost use Rattle.st_recover.specs.Commits.{Commit, OpensAs, accepting, imaged, image_in, other_image};
 
 use st_changes::{Changes, Definition as KeptDefinition};
-use st_chunk::Definition;
+use st_chunk::LentDefinition;
 use st_host::{Host, HostFault};
 use st_memory::Memory;
 use st_protocol::Status;
@@ -32,7 +32,7 @@ fn copied(alloc: Global, bytes: &[u8]) -> Result<Text, AllocError>
 /// A definition and its selector, with texts of their own.
 fn owned(
     alloc: Global,
-    definition: &Definition<'_>,
+    definition: &LentDefinition<'_>,
     selector: &[u8],
 ) -> Result<(KeptDefinition, Text), AllocError>
     ensures definition { IfOk result (λ r. kept_definition r.0 ≡ definition_of definition.now) }
@@ -100,7 +100,7 @@ impl Archive {
         &mut self,
         alloc: Global,
         host: &mut H,
-        definition: &Definition<'_>,
+        definition: &LentDefinition<'_>,
         selector: &[u8],
     ) -> Result<(), Status>
         requires good { IsDefinition (definition_of definition.now) }

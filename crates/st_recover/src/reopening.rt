@@ -1,7 +1,7 @@
 // Opening a store again, with its definitions replayed.
 ghost use Rattle.std.specs.Prelude.{◌≡◌, ◌≤◌, ◌<◌, ◌^◌, ℕ, List, length, All, IsTrue, IfOk, IfErr, OnOk};
 ghost use Rattle.st_host.specs.Files.{Files};
-ghost use Rattle.st_host.specs.Runs.{LeavesOnly, ReadsAlike, OnlyReads, Narrows, NarrowsBut, Changes as ChangesFile};
+ghost use Rattle.st_host.specs.Runs.{LeavesOnly, ReadsAlike, OnlyReads, Narrows, NarrowsBut, ChangesOneFile as ChangesFile};
 ghost use Rattle.st_host.specs.Runs.{Spares, IsAtRest, IsSynced};
 ghost use Rattle.st_model.specs.{Limits.longest_image, Image.image_head, View.no_devices, Machine.World};
 ghost use Rattle.st_frames.specs.{declared.frame.Frame.Frame, inside.Shown.{IsFrame, IsReady}};

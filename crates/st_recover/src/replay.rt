@@ -13,7 +13,7 @@ ghost use Rattle.st_recover.specs.inside.Replayings.{ReplaysAs, Notes};
 
 use crate::opened::{Lost, LostList};
 use st_changes::{Definition as KeptDefinition, find_selector};
-use st_chunk::Definition;
+use st_chunk::LentDefinition;
 use st_install::{Unprepared, carry_out, prepare};
 use st_memory::Memory;
 use st_protocol::Installation;
@@ -40,10 +40,10 @@ struct Attempt {
 }
 
 /// A definition, lent to what installs it.
-fn lend(definition: &KeptDefinition) -> Definition<'_>
+fn lend(definition: &KeptDefinition) -> LentDefinition<'_>
     ensures { definition_of result ≡ kept_definition definition.now }
 {
-    Definition {
+    LentDefinition {
         class: definition.class.as_slice(),
         meta: definition.meta,
         category: definition.category.as_slice(),

@@ -7,11 +7,11 @@ use Rattle.st_model.specs.declared.bytecode.Operand.TheVariants.{ReceiverVariabl
 use Rattle.st_model.specs.declared.bytecode.Bytecode.{Bytecode}
 use Rattle.st_model.specs.declared.bytecode.Bytecode.TheVariants as code
 use Rattle.st_model.specs.Decoded.{decoded, operand_of}
-use Rattle.st_emit.specs.declared.step.Constant.TheVariants.{Receiver, True, False, Nil, Context}
-use Rattle.st_emit.specs.declared.step.Place.{Place}
-use Rattle.st_emit.specs.declared.step.Place.TheVariants.{Field, Temporary, Literal, Shared}
-use Rattle.st_emit.specs.declared.step.Step.{Step}
-use Rattle.st_emit.specs.declared.step.Step.TheVariants.{Push, PushConstant, PushNumber, Store, PopStore, Pop, Duplicate, Send, SendSuper, SendSpecial, ReturnConstant, ReturnTop, ReturnBlock, Jump, JumpBack, JumpIf, JumpPast}
+use Rattle.st_emit.specs.declared.instruction.Constant.TheVariants.{Receiver, True, False, Nil, Context}
+use Rattle.st_emit.specs.declared.instruction.InstructionOperand.{InstructionOperand}
+use Rattle.st_emit.specs.declared.instruction.InstructionOperand.TheVariants.{Field, Temporary, Literal, Shared}
+use Rattle.st_emit.specs.declared.instruction.Instruction.{Instruction}
+use Rattle.st_emit.specs.declared.instruction.Instruction.TheVariants.{Push, PushConstant, PushNumber, Store, PopStore, Pop, Duplicate, Send, SendSuper, SendSpecial, ReturnConstant, ReturnTop, ReturnBlock, Jump, JumpBack, JumpIf, JumpPast}
 use Rattle.st_emit.specs.Steps.{size_of, bytes_of, all_bytes, named_by, long_send, long_send_size}
 use Rattle.st_resolved.specs.Instructions.{in_one, in_two, doubly, sending, returned_constant, place_of, long_count, long_on, instruction, instruction_by, on_some, steps_up, steps_of, read_as, Fits, AllFit}
 use Rattle.st_emit.proofs.Sizes.{size-bytes}
@@ -19,7 +19,7 @@ use Rattle.st_resolved.specs.declared.reading.Found.{Found}
 use Rattle.st_resolved.proofs.Sizes.{step_some}
 use Rattle.std.proofs.lemmas.Bool.{and_parts}
 
-abbrev found : Step → ℕ → Option Found
+abbrev found : Instruction → ℕ → Option Found
 found x n = Some (record { step = x; size = n })
 
 field_back : (n : ℕ) → n < 64 → operand_of (named_by 0 n) ≡ ReceiverVariable n
@@ -144,7 +144,7 @@ long_jump_false d bs h =
     decoded_as (172 + d / 256) (code.LongJumpOnFalse (d / 256)) (d % 256 ∷ bs) (false_code (d / 256) (omega arith)) ∙ ap (λ i. found (JumpIf false i) 2) g
 
 -- a choice of two forms
-by_test : (b : Bool) (x y : List ℕ) (m n : ℕ) (rest : List ℕ) (z : Step)
+by_test : (b : Bool) (x y : List ℕ) (m n : ℕ) (rest : List ℕ) (z : Instruction)
     → (b ≡ true → instruction (x ++ rest) ≡ found z m) → (b ≡ false → instruction (y ++ rest) ≡ found z n)
     → instruction ((if b then x else y) ++ rest) ≡ found z (if b then m else n)
 by_test true x y m n rest z t f = t refl
@@ -180,7 +180,7 @@ count_back n s f = by_count (nat_lt n 256) refl
     by_count true e = ap (λ (i : ℕ). long_count i s) (small_mod n (below n 256 e)) ∙ ap (λ (b : Bool). if b then n + 256 else n) f
     by_count false e = refl
 
-pub reads_back : (x : Step) (rest : List ℕ) → Fits x → instruction (bytes_of x ++ rest) ≡ Some (record { step = read_as x; size = size_of x })
+pub reads_back : (x : Instruction) (rest : List ℕ) → Fits x → instruction (bytes_of x ++ rest) ≡ Some (record { step = read_as x; size = size_of x })
 reads_back (Push (Field n)) rest h =
     by_test (nat_lt n 16) ((0 + n) ∷ []) (128 ∷ named_by 0 n ∷ []) 1 2 rest (Push (Field n)) (λ e. decoded_as (0 + n) (code.Push (ReceiverVariable n)) rest (push_field n (below n 16 e))) (λ e. ap (λ p. found (Push p) 2) (ap place_of (field_back n h)))
 reads_back (Push (Temporary n)) rest h =
@@ -240,20 +240,20 @@ reads_back (JumpIf false d) rest h =
 reads_back (JumpPast d) rest h = long_jump_on d rest h
 
 -- as many instructions as were written are read, if there are as many
-step_bytes : (x : Step) → (b : ℕ) × ((bs : List ℕ) × (bytes_of x ≡ b ∷ bs))
+step_bytes : (x : Instruction) → (b : ℕ) × ((bs : List ℕ) × (bytes_of x ≡ b ∷ bs))
 step_bytes x = some_bytes (bytes_of x) (omega (arith, size-bytes x, step_some x))
   where
     some_bytes : (l : List ℕ) → 1 ≤ length l → (b : ℕ) × ((bs : List ℕ) × (l ≡ b ∷ bs))
     some_bytes [] h = absurd (omega (arith, h))
     some_bytes (b ∷ bs) h = (b, (bs, refl))
 
-steps_more : (f : ℕ) (b : ℕ) (bs : List ℕ) (whole : List ℕ) (x : Found) → whole ≡ b ∷ bs → instruction whole ≡ Some x → steps_up (suc f) whole ≡ option_map (λ (ss : List Step). x.step ∷ ss) (steps_up f (drop x.size whole))
+steps_more : (f : ℕ) (b : ℕ) (bs : List ℕ) (whole : List ℕ) (x : Found) → whole ≡ b ∷ bs → instruction whole ≡ Some x → steps_up (suc f) whole ≡ option_map (λ (ss : List Instruction). x.step ∷ ss) (steps_up f (drop x.size whole))
 steps_more f b bs whole x e h =
     ap (steps_up (suc f)) e
-    ∙ ap (λ (o : Option Found). on_some o (λ y. option_map (λ (ss : List Step). y.step ∷ ss) (steps_up f (drop y.size (b ∷ bs))))) (sym (ap instruction e) ∙ h)
-    ∙ ap (λ (l : List ℕ). option_map (λ (ss : List Step). x.step ∷ ss) (steps_up f (drop x.size l))) (sym e)
+    ∙ ap (λ (o : Option Found). on_some o (λ y. option_map (λ (ss : List Instruction). y.step ∷ ss) (steps_up f (drop y.size (b ∷ bs))))) (sym (ap instruction e) ∙ h)
+    ∙ ap (λ (l : List ℕ). option_map (λ (ss : List Instruction). x.step ∷ ss) (steps_up f (drop x.size l))) (sym e)
 
-pub steps_up_back : (steps : List Step) (f : ℕ) → AllFit steps → length (all_bytes steps) ≤ f → steps_up f (all_bytes steps) ≡ Some (map read_as steps)
+pub steps_up_back : (steps : List Instruction) (f : ℕ) → AllFit steps → length (all_bytes steps) ≤ f → steps_up f (all_bytes steps) ≡ Some (map read_as steps)
 steps_up_back [] zero h k = refl
 steps_up_back [] (suc f) h k = refl
 steps_up_back (x ∷ xs) zero h k =
@@ -265,21 +265,21 @@ steps_up_back (x ∷ xs) (suc f) h k =
     let dropped : drop (size_of x) (bytes_of x ++ all_bytes xs) ≡ all_bytes xs = drop_at (bytes_of x) (all_bytes xs) (size_of x) (size-bytes x) in
     let less : length (all_bytes xs) ≤ f = omega (arith, k, length-append (bytes_of x) (all_bytes xs), size-bytes x, step_some x) in
     steps_more f s.0 (s.1.0 ++ all_bytes xs) (all_bytes (x ∷ xs)) (record { step = read_as x; size = size_of x }) whole (reads_back x (all_bytes xs) h.0)
-    ∙ ap (λ (l : List ℕ). option_map (λ (ss : List Step). read_as x ∷ ss) (steps_up f l)) dropped
-    ∙ ap (λ (o : Option (List Step)). option_map (λ (ss : List Step). read_as x ∷ ss) o) (steps_up_back xs f h.1 less)
+    ∙ ap (λ (l : List ℕ). option_map (λ (ss : List Instruction). read_as x ∷ ss) (steps_up f l)) dropped
+    ∙ ap (λ (o : Option (List Instruction)). option_map (λ (ss : List Instruction). read_as x ∷ ss) o) (steps_up_back xs f h.1 less)
 
 -- the instructions of bytes
-pub steps_back : (steps : List Step) → AllFit steps → steps_of (all_bytes steps) ≡ Some (map read_as steps)
+pub steps_back : (steps : List Instruction) → AllFit steps → steps_of (all_bytes steps) ≡ Some (map read_as steps)
 steps_back steps h = steps_up_back steps (length (all_bytes steps)) h (omega arith)
 
 -- an instruction has bytes
 some_size : (y x : Found) → Some y ≡ Some x → 1 ≤ y.size → 1 ≤ x.size
 some_size y x e h = let is : y ≡ x = cc in subst (λ (z : Found). 1 ≤ z.size) is h
 
-one_size : (s : Step) (x : Found) → in_one s ≡ Some x → 1 ≤ x.size
+one_size : (s : Instruction) (x : Found) → in_one s ≡ Some x → 1 ≤ x.size
 one_size s x e = some_size (record { step = s; size = 1 }) x e (omega arith)
 
-two_size : (f : ℕ → Step) (bs : List ℕ) (x : Found) → in_two f bs ≡ Some x → 1 ≤ x.size
+two_size : (f : ℕ → Instruction) (bs : List ℕ) (x : Found) → in_two f bs ≡ Some x → 1 ≤ x.size
 two_size f [] x e = absurd cc
 two_size f (b ∷ bs) x e = some_size (record { step = f b; size = 2 }) x e (omega arith)
 
@@ -288,7 +288,7 @@ three_size above [] x e = absurd cc
 three_size above (b ∷ []) x e = absurd cc
 three_size above (b ∷ c ∷ bs) x e = some_size (record { step = sending above (long_count b c) c; size = 3 }) x e (omega arith)
 
-returned_size : (o : Option Step) (x : Found) → option_map (λ (s : Step). record { step = s; size = 1 }) o ≡ Some x → 1 ≤ x.size
+returned_size : (o : Option Instruction) (x : Found) → option_map (λ (s : Instruction). record { step = s; size = 1 }) o ≡ Some x → 1 ≤ x.size
 returned_size None x e = absurd cc
 returned_size (Some s) x e = one_size s x e
 

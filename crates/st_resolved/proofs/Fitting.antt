@@ -3,11 +3,11 @@ use Rattle.std.proofs.Common.{◌≡◌, ℕ, zero, suc, ◌+◌, ◌-◌, ◌<�
 use Rattle.std.proofs.lemmas.Bool.Decides.{nat_tests}
 use Rattle.std.proofs.lemmas.Option.{slice_get_within}
 use Rattle.std.specs.Prelude.{if◌then◌else◌, nat_lt, nat_le, slice_get}
-use Rattle.st_emit.specs.declared.step.Constant.TheVariants.{Receiver, True, False, Nil, Context}
-use Rattle.st_emit.specs.declared.step.Place.{Place}
-use Rattle.st_emit.specs.declared.step.Place.TheVariants.{Field, Temporary, Literal, Shared}
-use Rattle.st_emit.specs.declared.step.Step.{Step}
-use Rattle.st_emit.specs.declared.step.Step.TheVariants.{Push, PushConstant, PushNumber, Pop, ReturnTop, Jump, JumpBack, JumpIf, JumpPast}
+use Rattle.st_emit.specs.declared.instruction.Constant.TheVariants.{Receiver, True, False, Nil, Context}
+use Rattle.st_emit.specs.declared.instruction.InstructionOperand.{InstructionOperand}
+use Rattle.st_emit.specs.declared.instruction.InstructionOperand.TheVariants.{Field, Temporary, Literal, Shared}
+use Rattle.st_emit.specs.declared.instruction.Instruction.{Instruction}
+use Rattle.st_emit.specs.declared.instruction.Instruction.TheVariants.{Push, PushConstant, PushNumber, Pop, ReturnTop, Jump, JumpBack, JumpIf, JumpPast}
 use Rattle.st_emit.specs.declared.form.By.{By}
 use Rattle.st_emit.specs.declared.form.By.TheVariants.{Special, SelectorAt}
 use Rattle.st_emit.specs.declared.form.TwoSided.TheVariants.{TrueFirst, FalseFirst}
@@ -25,32 +25,32 @@ use Rattle.st_resolved.proofs.Seen.{below_more, below_both, below_range}
 use Rattle.std.proofs.lemmas.Bool.{and_parts}
 
 -- an instruction that fits but for how far it jumps
-abbrev pub Held : Step → Type 0
+abbrev pub Held : Instruction → Type 0
 Held (Jump d) = Unit {0}
 Held (JumpPast d) = Unit {0}
 Held (JumpIf on d) = Unit {0}
 Held (JumpBack d) = 1 ≤ d
 Held s = Fits s
 
-abbrev pub AllHeld : List Step → Type 0
+abbrev pub AllHeld : List Instruction → Type 0
 AllHeld [] = Unit {0}
 AllHeld (s ∷ ss) = Held s × AllHeld ss
 
-both_held : (a b : List Step) → AllHeld a → AllHeld b → AllHeld (a ++ b)
+both_held : (a b : List Instruction) → AllHeld a → AllHeld b → AllHeld (a ++ b)
 both_held [] b h k = k
 both_held (s ∷ a) b h k = (h.0, both_held a b h.1 k)
 
 pub at_most : (m n : ℕ) → nat_le m n ≡ true → m ≤ n
 at_most m n e = grind (arith, nat_tests)
 
-held_fits : (s : Step) → Held s → reaches s ≡ true → Fits s
+held_fits : (s : Instruction) → Held s → reaches s ≡ true → Fits s
 held_fits (Jump d) h r = at_most d 1023 r
 held_fits (JumpPast d) h r = at_most d 1023 r
 held_fits (JumpIf on d) h r = at_most d 1023 r
 held_fits (JumpBack d) h r = (h, at_most d 1024 r)
 held_fits s h r = h
 
-pub all_fit : (ss : List Step) → AllHeld ss → all_reach ss ≡ true → AllFit ss
+pub all_fit : (ss : List Instruction) → AllHeld ss → all_reach ss ≡ true → AllFit ss
 all_fit [] h r = tt
 all_fit (s ∷ ss) h r = let p = and_parts (reaches s) (all_reach ss) r in (held_fits s h.0 p.0, all_fit ss h.1 p.1)
 
@@ -77,13 +77,13 @@ module _ (from to : ℕ) (names : NamesView) (final : List LiteralView) (short :
   found_few : (k : ℕ) (l : LiteralView) → slice_get final k ≡ Some l → k < 64
   found_few k l e = omega (arith, slice_get_within final k l e, short)
 
-  place_held : (p : Place) (ks : List ℕ) → AllBelow 64 ks → SeenPlace from to names final ks p → IsNumbered p
+  place_held : (p : InstructionOperand) (ks : List ℕ) → AllBelow 64 ks → SeenPlace from to names final ks p → IsNumbered p
   place_held (Temporary k) ks b s = in_below ks k s b
   place_held (Field n) ks b s = numbered_few (field_from 0 names.fields s.text) n s.is
   place_held (Shared p) ks b s = found_few p (named s.association) s.there
   place_held (Literal n) ks b s = absurd s
 
-  target_held : (p : Place) (ks : List ℕ) → AllBelow 64 ks → StoredPlace from to names final ks p → IsNumbered p
+  target_held : (p : InstructionOperand) (ks : List ℕ) → AllBelow 64 ks → StoredPlace from to names final ks p → IsNumbered p
   target_held (Temporary k) ks b s = in_below ks k s.0 b
   target_held (Field n) ks b s = numbered_few (field_from 0 names.fields s.text) n s.is
   target_held (Shared p) ks b s = found_few p (named s.association) s.there
@@ -97,18 +97,18 @@ module _ (from to : ℕ) (names : NamesView) (final : List LiteralView) (short :
   send_held true text (SelectorAt k) n h = found_few k _ h
   send_held false text (SelectorAt k) n h = found_few k _ h
 
-  used_held : (u : Use) (code : List Step) → AllHeld code → AllHeld (used u code)
+  used_held : (u : Use) (code : List Instruction) → AllHeld code → AllHeld (used u code)
   used_held for_value code h = h
   used_held for_effect code h = both_held code (Pop ∷ []) h (tt, tt)
 
-  stored_held : (u : Use) (p : Place) → IsNumbered p → AllHeld (stored u p ∷ [])
+  stored_held : (u : Use) (p : InstructionOperand) → IsNumbered p → AllHeld (stored u p ∷ [])
   stored_held for_value p h = (h, tt)
   stored_held for_effect p h = (h, tt)
 
-  choice_held : (on : Bool) (x a b : List Step) → AllHeld x → AllHeld a → AllHeld b → AllHeld (choice on x a b)
+  choice_held : (on : Bool) (x a b : List Instruction) → AllHeld x → AllHeld a → AllHeld b → AllHeld (choice on x a b)
   choice_held on x a b h k l = both_held x _ h (tt, both_held a _ k (tt, l))
 
-  repeat_held : (on : Bool) (x a : List Step) → AllHeld x → AllHeld a → AllHeld (repeat on x a)
+  repeat_held : (on : Bool) (x a : List Instruction) → AllHeld x → AllHeld a → AllHeld (repeat on x a)
   repeat_held on x a h k = both_held x _ h (tt, both_held a _ k (tt, (omega arith, (tt, tt))))
 
   pops_held : (first n : ℕ) → first + n ≤ 64 → AllHeld (pop_arguments first n)

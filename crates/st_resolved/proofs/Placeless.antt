@@ -15,7 +15,7 @@ use Rattle.st_code.specs.declared.fault.Cause.{Cause}
 use Rattle.st_code.specs.declared.fault.Cause.TheVariants.{Unknown, Twice, Store, Number}
 use Rattle.st_code.specs.Faults.{fault_at, stored_fault, store_fault, twice_fault, declare_fault, is_too_low, content_fault, elements_fault, expression_fault, statements_fault, messages_fault, expressions_fault, method_fault}
 use Rattle.st_emit.specs.Bounds.{most_flagged}
-use Rattle.st_emit.specs.declared.step.Step.{Step}
+use Rattle.st_emit.specs.declared.instruction.Instruction.{Instruction}
 use Rattle.st_emit.specs.Steps.{all_bytes, sends_super}
 use Rattle.st_emit.specs.Emitting.{method_code}
 use Rattle.st_emit.specs.Depths.{empty, method_level}
@@ -278,7 +278,7 @@ module _ (t : MethodView) (names : NamesView) where
   abbrev flag_by : (a k : ℕ) → Option Simple → ℕ
   flag_by a k s = if is_some t.primitive || nat_lt most_flagged a then 7 else (if not (a == 0 && k == 0) then a else simple_flag s)
 
-  abbrev last_by : ℕ → ℕ → List Step → List LiteralView
+  abbrev last_by : ℕ → ℕ → List Instruction → List LiteralView
   last_by a flag steps = if flag == 7 then lits.number (record { minus = false; size = a * 256 + primitive_number t.primitive }) ∷ lits.owner ∷ [] else (if sends_super steps then lits.owner ∷ [] else [])
 
   abbrev literals_by : (a k : ℕ) → Named Body → List LiteralView

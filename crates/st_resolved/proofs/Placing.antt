@@ -5,9 +5,9 @@ use Rattle.std.specs.Prelude.{if◌then◌else◌, slice_get}
 use Rattle.st_scan.specs.declared.token.Signed.{Signed}
 use Rattle.st_scan.specs.Views.{is_super, ContentView, ExpressionView, StatementsView, MessagesView, ExpressionsView}
 use Rattle.st_scan.specs.Views as views
-use Rattle.st_emit.specs.declared.step.Constant.{Constant}
-use Rattle.st_emit.specs.declared.step.Place.{Place}
-use Rattle.st_emit.specs.declared.step.Place.TheVariants.{Field, Temporary, Shared}
+use Rattle.st_emit.specs.declared.instruction.Constant.{Constant}
+use Rattle.st_emit.specs.declared.instruction.InstructionOperand.{InstructionOperand}
+use Rattle.st_emit.specs.declared.instruction.InstructionOperand.TheVariants.{Field, Temporary, Shared}
 use Rattle.st_emit.specs.declared.form.By.{By}
 use Rattle.st_emit.specs.declared.form.By.TheVariants.{Special, SelectorAt}
 use Rattle.st_emit.specs.declared.form.TwoSided.TheVariants.{TrueFirst, FalseFirst}
@@ -61,7 +61,7 @@ module _ (final : List LiteralView) where
   puts_place (Some (field n)) = puts_given IsVariable (Field n) tt
   puts_place (Some (shared p)) = puts_end (λ (k : ℕ). slice_get final k ≡ Some (lits.named p)) IsVariable (named_literal (lits.named p)) Shared (puts_literal (lits.named p)) (λ k e. tt)
 
-  pub puts_name : (k : Option Constant) (m : Naming Place) → Puts IsVariable m → Puts (Placed final) (constant_or k m)
+  pub puts_name : (k : Option Constant) (m : Naming InstructionOperand) → Puts IsVariable m → Puts (Placed final) (constant_or k m)
   puts_name (Some k) m h = puts_given (Placed final) (nodes.constant k) tt
   puts_name None m h = puts_end IsVariable (Placed final) m nodes.variable h (λ p i. i)
 

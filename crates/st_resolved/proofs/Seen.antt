@@ -5,9 +5,9 @@ use Rattle.std.specs.Prelude.{if◌then◌else◌, nat_lt, slice_get, is_some, b
 use Rattle.st_scan.specs.declared.token.Signed.{Signed}
 use Rattle.st_scan.specs.Views.{is_super, NameView, ContentView, ExpressionView, StatementsView, MessagesView, ExpressionsView}
 use Rattle.st_scan.specs.Views as views
-use Rattle.st_emit.specs.declared.step.Constant.{Constant}
-use Rattle.st_emit.specs.declared.step.Place.{Place}
-use Rattle.st_emit.specs.declared.step.Place.TheVariants.{Field, Temporary, Shared}
+use Rattle.st_emit.specs.declared.instruction.Constant.{Constant}
+use Rattle.st_emit.specs.declared.instruction.InstructionOperand.{InstructionOperand}
+use Rattle.st_emit.specs.declared.instruction.InstructionOperand.TheVariants.{Field, Temporary, Shared}
 use Rattle.st_emit.specs.declared.form.TwoSided.TheVariants.{TrueFirst, FalseFirst}
 use Rattle.st_emit.specs.declared.form.Form.{Form}
 use Rattle.st_emit.specs.declared.form.Form.TheVariants.{One, Two, Repeated}
@@ -75,10 +75,10 @@ module _ (from to : ℕ) where
         by_test false i later = let r = later i in (inr r.0, r.1)
 
     module _ (s : Scope) (text : List ℕ) (is_scope : IsScope from to s) (plain : constant_named text ≡ None) where
-      abbrev Stored : Place → Type 0
+      abbrev Stored : InstructionOperand → Type 0
       Stored p = StoredPlace from to names final (numbers s) p
 
-      abbrev IsSeen : Place → Type 0
+      abbrev IsSeen : InstructionOperand → Type 0
       IsSeen p = SeenPlace from to names final (numbers s) p
 
       shared_seen : (a : ℕ) → field_named names text ≡ None → shared_named names text ≡ Some a → Puts final IsSeen (place_named (Some (shared a)))
@@ -298,18 +298,18 @@ module _ (from to : ℕ) where
         by_constant (Some k) e i = puts_given final (Seen from to names final (numbers s)) (nodes.constant k) tt
         by_constant None e i =
             let v = known n s i in
-            puts_end final (λ (p : Place). SeenPlace from to names final (numbers s) p) (Seen from to names final (numbers s)) (place_of_name (ctx s next) n) nodes.variable
-            (subst (λ (o : Option Variable). Puts final (λ (p : Place). SeenPlace from to names final (numbers s) p) (place_named o)) (sym v.1) (read_seen s n.text h e v.0 v.1)) (λ p q. q)
+            puts_end final (λ (p : InstructionOperand). SeenPlace from to names final (numbers s) p) (Seen from to names final (numbers s)) (place_of_name (ctx s next) n) nodes.variable
+            (subst (λ (o : Option Variable). Puts final (λ (p : InstructionOperand). SeenPlace from to names final (numbers s) p) (place_named o)) (sym v.1) (read_seen s n.text h e v.0 v.1)) (λ p q. q)
 
-    target_seen : (n : NameView) (s : Scope) (next : ℕ) → IsScope from to s → store_fault names s n ≡ None → Puts final (λ (p : Place). StoredPlace from to names final (numbers s) p) (place_of_name (ctx s next) n)
+    target_seen : (n : NameView) (s : Scope) (next : ℕ) → IsScope from to s → store_fault names s n ≡ None → Puts final (λ (p : InstructionOperand). StoredPlace from to names final (numbers s) p) (place_of_name (ctx s next) n)
     target_seen n s next h f = by_constant (constant_named n.text) refl f
       where
-        by_variable : (o : Option Variable) → constant_named n.text ≡ None → variable_named names s n.text ≡ o → stored_fault n.place o ≡ None → Puts final (λ (p : Place). StoredPlace from to names final (numbers s) p) (place_named o)
+        by_variable : (o : Option Variable) → constant_named n.text ≡ None → variable_named names s n.text ≡ o → stored_fault n.place o ≡ None → Puts final (λ (p : InstructionOperand). StoredPlace from to names final (numbers s) p) (place_named o)
         by_variable None e i g = absurd cc
         by_variable (Some v) e i g = stored_seen s n.text h e n.place v i g
 
         by_constant : (k : Option Constant) → constant_named n.text ≡ k → (if is_some k then fault_at n.place Store else stored_fault n.place (variable_named names s n.text)) ≡ None
-            → Puts final (λ (p : Place). StoredPlace from to names final (numbers s) p) (place_of_name (ctx s next) n)
+            → Puts final (λ (p : InstructionOperand). StoredPlace from to names final (numbers s) p) (place_of_name (ctx s next) n)
         by_constant (Some k) e i = absurd cc
         by_constant None e i = by_variable (variable_named names s n.text) e refl i
 
@@ -346,7 +346,7 @@ module _ (from to : ℕ) where
           let hs = or_none _ _ h in
           no_block (numbers s) _ (seen_tailed (numbers s) (is_plain e) (expression_node e (ctx s next)) (assign_tail (ctx s next) target) (grows_end (place_of_name (ctx s next) target) nodes.assigned (grows_place (variable_named names s target.text)))
           (expression_seen e f s next a fits hs.1)
-          (puts_end final (λ (p : Place). StoredPlace from to names final (numbers s) p) (TailSeen (numbers s) (is_plain e)) (place_of_name (ctx s next) target) nodes.assigned (target_seen target s next a.scope (store_alike names f s target a.alike hs.0)) (λ p q. q)))
+          (puts_end final (λ (p : InstructionOperand). StoredPlace from to names final (numbers s) p) (TailSeen (numbers s) (is_plain e)) (place_of_name (ctx s next) target) nodes.assigned (target_seen target s next a.scope (store_alike names f s target a.alike hs.0)) (λ p q. q)))
       expression_seen (views.send r ms) f s next a fits h =
           let hs = or_none (expression_fault names r f) (messages_fault names ms f) h in
           let d = behind (ctx s next) (names_in r) in

@@ -2,17 +2,17 @@
 use Rattle.std.proofs.Common.{◌≡◌, ℕ, ◌+◌, ◌-◌, ◌≤◌, Bool, true, false, List, [], ◌∷◌, ◌++◌, arith}
 use Rattle.std.specs.Prelude.{if◌then◌else◌, nat_lt, nat_le, ◌&&◌}
 use Rattle.st_emit.specs.Bounds.{short_pushes, short_literals, short_pops, short_selectors, short_arguments, long_selectors, long_arguments}
-use Rattle.st_emit.specs.declared.step.Constant.TheVariants.{Receiver, Nil, Context}
-use Rattle.st_emit.specs.declared.step.Place.{Place}
-use Rattle.st_emit.specs.declared.step.Place.TheVariants.{Field, Temporary, Literal, Shared}
-use Rattle.st_emit.specs.declared.step.Step.{Step}
-use Rattle.st_emit.specs.declared.step.Step.TheVariants.{Push, PushConstant, PushNumber, Store, PopStore, Pop, Duplicate, Send, SendSuper, SendSpecial, ReturnConstant, ReturnTop, ReturnBlock, Jump, JumpBack, JumpIf, JumpPast}
+use Rattle.st_emit.specs.declared.instruction.Constant.TheVariants.{Receiver, Nil, Context}
+use Rattle.st_emit.specs.declared.instruction.InstructionOperand.{InstructionOperand}
+use Rattle.st_emit.specs.declared.instruction.InstructionOperand.TheVariants.{Field, Temporary, Literal, Shared}
+use Rattle.st_emit.specs.declared.instruction.Instruction.{Instruction}
+use Rattle.st_emit.specs.declared.instruction.Instruction.TheVariants.{Push, PushConstant, PushNumber, Store, PopStore, Pop, Duplicate, Send, SendSuper, SendSpecial, ReturnConstant, ReturnTop, ReturnBlock, Jump, JumpBack, JumpIf, JumpPast}
 use Rattle.st_emit.specs.Steps.{size, size_of, long_if, is_short, long_send_size, push_size, pop_size}
 use Rattle.st_emit.specs.declared.form.TwoSided.TheVariants.{TrueFirst, FalseFirst}
 use Rattle.st_emit.specs.Nodes.{Node, constant, small, literal, variable, assign, block, send, one_sided, two_sided, loop, Body, nothing, last, next, returned}
 use Rattle.st_emit.specs.Emitting.{Use, for_value, for_effect, used, stored, code_of, body_code, messages_code, return_code}
 
-pub size-append : (a b : List Step) → size (a ++ b) ≡ size a + size b
+pub size-append : (a b : List Instruction) → size (a ++ b) ≡ size a + size b
 size-append [] b = omega arith
 size-append (x ∷ a) b = omega (arith, size-append a b)
 
@@ -20,13 +20,13 @@ long_some : (b : Bool) → 1 ≤ long_if b
 long_some true = omega arith
 long_some false = omega arith
 
-push_some : (p : Place) → 1 ≤ push_size p
+push_some : (p : InstructionOperand) → 1 ≤ push_size p
 push_some (Field n) = long_some (nat_lt n short_pushes)
 push_some (Temporary n) = long_some (nat_lt n short_pushes)
 push_some (Literal n) = long_some (nat_lt n short_literals)
 push_some (Shared n) = long_some (nat_lt n short_literals)
 
-pop_some : (p : Place) → 1 ≤ pop_size p
+pop_some : (p : InstructionOperand) → 1 ≤ pop_size p
 pop_some (Field n) = long_some (nat_lt n short_pops)
 pop_some (Temporary n) = long_some (nat_lt n short_pops)
 pop_some (Literal n) = omega arith
@@ -40,7 +40,7 @@ one_or : (b : Bool) (n : ℕ) → 1 ≤ n → 1 ≤ (if b then 1 else n)
 one_or true n h = omega arith
 one_or false n h = h
 
-pub step_some : (s : Step) → 1 ≤ size_of s
+pub step_some : (s : Instruction) → 1 ≤ size_of s
 step_some (Push p) = push_some p
 step_some (PushConstant k) = omega arith
 step_some (PushNumber n) = omega arith
@@ -61,13 +61,13 @@ step_some (JumpIf false d) = long_some (is_short d)
 step_some (JumpPast d) = omega arith
 
 -- behind code that has bytes
-pub more_some : (a b : List Step) → 1 ≤ size a → 1 ≤ size (a ++ b)
+pub more_some : (a b : List Instruction) → 1 ≤ size a → 1 ≤ size (a ++ b)
 more_some a b h = omega (arith, size-append a b, h)
 
-pub first_some : (s : Step) (b : List Step) → 1 ≤ size (s ∷ b)
+pub first_some : (s : Instruction) (b : List Instruction) → 1 ≤ size (s ∷ b)
 first_some s b = omega (arith, step_some s)
 
-used_some : (u : Use) (code : List Step) → 1 ≤ size code → 1 ≤ size (used u code)
+used_some : (u : Use) (code : List Instruction) → 1 ≤ size code → 1 ≤ size (used u code)
 used_some for_value code h = h
 used_some for_effect code h = more_some code (Pop ∷ []) h
 

@@ -10,27 +10,27 @@ use Rattle.st_model.specs.declared.bytecode.Bytecode.{Bytecode}
 use Rattle.st_model.specs.declared.bytecode.Bytecode.TheVariants as code
 use Rattle.st_model.specs.Decoded.{decoded, operand_of, selector_of, arguments_of}
 use Rattle.st_emit.specs.Bounds.{long_selectors, long_arguments}
-use Rattle.st_emit.specs.declared.step.Constant.TheVariants.{Receiver, True, False, Nil, Context}
-use Rattle.st_emit.specs.declared.step.Place.{Place}
-use Rattle.st_emit.specs.declared.step.Place.TheVariants.{Field, Temporary, Literal, Shared}
-use Rattle.st_emit.specs.declared.step.Step.{Step}
-use Rattle.st_emit.specs.declared.step.Step.TheVariants.{Push, PushConstant, PushNumber, Store, PopStore, Pop, Duplicate, Send, SendSuper, SendSpecial, ReturnConstant, ReturnTop, ReturnBlock, Jump, JumpBack, JumpIf, JumpPast}
+use Rattle.st_emit.specs.declared.instruction.Constant.TheVariants.{Receiver, True, False, Nil, Context}
+use Rattle.st_emit.specs.declared.instruction.InstructionOperand.{InstructionOperand}
+use Rattle.st_emit.specs.declared.instruction.InstructionOperand.TheVariants.{Field, Temporary, Literal, Shared}
+use Rattle.st_emit.specs.declared.instruction.Instruction.{Instruction}
+use Rattle.st_emit.specs.declared.instruction.Instruction.TheVariants.{Push, PushConstant, PushNumber, Store, PopStore, Pop, Duplicate, Send, SendSuper, SendSpecial, ReturnConstant, ReturnTop, ReturnBlock, Jump, JumpBack, JumpIf, JumpPast}
 use Rattle.st_emit.specs.Steps.{is_short}
 use Rattle.st_emit.specs.Resolving.{first_special}
 use Rattle.st_resolved.specs.declared.reading.Found.{Found}
 
 -- READING
 
-abbrev pub place_of : Operand → Place
+abbrev pub place_of : Operand → InstructionOperand
 place_of (ReceiverVariable n) = Field n
 place_of (TemporaryVariable n) = Temporary n
 place_of (LiteralConstant n) = Literal n
 place_of (LiteralVariable n) = Shared n
 
-abbrev pub place_in : ℕ → Place
+abbrev pub place_in : ℕ → InstructionOperand
 place_in b = place_of (operand_of b)
 
-abbrev pub pushed_constant : Constant → Step
+abbrev pub pushed_constant : Constant → Instruction
 pushed_constant constant.True = PushConstant True
 pushed_constant constant.False = PushConstant False
 pushed_constant constant.Nil = PushConstant Nil
@@ -40,26 +40,26 @@ pushed_constant constant.One = PushNumber 2
 pushed_constant constant.Two = PushNumber 3
 
 -- no code returns a number
-abbrev pub returned_constant : Constant → Option Step
+abbrev pub returned_constant : Constant → Option Instruction
 returned_constant constant.True = Some (ReturnConstant True)
 returned_constant constant.False = Some (ReturnConstant False)
 returned_constant constant.Nil = Some (ReturnConstant Nil)
 returned_constant _ = None
 
-abbrev pub in_one : Step → Option Found
+abbrev pub in_one : Instruction → Option Found
 in_one step = Some (record { step = step; size = 1 })
 
 -- with one more byte, or two
-abbrev pub in_two : (ℕ → Step) → List ℕ → Option Found
+abbrev pub in_two : (ℕ → Instruction) → List ℕ → Option Found
 in_two f [] = None
 in_two f (b ∷ bs) = Some (record { step = f b; size = 2 })
 
-abbrev pub in_three : (ℕ → ℕ → Step) → List ℕ → Option Found
+abbrev pub in_three : (ℕ → ℕ → Instruction) → List ℕ → Option Found
 in_three f (b ∷ c ∷ bs) = Some (record { step = f b c; size = 3 })
 in_three f _ = None
 
 -- a message to super or not
-abbrev pub sending : (above : Bool) → (arguments selector : ℕ) → Step
+abbrev pub sending : (above : Bool) → (arguments selector : ℕ) → Instruction
 sending true n s = SendSuper n s
 sending false n s = Send n s
 
@@ -71,11 +71,11 @@ abbrev pub doubly : (above : Bool) → List ℕ → Option Found
 doubly above bs = in_three (λ n s. sending above (long_count n s) s) bs
 
 -- a jump by two bytes that one would have done passes a block's body
-abbrev pub long_on : ℕ → Step
+abbrev pub long_on : ℕ → Instruction
 long_on d = if is_short d then JumpPast d else Jump d
 
 -- the codes from 160 on, by their number: back, and from the fifth on forward
-abbrev pub long_jump_by : ℕ → ℕ → Step
+abbrev pub long_jump_by : ℕ → ℕ → Instruction
 long_jump_by i b = if nat_lt i 4 then JumpBack ((4 - i) * 256 - b) else long_on ((i - 4) * 256 + b)
 
 -- a bytecode and the bytes behind its first
@@ -85,7 +85,7 @@ instruction_by (code.StoreAndPop o) bs = in_one (PopStore (place_of o))
 instruction_by code.PushReceiver bs = in_one (PushConstant Receiver)
 instruction_by (code.PushConstant k) bs = in_one (pushed_constant k)
 instruction_by code.ReturnReceiver bs = in_one (ReturnConstant Receiver)
-instruction_by (code.ReturnConstant k) bs = option_map (λ (s : Step). record { step = s; size = 1 }) (returned_constant k)
+instruction_by (code.ReturnConstant k) bs = option_map (λ (s : Instruction). record { step = s; size = 1 }) (returned_constant k)
 instruction_by code.ReturnTopToSender bs = in_one ReturnTop
 instruction_by code.ReturnTopToCaller bs = in_one ReturnBlock
 instruction_by code.Unused bs = None
@@ -118,31 +118,31 @@ on_some None f = None
 on_some (Some x) f = f x
 
 -- at most so many instructions
-abbrev pub steps_up : ℕ → List ℕ → Option (List Step)
+abbrev pub steps_up : ℕ → List ℕ → Option (List Instruction)
 steps_up f [] = Some []
 steps_up zero (b ∷ bs) = None
-steps_up (suc f) (b ∷ bs) = on_some (instruction (b ∷ bs)) (λ x. option_map (λ (ss : List Step). x.step ∷ ss) (steps_up f (drop x.size (b ∷ bs))))
+steps_up (suc f) (b ∷ bs) = on_some (instruction (b ∷ bs)) (λ x. option_map (λ (ss : List Instruction). x.step ∷ ss) (steps_up f (drop x.size (b ∷ bs))))
 
-abbrev pub steps_of : List ℕ → Option (List Step)
+abbrev pub steps_of : List ℕ → Option (List Instruction)
 steps_of bytes = steps_up (length bytes) bytes
 
 -- READING BACK
 
 -- an instruction as it is read back
-abbrev pub read_as : Step → Step
+abbrev pub read_as : Instruction → Instruction
 read_as (Send n s) = Send (if nat_lt n 256 then n else long_count (n % 256) s) s
 read_as (SendSuper n s) = SendSuper (if nat_lt n 256 then n else long_count (n % 256) s) s
 read_as (JumpPast d) = long_on d
 read_as s = s
 
-abbrev pub IsNumbered : Place → Type 0
+abbrev pub IsNumbered : InstructionOperand → Type 0
 IsNumbered (Field n) = n < 64
 IsNumbered (Temporary n) = n < 64
 IsNumbered (Literal n) = n < 64
 IsNumbered (Shared n) = n < 64
 
 -- an instruction whose numbers its bytes can hold
-abbrev pub Fits : Step → Type 0
+abbrev pub Fits : Instruction → Type 0
 Fits (Push p) = IsNumbered p
 Fits (PushNumber n) = n ≤ 3
 Fits (Store p) = IsNumbered p
@@ -157,6 +157,6 @@ Fits (JumpIf on d) = d ≤ 1023
 Fits (JumpBack d) = (1 ≤ d) × (d ≤ 1024)
 Fits _ = Unit {0}
 
-abbrev pub AllFit : List Step → Type 0
+abbrev pub AllFit : List Instruction → Type 0
 AllFit [] = Unit {0}
 AllFit (x ∷ xs) = Fits x × AllFit xs

@@ -7,71 +7,71 @@ ghost use Rattle.st_resolved.specs.Instructions.{place_of, pushed_constant, retu
 ghost use Rattle.st_resolved.specs.Instructions.{long_jump_by, doubly, sending, place_in, in_one, instruction_by};
 ghost use Rattle.st_resolved.specs.Instructions.{instruction};
 
-use st_emit::{Constant as Pseudo, Lookup, Place, Step};
+use st_emit::{Constant as Pseudo, Instruction, InstructionOperand, Lookup};
 use st_model::{Bytecode, Constant, Operand, decode, extended_operand};
 
 /// An instruction, and how many bytes it has.
 #[derive(Clone, Copy)]
 pub struct Found {
-    pub step: Step,
+    pub step: Instruction,
     pub size: usize,
 }
 
-fn place_of(operand: Operand) -> Place
+fn place_of(operand: Operand) -> InstructionOperand
     ensures { result ≡ place_of operand }
 {
     match operand {
-        Operand::ReceiverVariable(n) => Place::Field(n as usize),
-        Operand::TemporaryVariable(n) => Place::Temporary(n as usize),
-        Operand::LiteralConstant(n) => Place::Literal(n as usize),
-        Operand::LiteralVariable(n) => Place::Shared(n as usize),
+        Operand::ReceiverVariable(n) => InstructionOperand::Field(n as usize),
+        Operand::TemporaryVariable(n) => InstructionOperand::Temporary(n as usize),
+        Operand::LiteralConstant(n) => InstructionOperand::Literal(n as usize),
+        Operand::LiteralVariable(n) => InstructionOperand::Shared(n as usize),
     }
 }
 
-fn pushed_constant(constant: Constant) -> Step
+fn pushed_constant(constant: Constant) -> Instruction
     ensures { result ≡ pushed_constant constant }
 {
     match constant {
-        Constant::True => Step::PushConstant(Pseudo::True),
-        Constant::False => Step::PushConstant(Pseudo::False),
-        Constant::Nil => Step::PushConstant(Pseudo::Nil),
-        Constant::MinusOne => Step::PushNumber(0),
-        Constant::Zero => Step::PushNumber(1),
-        Constant::One => Step::PushNumber(2),
-        Constant::Two => Step::PushNumber(3),
+        Constant::True => Instruction::PushConstant(Pseudo::True),
+        Constant::False => Instruction::PushConstant(Pseudo::False),
+        Constant::Nil => Instruction::PushConstant(Pseudo::Nil),
+        Constant::MinusOne => Instruction::PushNumber(0),
+        Constant::Zero => Instruction::PushNumber(1),
+        Constant::One => Instruction::PushNumber(2),
+        Constant::Two => Instruction::PushNumber(3),
     }
 }
 
 /// What returns a constant; no code returns a number.
-fn returned_constant(constant: Constant) -> Option<Step>
+fn returned_constant(constant: Constant) -> Option<Instruction>
     ensures { result ≡ returned_constant constant }
 {
     match constant {
-        Constant::True => Some(Step::ReturnConstant(Pseudo::True)),
-        Constant::False => Some(Step::ReturnConstant(Pseudo::False)),
-        Constant::Nil => Some(Step::ReturnConstant(Pseudo::Nil)),
+        Constant::True => Some(Instruction::ReturnConstant(Pseudo::True)),
+        Constant::False => Some(Instruction::ReturnConstant(Pseudo::False)),
+        Constant::Nil => Some(Instruction::ReturnConstant(Pseudo::Nil)),
         _ => None,
     }
 }
 
 /// A jump on by two bytes.
-fn long_on(distance: usize) -> Step
+fn long_on(distance: usize) -> Instruction
     ensures { result ≡ long_on distance }
 {
     if 1 <= distance && distance <= 8 {
-        Step::JumpPast(distance)
+        Instruction::JumpPast(distance)
     } else {
-        Step::Jump(distance)
+        Instruction::Jump(distance)
     }
 }
 
 /// A jump by one of the codes from 160 on, by its number, and a byte.
-fn long_jump_by(number: u8, byte: u8) -> Step
+fn long_jump_by(number: u8, byte: u8) -> Instruction
     requires { number < 8 }
     ensures { result ≡ long_jump_by number byte }
 {
     if number < 4 {
-        Step::JumpBack((4 - number as usize) * 256 - byte as usize)
+        Instruction::JumpBack((4 - number as usize) * 256 - byte as usize)
     } else {
         long_on((number as usize - 4) * 256 + byte as usize)
     }
@@ -89,15 +89,15 @@ fn long_count(arguments: u8, selector: u8) -> usize
 }
 
 /// A send of a selector that is looked up there.
-fn sent(lookup: Lookup, arguments: usize, selector: usize) -> Step
+fn sent(lookup: Lookup, arguments: usize, selector: usize) -> Instruction
     ensures { result ≡ sending (is_above lookup) arguments selector }
 {
     match lookup {
-        Lookup::InClass => Step::Send {
+        Lookup::InClass => Instruction::Send {
             arguments,
             selector,
         },
-        Lookup::InSuperclass => Step::SendSuper {
+        Lookup::InSuperclass => Instruction::SendSuper {
             arguments,
             selector,
         },
@@ -116,27 +116,27 @@ fn doubly(lookup: Lookup, arguments: u8, rest: &[u8]) -> Option<Found>
     Some(Found { step, size: 3 })
 }
 
-fn in_one(step: Step) -> Option<Found>
+fn in_one(step: Instruction) -> Option<Found>
     ensures { result ≡ in_one step }
 {
     Some(Found { step, size: 1 })
 }
 
-fn in_two(step: Step) -> Option<Found>
+fn in_two(step: Instruction) -> Option<Found>
     ensures { result ≡ Some (record { step = step; size = 2 }) }
 {
     Some(Found { step, size: 2 })
 }
 
 /// What an extended code's byte names.
-fn place_in(byte: u8) -> Place
+fn place_in(byte: u8) -> InstructionOperand
     ensures { result ≡ place_in byte }
 {
     place_of(extended_operand(byte))
 }
 
 /// A send whose second byte has the selector in its lower five bits, and the number of arguments in its upper three.
-fn extended(lookup: Lookup, byte: u8) -> Step
+fn extended(lookup: Lookup, byte: u8) -> Instruction
     ensures { result ≡ sending (is_above lookup) (arguments_of byte) (selector_of byte) }
 {
     sent(lookup, (byte / 32) as usize, (byte % 32) as usize)
@@ -148,23 +148,23 @@ fn alone(code: Bytecode) -> Option<Found>
     ensures { result ≡ instruction_by code [] }
 {
     match code {
-        Bytecode::Push(operand) => in_one(Step::Push(place_of(operand))),
-        Bytecode::StoreAndPop(operand) => in_one(Step::PopStore(place_of(operand))),
-        Bytecode::PushReceiver => in_one(Step::PushConstant(Pseudo::Receiver)),
+        Bytecode::Push(operand) => in_one(Instruction::Push(place_of(operand))),
+        Bytecode::StoreAndPop(operand) => in_one(Instruction::PopStore(place_of(operand))),
+        Bytecode::PushReceiver => in_one(Instruction::PushConstant(Pseudo::Receiver)),
         Bytecode::PushConstant(constant) => in_one(pushed_constant(constant)),
-        Bytecode::PushActiveContext => in_one(Step::PushConstant(Pseudo::Context)),
-        Bytecode::ReturnReceiver => in_one(Step::ReturnConstant(Pseudo::Receiver)),
+        Bytecode::PushActiveContext => in_one(Instruction::PushConstant(Pseudo::Context)),
+        Bytecode::ReturnReceiver => in_one(Instruction::ReturnConstant(Pseudo::Receiver)),
         Bytecode::ReturnConstant(constant) => in_one(returned_constant(constant)?),
-        Bytecode::ReturnTopToSender => in_one(Step::ReturnTop),
-        Bytecode::ReturnTopToCaller => in_one(Step::ReturnBlock),
-        Bytecode::PopStack => in_one(Step::Pop),
-        Bytecode::DuplicateTop => in_one(Step::Duplicate),
-        Bytecode::ShortUnconditionalJump(i) => in_one(Step::Jump(i as usize + 1)),
-        Bytecode::ShortJumpOnFalse(i) => in_one(Step::JumpIf(false, i as usize + 1)),
+        Bytecode::ReturnTopToSender => in_one(Instruction::ReturnTop),
+        Bytecode::ReturnTopToCaller => in_one(Instruction::ReturnBlock),
+        Bytecode::PopStack => in_one(Instruction::Pop),
+        Bytecode::DuplicateTop => in_one(Instruction::Duplicate),
+        Bytecode::ShortUnconditionalJump(i) => in_one(Instruction::Jump(i as usize + 1)),
+        Bytecode::ShortJumpOnFalse(i) => in_one(Instruction::JumpIf(false, i as usize + 1)),
         Bytecode::ArithmeticSend(i) | Bytecode::SpecialSend(i) | Bytecode::PrimitiveSend(i) => {
-            in_one(Step::SendSpecial(176 + i))
+            in_one(Instruction::SendSpecial(176 + i))
         }
-        Bytecode::LiteralSend { literal, arguments } => in_one(Step::Send {
+        Bytecode::LiteralSend { literal, arguments } => in_one(Instruction::Send {
             arguments: arguments as usize,
             selector: literal as usize,
         }),
@@ -178,17 +178,20 @@ fn by_second(code: Bytecode, byte: u8, more: &[u8]) -> Option<Found>
     ensures { result ≡ instruction_by code (byte ∷ more.now) }
 {
     match code {
-        Bytecode::ExtendedPush => in_two(Step::Push(place_in(byte))),
-        Bytecode::ExtendedStore => in_two(Step::Store(place_in(byte))),
-        Bytecode::ExtendedStoreAndPop => in_two(Step::PopStore(place_in(byte))),
+        Bytecode::ExtendedPush => in_two(Instruction::Push(place_in(byte))),
+        Bytecode::ExtendedStore => in_two(Instruction::Store(place_in(byte))),
+        Bytecode::ExtendedStoreAndPop => in_two(Instruction::PopStore(place_in(byte))),
         Bytecode::ExtendedSend => in_two(extended(Lookup::InClass, byte)),
         Bytecode::ExtendedSuperSend => in_two(extended(Lookup::InSuperclass, byte)),
         Bytecode::DoubleExtendedSend => doubly(Lookup::InClass, byte, more),
         Bytecode::DoubleExtendedSuperSend => doubly(Lookup::InSuperclass, byte, more),
         Bytecode::LongUnconditionalJump(i) => in_two(long_jump_by(i, byte)),
-        Bytecode::LongJumpOnTrue(i) => in_two(Step::JumpIf(true, i as usize * 256 + byte as usize)),
+        Bytecode::LongJumpOnTrue(i) => in_two(Instruction::JumpIf(
+            true,
+            i as usize * 256 + byte as usize,
+        )),
         Bytecode::LongJumpOnFalse(i) => {
-            in_two(Step::JumpIf(false, i as usize * 256 + byte as usize))
+            in_two(Instruction::JumpIf(false, i as usize * 256 + byte as usize))
         }
         _ => alone(code),
     }

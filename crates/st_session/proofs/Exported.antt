@@ -3,7 +3,7 @@ use Rattle.std.proofs.Common.{◌≡◌, ◌≢◌, ◌⊎◌, inl, inr, ℕ, �
 use Rattle.std.specs.Prelude.{Some, None, Result, Ok, Err, IfErr}
 use Rattle.std.specs.Option.{option_or}
 use Rattle.st_host.specs.Files.{Files}
-use Rattle.st_host.specs.Runs.{LeavesOnly, NarrowsBut, ReadsAlike, ReadsAndSays, Changes, WritesAbove, Spares, IsAtRest}
+use Rattle.st_host.specs.Runs.{LeavesOnly, NarrowsBut, ReadsAlike, ReadsAndSays, ChangesOneFile, WritesAbove, Spares, IsAtRest}
 use Rattle.st_host.specs.Stops.{SaidPart, WhileSaying}
 use Rattle.st_host.specs.inside.Telling.{Says}
 use Rattle.st_host.specs.declared.host.Host.{Ghosts}
@@ -65,7 +65,7 @@ module _ {D : Type 0} (host : Ghosts D) (name : List ℕ) where
   abbrev Others : D → Files → List ℕ → Type 0
   Others old f s = (n : List ℕ) → n ≢ name → host.may_leave old n (f n)
 
-  others_changed : (old new : D) → Changes host name old new → LeavesOthers host name old new
+  others_changed : (old new : D) → ChangesOneFile host name old new → LeavesOthers host name old new
   others_changed old new run = record {
     spares = changes_spare host name (λ n. n ≢ name) old new (λ n is. is) run;
     moments = λ told. weaker host old new (Others old) _ (run.moments told) (λ f s so. so.1);

@@ -9,7 +9,7 @@ use Rattle.st_chunk.specs.declared.cutting.Fed.TheVariants as answers
 use Rattle.st_chunk.specs.declared.request.Request.TheVariants.{Define}
 use Rattle.st_chunk.specs.Texts.{mark, most, doubled, chunk_text, is_empty}
 use Rattle.st_chunk.specs.Feeding.{State, fed, answer}
-use Rattle.st_chunk.specs.Groups.{trimmed, Header, header_of}
+use Rattle.st_chunk.specs.Groups.{trimmed, GroupHeader, header_of}
 use Rattle.st_chunk.specs.Definitions.{group_definitions}
 use Rattle.st_chunk.specs.Reading.{Place, InLine, Opened, InHeader, InMethods, Defined, Reading, Told, begun, start_with, method_told, method_byte, method_ended, line_byte, byte_in, line_from, line_behind, read}
 use Rattle.st_chunk.specs.Scripts.{Asked, Defines, asked_by, asked_from}
@@ -50,10 +50,10 @@ record Acts (to : State → Place) (place : Place) (s : State) : Type 0 where
 in_header : (s : State) → Acts InHeader (InHeader s) s
 in_header s = record { step = λ r here b e. rw e refl }
 
-in_methods : (h : Header) (s : State) → Acts (InMethods h) (InMethods h s) s
+in_methods : (h : GroupHeader) (s : State) → Acts (InMethods h) (InMethods h s) s
 in_methods h s = record { step = λ r here b e. rw e refl }
 
-behind_method : (h : Header) (bytes : List ℕ) (b : ℕ) → Acts (InMethods h) (Defined h (record { bytes = bytes; phase = Ends b })) (begun b)
+behind_method : (h : GroupHeader) (bytes : List ℕ) (b : ℕ) → Acts (InMethods h) (Defined h (record { bytes = bytes; phase = Ends b })) (begun b)
 behind_method h bytes b = record { step = λ r here c e. rw e refl }
 
 fed_mark : (bytes : List ℕ) (b : ℕ) → (b == mark) ≡ true → fed (within bytes) b ≡ marked bytes
@@ -109,20 +109,20 @@ module _ (to : State → Place) (acts : (s : State) → Acts to (to s) s) where
 -- METHODS
 
 -- Before the first byte of a chunk below this header: what that byte asks for, and where it leads.
-record Waits (h : Header) (r : Reading) (asks : List Asked) : Type 0 where
+record Waits (h : GroupHeader) (r : Reading) (asks : List Asked) : Type 0 where
   place : ℕ → Place
   start : ℕ
   goes : (b : ℕ) (more : List ℕ) → (b == mark) ≡ false → asked_from r (b ∷ more) ≡ asks ++ asked_from (at (place b) (line_behind b r.line) start) more
   acts : (b : ℕ) → Acts (InMethods h) (place b) (begun b)
 
-behind_header : (h : Header) (bytes : List ℕ) (n start : ℕ) → header_of bytes ≡ Some h → Waits h (at (InHeader (marked bytes)) n start) []
+behind_header : (h : GroupHeader) (bytes : List ℕ) (n start : ℕ) → header_of bytes ≡ Some h → Waits h (at (InHeader (marked bytes)) n start) []
 unfolding read
 behind_header h bytes n start is = record { place = λ b. InMethods h (begun b); start = n; goes = goes; acts = λ b. in_methods h (begun b) }
   where
     goes : (b : ℕ) (more : List ℕ) → (b == mark) ≡ false → asked_from (at (InHeader (marked bytes)) n start) (b ∷ more) ≡ asked_from (at (InMethods h (begun b)) (line_behind b n) n) more
     goes b more e = rw (e, is) refl
 
-module _ (h : Header) where
+module _ (h : GroupHeader) where
   abbrev defined : List ℕ → Asked
   defined method = Defines (record { class = h.class; meta = h.meta; category = h.category; text = trimmed method })
 
@@ -216,7 +216,7 @@ header_read n (b ∷ tail) more is =
           ∙ ap (λ (x : List ℕ). asked_from (at (InHeader (marked (b ∷ tail))) (line_after n (x ++ mark ∷ [])) body.0) more) (sym (once b tail plain)),
     )
 
-defined_all : (h : Header) (methods : List (List ℕ)) → map (defined h) methods ≡ map Defines (group_definitions (record { header = h; methods = map trimmed methods }))
+defined_all : (h : GroupHeader) (methods : List (List ℕ)) → map (defined h) methods ≡ map Defines (group_definitions (record { header = h; methods = map trimmed methods }))
 defined_all h [] = refl
 defined_all h (m ∷ methods) = ap (λ (x : List Asked). defined h m ∷ x) (defined_all h methods)
 

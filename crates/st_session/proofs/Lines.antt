@@ -18,8 +18,8 @@ use Rattle.st_machine.specs.inside.Asked.{TakenAs}
 use Rattle.st_chunk.specs.declared.request.Request.{Request}
 use Rattle.st_chunk.specs.declared.request.Request.TheVariants as request
 use Rattle.st_chunk.specs.Asks.{Side, Ask, ask_of}
-use Rattle.st_chunk.specs.declared.ask.Ask.{Ask as DeclaredAsk}
-use Rattle.st_chunk.specs.declared.ask.Ask.TheVariants as declared
+use Rattle.st_chunk.specs.declared.ask.LentAsk.{LentAsk as DeclaredAsk}
+use Rattle.st_chunk.specs.declared.ask.LentAsk.TheVariants as declared
 use Rattle.st_chunk.specs.Reading.{Place, Browsed, Defined, CutOff}
 use Rattle.st_chunk.specs.Scripts.{Asks, Browses, Defines, IsBrowsed, HasAsk, IsDefined, HasDefinition, asked_at}
 use Rattle.st_chunk.specs.Definitions.{Definition}

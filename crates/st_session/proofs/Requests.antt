@@ -15,7 +15,7 @@ use Rattle.st_protocol.proofs.Joins.{obeys_as, obeys_then, obeys_err, counts_beh
 use Rattle.st_install.specs.Defining.{installed}
 use Rattle.st_recover.specs.Commits.{Commit, OpensAs}
 use Rattle.st_call.specs.inside.Telling.{IsOfServing}
-use Rattle.st_session.specs.declared.kept.Kept.{Kept}
+use Rattle.st_session.specs.declared.kept.SessionState.{SessionState}
 use Rattle.st_session.specs.Keeping.{in_a_store}
 use Rattle.st_session.specs.Points.{Point}
 use Rattle.st_session.specs.Sessions.{follow}
@@ -28,21 +28,21 @@ use Rattle.st_session.proofs.Starving.{some_all}
 
 module _ {M D : Type 0} (view : M → View) (host : Ghosts D) where
   -- what is told to be asked for is answered; a want of memory is one of the last request
-  abbrev pub Answers_one : List Asked → Kept M → D → Result Unit Status → Kept M → D → Type 0
+  abbrev pub Answers_one : List Asked → SessionState M → D → Result Unit Status → SessionState M → D → Type 0
   Answers_one asked s old result t new = Serves view host (λ p. follow in_a_store installed p asked) (new ≡ old) s old result t new
 
   -- these requests are answered one after the other; where there was no memory, some first ones of them
-  abbrev pub Answers_all : List Asked → Kept M → D → Result Unit Status → Kept M → D → Type 0
+  abbrev pub Answers_all : List Asked → SessionState M → D → Result Unit Status → SessionState M → D → Type 0
   Answers_all asked s old result t new =
       Serves view host (λ p. follow in_a_store installed p asked) (FollowsSome view host (follow in_a_store installed) asked s old new) s old result t new
 
   -- nothing is asked for yet
-  pub none_asked : (s : Kept M) (old : D) → MayGoOn view s → OnlyNow host old → Answers_all [] s old (Ok tt) s old
+  pub none_asked : (s : SessionState M) (old : D) → MayGoOn view s → OnlyNow host old → Answers_all [] s old (Ok tt) s old
   none_asked s old on only = served_none on (λ p at. stays_now view host s.machine s.archive p.kept p old only at.holds at.stands refl)
 
-module _ {M D : Type 0} {view : M → View} {host : Ghosts D} {s : Kept M} {old : D} where
+module _ {M D : Type 0} {view : M → View} {host : Ghosts D} {s : SessionState M} {old : D} where
   -- these are answered, and then more are
-  pub then_asked : {A : Type 0} (a b : List Asked) {t u : Kept M} {mid new : D} {result : Result Unit Status} → Serves view host (λ p. follow in_a_store installed p a) A s old (Ok tt) t mid
+  pub then_asked : {A : Type 0} (a b : List Asked) {t u : SessionState M} {mid new : D} {result : Result Unit Status} → Serves view host (λ p. follow in_a_store installed p a) A s old (Ok tt) t mid
       → Answers_one view host b t mid result u new → Answers_all view host (a ++ b) s old result u new
   then_asked a b {t = t} {u = u} {mid = mid} {new = new} {result = result} first second =
       let name = s.archive.name in
@@ -62,7 +62,7 @@ module _ {M D : Type 0} {view : M → View} {host : Ghosts D} {s : Kept M} {old 
       }
 
   -- where that ends the session, nothing more is answered
-  pub none_behind : {a : List Asked} (b : List Asked) {t : Kept M} {new : D} {e : Status} → Answers_all view host a s old (Err e) t new → Answers_all view host (a ++ b) s old (Err e) t new
+  pub none_behind : {a : List Asked} (b : List Asked) {t : SessionState M} {new : D} {e : Status} → Answers_all view host a s old (Err e) t new → Answers_all view host (a ++ b) s old (Err e) t new
   none_behind {a = a} b {t = t} {new = new} {e = e} h =
       let name = s.archive.name in
       let on = IsAt view host t.machine t.archive new in
@@ -80,7 +80,7 @@ module _ {M D : Type 0} {view : M → View} {host : Ghosts D} {s : Kept M} {old 
       }
 
   -- a byte more is read
-  pub byte_asked : (r x : Reading) (bytes : List ℕ) (i : ℕ) {t u : Kept M} {mid new : D} {result : Result Unit Status} → i < length bytes → x ≡ read_through r (take i bytes)
+  pub byte_asked : (r x : Reading) (bytes : List ℕ) (i : ℕ) {t u : SessionState M} {mid new : D} {result : Result Unit Status} → i < length bytes → x ≡ read_through r (take i bytes)
       → Answers_all view host (told_from r (take i bytes)) s old (Ok tt) t mid → Answers_one view host (asked_by (read x (get_or bytes i 0))) t mid result u new
       → Answers_all view host (told_from r (take (i + 1) bytes)) s old result u new
   byte_asked r x bytes i {t = t} {u = u} {mid = mid} {new = new} {result = result} less is first second =
@@ -92,23 +92,23 @@ module _ {M D : Type 0} {view : M → View} {host : Ghosts D} {s : Kept M} {old 
       (then_asked (told_from r (take i bytes)) last first (subst (λ y. Answers_one view host (asked_by (read y b)) t mid result u new) is second))
 
   -- it ends the session, whatever bytes come behind it
-  pub bytes_behind : (r : Reading) (bytes : List ℕ) (i : ℕ) {t : Kept M} {new : D} {e : Status} → Answers_all view host (told_from r (take i bytes)) s old (Err e) t new → Answers_all view host (told_from r bytes) s old (Err e) t new
+  pub bytes_behind : (r : Reading) (bytes : List ℕ) (i : ℕ) {t : SessionState M} {new : D} {e : Status} → Answers_all view host (told_from r (take i bytes)) s old (Err e) t new → Answers_all view host (told_from r bytes) s old (Err e) t new
   bytes_behind r bytes i {t = t} {new = new} {e = e} h =
       let told = sym (told_both r (take i bytes) (drop i bytes)) ∙ ap (told_from r) (take-append-drop i bytes) in
       subst (λ l. Answers_all view host l s old (Err e) t new) told (none_behind (told_from (read_through r (take i bytes)) (drop i bytes)) h)
 
   -- the end of the script comes once, and once more
-  pub end_asked : (r x : Reading) {t u : Kept M} {mid new : D} {result : Result Unit Status} → x ≡ (end_read r).0
+  pub end_asked : (r x : Reading) {t u : SessionState M} {mid new : D} {result : Result Unit Status} → x ≡ (end_read r).0
       → Answers_one view host (asked_by (end_read r)) s old (Ok tt) t mid → Answers_one view host (asked_by (end_read x)) t mid result u new → Answers_all view host (asked_at_end r) s old result u new
   end_asked r x {t = t} {u = u} {mid = mid} {new = new} {result = result} is first second =
       then_asked (asked_by (end_read r)) (asked_by (end_read (end_read r).0)) first (subst (λ y. Answers_one view host (asked_by (end_read y)) t mid result u new) is second)
 
   -- or it ends the session when it comes first
-  pub end_behind : (r : Reading) {t : Kept M} {new : D} {e : Status} → MayGoOn view s → Answers_one view host (asked_by (end_read r)) s old (Err e) t new → OnlyNow host old → Answers_all view host (asked_at_end r) s old (Err e) t new
+  pub end_behind : (r : Reading) {t : SessionState M} {new : D} {e : Status} → MayGoOn view s → Answers_one view host (asked_by (end_read r)) s old (Err e) t new → OnlyNow host old → Answers_all view host (asked_at_end r) s old (Err e) t new
   end_behind r on h only = none_behind (asked_by (end_read (end_read r).0)) (then_asked [] (asked_by (end_read r)) (none_asked view host s old on only) h)
 
   -- behind what is done the session ends
-  pub over_then : {A B : Type 0} {course : Point Commit → Course Commit (Point Commit)} {t : Kept M} {new : D} (e : Status) → StatusHasCause host ⊥ old new e → IsOfServing e → IsAmple (Err e)
+  pub over_then : {A B : Type 0} {course : Point Commit → Course Commit (Point Commit)} {t : SessionState M} {new : D} (e : Status) → StatusHasCause host ⊥ old new e → IsOfServing e → IsAmple (Err e)
       → Serves view host course A s old (Ok tt) t new → OnlyNow host new → Serves view host (λ p. ended (course p) e) B s old (Err e) t new
   over_then {course = course} {t = t} {new = new} e cause serves enough h only =
       let name = s.archive.name in
@@ -123,7 +123,7 @@ module _ {M D : Type 0} {view : M → View} {host : Ghosts D} {s : Kept M} {old 
       }
 
   -- or it has ended before
-  pub over_err : {A : Type 0} {course : Point Commit → Course Commit (Point Commit)} {t : Kept M} {new : D} {e : Status} (end : Status) → Serves view host course A s old (Err e) t new
+  pub over_err : {A : Type 0} {course : Point Commit → Course Commit (Point Commit)} {t : SessionState M} {new : D} {e : Status} (end : Status) → Serves view host course A s old (Err e) t new
       → Serves view host (λ p. ended (course p) end) A s old (Err e) t new
   over_err {course = course} {t = t} {new = new} {e = e} end h =
       let name = s.archive.name in

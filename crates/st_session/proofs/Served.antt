@@ -13,7 +13,7 @@ use Rattle.st_protocol.specs.Statuses.{StatusHasCause}
 use Rattle.st_recover.specs.inside.Archives.{IsOfKeeping}
 use Rattle.st_recover.specs.Commits.{Commit}
 use Rattle.st_call.specs.inside.Telling.{IsOfServing, Tells}
-use Rattle.st_session.specs.declared.kept.Kept.{Kept}
+use Rattle.st_session.specs.declared.kept.SessionState.{SessionState}
 use Rattle.st_session.specs.Keeping.{in_a_store}
 use Rattle.st_session.specs.Points.{Point}
 use Rattle.st_session.specs.Sessions.{follow}
@@ -48,9 +48,9 @@ IsAmple (Err e) = Unit {0}
 pub ample : {A : Type 0} (r : Result Unit Status) → IsAmple r → IsErrOf r status.OutOfMemory → A
 ample r h none = absurd (subst IsAmple none h)
 
-module _ {M D : Type 0} {view : M → View} {host : Ghosts D} {A : Type 0} {course : Point Commit → Course Commit (Point Commit)} {s : Kept M} {old : D} where
+module _ {M D : Type 0} {view : M → View} {host : Ghosts D} {A : Type 0} {course : Point Commit → Course Commit (Point Commit)} {s : SessionState M} {old : D} where
   -- what a call does, told by another course
-  pub served_as : {B : Type 0} {t : Kept M} {new : D} {result : Result Unit Status} {other : Point Commit → Course Commit (Point Commit)} → Serves view host course A s old result t new → (A → B) → Follows view host other s old result t new → Serves view host other B s old result t new
+  pub served_as : {B : Type 0} {t : SessionState M} {new : D} {result : Result Unit Status} {other : Point Commit → Course Commit (Point Commit)} → Serves view host course A s old result t new → (A → B) → Follows view host other s old result t new → Serves view host other B s old result t new
   served_as h stands follows = record {
     go_on = h.go_on;
     named = h.named;
@@ -61,7 +61,7 @@ module _ {M D : Type 0} {view : M → View} {host : Ghosts D} {A : Type 0} {cour
   }
 
   -- a line that is said; the machine may have changed, and the archive stays
-  pub served_said : {t : Kept M} {new : D} {result : Result Unit Status} {text : List ℕ} → MayGoOn view t → t.archive.name ≡ s.archive.name → Tells host text old new result → Follows view host course s old result t new → Serves view host course A s old result t new
+  pub served_said : {t : SessionState M} {new : D} {result : Result Unit Status} {text : List ℕ} → MayGoOn view t → t.archive.name ≡ s.archive.name → Tells host text old new result → Follows view host course s old result t new → Serves view host course A s old result t new
   served_said {result = result} on named tells follows = record {
     go_on = when_ok result on;
     named = named;
@@ -94,7 +94,7 @@ module _ {M D : Type 0} {view : M → View} {host : Ghosts D} {A : Type 0} {cour
   }
 
 -- what is told to be asked for is the same
-pub served_asked : {M D : Type 0} {view : M → View} {host : Ghosts D} {A : Type 0} {s t : Kept M} {old new : D} {result : Result Unit Status} {one other : Told} → one ≡ other
+pub served_asked : {M D : Type 0} {view : M → View} {host : Ghosts D} {A : Type 0} {s t : SessionState M} {old new : D} {result : Result Unit Status} {one other : Told} → one ≡ other
     → Serves view host (λ p. follow in_a_store installed p (asked_by one)) A s old result t new → Serves view host (λ p. follow in_a_store installed p (asked_by other)) A s old result t new
 served_asked {view = view} {host = host} {A = A} {s = s} {t = t} {old = old} {new = new} {result = result} same h =
     subst (λ x. Serves view host (λ p. follow in_a_store installed p (asked_by x)) A s old result t new) same h

@@ -11,7 +11,7 @@ ghost use Rattle.st_session.specs.{Keeping.in_a_store, inside.Pushing.PushesCour
 ghost use Rattle.st_session.specs.inside.Standing.{MayRun, MayGoOn, Serves, StandsAt, shown_by};
 
 use crate::debugging::say_stack;
-use crate::kept::Kept;
+use crate::kept::SessionState;
 use crate::saving::{run, snapshot};
 use crate::watch::Watch;
 use st_call::{
@@ -93,7 +93,7 @@ fn push_answer<H: Host, M: Memory>(
 /// Says what a machine that isn't dead answers to a line that asks for lines alone.
 fn say_answer<H: Host, M: Memory>(
     host: &mut H,
-    kept: &mut Kept<M>,
+    kept: &mut SessionState<M>,
     request: Request,
 ) -> Result<(), Status>
     requires go_on { MayGoOn M.view kept.old }
@@ -113,7 +113,7 @@ fn say_answer<H: Host, M: Memory>(
 /// Answers a line where the machine isn't dead.
 pub(crate) fn answer_living<H: Host, M: Memory>(
     host: &mut H,
-    kept: &mut Kept<M>,
+    kept: &mut SessionState<M>,
     request: Request,
 ) -> Result<(), Status>
     requires go_on { MayGoOn M.view kept.old }
@@ -137,7 +137,7 @@ pub(crate) fn answer_living<H: Host, M: Memory>(
 /// Answers what is asked for where the machine is dead, wherever the reader stands.
 pub(crate) fn answer_dead<H: Host, M: Memory>(
     host: &mut H,
-    kept: &Kept<M>,
+    kept: &SessionState<M>,
     cause: Dead,
     request: Request,
 ) -> Result<(), Status>

@@ -6,11 +6,11 @@ ghost use Rattle.st_session.specs.inside.Standing.{MayGoOn, Serves};
 ghost use Rattle.st_call.specs.inside.Telling.{Tells};
 
 use crate::debugging::run_until;
-use crate::kept::Kept;
+use crate::kept::SessionState;
 use st_browse::{Side, SourceFault, browse_line, browse_source};
 use st_call::{Reply, say_reply};
 use st_changes::Changes;
-use st_chunk::{Ask, Side as Lent};
+use st_chunk::{LentAsk, LentSide as Lent};
 use st_host::{Host, SayFault};
 use st_memory::Memory;
 use st_protocol::Status;
@@ -21,7 +21,7 @@ fn say_asked<H: Host, M: Memory>(
     host: &mut H,
     m: &M,
     changes: &Changes,
-    ask: Ask<'_>,
+    ask: LentAsk<'_>,
 ) -> Result<(), Status>
     ensures { let text = asked_text (M.view m.now) (last_text changes.now.listed) (ask_of ask.entry) in
         Tells H.Host.own text host.old host.new result }
@@ -68,8 +68,8 @@ fn say_source<H: Host, M: Memory>(
 pub(crate) fn answer_named<H: Host, M: Memory>(
     alloc: Global,
     host: &mut H,
-    kept: &mut Kept<M>,
-    ask: Ask<'_>,
+    kept: &mut SessionState<M>,
+    ask: LentAsk<'_>,
 ) -> Result<(), Status>
     requires go_on { MayGoOn M.view kept.old }
     requires alive { kept.old.machine.death ≡ None }
@@ -78,8 +78,8 @@ pub(crate) fn answer_named<H: Host, M: Memory>(
         kept.old host.old result kept.new host.new }
 {
     match ask {
-        Ask::Until(cycles, side, selector) => { run_until(host, kept, cycles, side, selector) }
-        Ask::Source(side, selector) => say_source(
+        LentAsk::Until(cycles, side, selector) => { run_until(host, kept, cycles, side, selector) }
+        LentAsk::Source(side, selector) => say_source(
             alloc,
             host,
             kept.machine.memory(),

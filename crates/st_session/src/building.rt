@@ -8,7 +8,7 @@ ghost use Rattle.st_session.specs.Makings.{contents_in, IsUnread};
 ghost use Rattle.st_session.specs.Builds.{Builds, IsWrongKernel, BuildEnds, kernel_status};
 
 use crate::making::{Origin, make};
-use st_call::{read_file, refuse};
+use st_call::{read_file, report_status};
 use st_host::Host;
 use st_kernel::KernelFault;
 use st_memory::{Loader, Memory};
@@ -66,7 +66,7 @@ pub fn build<H: Host, L: Loader>(alloc: Global, host: &mut H, kernel: &str, stor
     match build_memory::<H, L>(alloc, host, kernel) {
         Ok(memory) => make(alloc, host, Origin::Kernel, &memory, store),
         Err(status) => {
-            refuse(host, status);
+            report_status(host, status);
             status
         }
     }

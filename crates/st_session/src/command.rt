@@ -10,7 +10,7 @@ use crate::opening_refusal::refuse_opening;
 use crate::reading::serve;
 use crate::report::push_report;
 use crate::starting::start;
-use st_call::{Output, refuse};
+use st_call::{Output, report_status};
 use st_host::{Host, SayFault, Source};
 use st_machine::Machine;
 use st_memory::{Loader, Memory};
@@ -48,7 +48,7 @@ pub fn once<H: Host, L: Loader>(alloc: Global, host: &mut H, image: &str, cycles
         },
         Err(refusal) => {
             let status = refusal.status();
-            refuse(host, status);
+            report_status(host, status);
             status
         }
     }
@@ -71,7 +71,7 @@ pub fn session<H: Host, L: Loader, S: Source>(
     match reopen::<L, H>(alloc, host, store) {
         Ok(opened) => {
             let status = serve::<L::Done, H, S>(alloc, host, script, opened);
-            refuse(host, status);
+            report_status(host, status);
             status
         }
         Err(fault) => refuse_opening(host, fault),

@@ -9,7 +9,7 @@ ghost use Rattle.st_session.specs.{Condensings.{IsKeptAs, DoesCondense, Condense
 
 use crate::opening_refusal::refuse_opening;
 use crate::reading::status_of;
-use st_call::{Reply, refuse, say_reply};
+use st_call::{Reply, report_status, say_reply};
 use st_changes::Changes;
 use st_host::{FileFault, Host};
 use st_memory::Loader;
@@ -54,7 +54,7 @@ pub fn condense<H: Host, L: Loader>(alloc: Global, host: &mut H, store: &str) ->
     match reopen::<L, H>(alloc, host, store) {
         Ok(opened) => {
             let status = status_of(condense_store(alloc, host, opened.store, &opened.changes));
-            refuse(host, status);
+            report_status(host, status);
             status
         }
         Err(fault) => refuse_opening(host, fault),

@@ -8,12 +8,12 @@ ghost use Rattle.st_call.specs.inside.Telling.{Tells};
 ghost use Rattle.st_session.specs.{Answers.{going_on, until_course}, Browsing.memory_of, Keeping.in_a_store};
 ghost use Rattle.st_session.specs.inside.Standing.{MayGoOn, Serves};
 
-use crate::kept::Kept;
+use crate::kept::SessionState;
 use crate::saving::run;
 use crate::watch::Watch;
 use st_browse::find_method;
 use st_call::{Reply, say_reply};
-use st_chunk::Side;
+use st_chunk::LentSide;
 use st_debug::frames;
 use st_host::{Host, SayFault};
 use st_machine::Machine;
@@ -24,9 +24,9 @@ use st_protocol::Status;
 /// no such method, which is sought once, before the first cycle.
 pub(crate) fn run_until<H: Host, M: Memory>(
     host: &mut H,
-    kept: &mut Kept<M>,
+    kept: &mut SessionState<M>,
     cycles: u32,
-    side: Side<'_>,
+    side: LentSide<'_>,
     selector: &[u8],
 ) -> Result<(), Status>
     requires go_on { MayGoOn M.view kept.old }

@@ -12,7 +12,7 @@ ghost use Rattle.st_session.specs.{Makings.contents_in, inside.Reporting.Reports
 use crate::building::kernel_status;
 use crate::making::{Origin, push_made};
 use crate::running::push_run;
-use st_call::{Output, Pushed, push_used, refuse};
+use st_call::{Output, Pushed, push_used, report_status};
 use st_frames::{Loaded, World, fetch_scheduled};
 use st_host::{Host, SayFault};
 use st_kernel::{KernelFault, build, drill_text};
@@ -96,7 +96,7 @@ pub fn drill<H: Host, L: Loader>(alloc: Global, host: &mut H, number: u32) -> St
         },
         Err(fault) => {
             let status = kernel_status(fault);
-            refuse(host, status);
+            report_status(host, status);
             status
         }
     }

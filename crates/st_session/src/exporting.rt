@@ -13,7 +13,7 @@ ghost use Rattle.st_session.specs.{declared.extent.Extent.TheVariants.{Kept, Rea
 use crate::extent::Extent;
 use crate::opening_refusal::refuse_opening;
 use crate::reading::status_of;
-use st_call::{Reply, refuse, say_reply};
+use st_call::{Reply, report_status, say_reply};
 use st_clean::clean;
 use st_frames::{Loaded, World};
 use st_host::{FileFault, Host, HostFault};
@@ -138,7 +138,7 @@ pub fn export<H: Host, L: Loader>(
                 opened.loaded,
                 image,
             ));
-            refuse(host, status);
+            report_status(host, status);
             status
         }
         Err(fault) => refuse_opening(host, fault),

@@ -5,7 +5,7 @@ ghost use Rattle.st_protocol.specs.Statuses.{StatusHasCause};
 ghost use Rattle.st_session.specs.Imports.{ImportEnds};
 
 use crate::making::{Origin, make};
-use st_call::{read_image, refuse};
+use st_call::{read_image, report_status};
 use st_host::Host;
 use st_image::HeadValues;
 use st_memory::Loader;
@@ -31,7 +31,7 @@ pub fn import<H: Host, L: Loader>(
         Ok(loaded) => make(alloc, host, Origin::Image, &loaded.memory, store),
         Err(refusal) => {
             let status = refusal.status();
-            refuse(host, status);
+            report_status(host, status);
             status
         }
     }

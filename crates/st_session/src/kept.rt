@@ -6,7 +6,7 @@ use st_recover::Archive;
 
 /// The machine of a session, and what the session keeps.
 #[derive(Drop)]
-pub(crate) struct Kept<M: Memory> {
+pub(crate) struct SessionState<M: Memory> {
     pub(crate) machine: Machine<M>,
     pub(crate) archive: Archive,
 }

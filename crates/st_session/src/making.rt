@@ -7,7 +7,7 @@ ghost use Rattle.st_call.specs.inside.Saying.{Pushes};
 ghost use Rattle.st_protocol.specs.Statuses.{StatusHasCause};
 ghost use Rattle.st_session.specs.Makings.{contents_in, made_word, made_text, MakingEnds};
 
-use st_call::{Output, Pushed, push_line, refuse, store_status};
+use st_call::{Output, Pushed, push_line, report_status, store_status};
 use st_host::{Host, SayFault};
 use st_memory::Memory;
 use st_protocol::Status;
@@ -84,7 +84,7 @@ pub(crate) fn make<H: Host, M: Memory>(
         },
         Err(fault) => {
             let status = store_status(fault);
-            refuse(host, status);
+            report_status(host, status);
             status
         }
     }

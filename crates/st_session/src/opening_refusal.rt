@@ -3,7 +3,7 @@ ghost use Rattle.st_host.specs.Runs.{ReadsAlike, ReadsAndSays};
 ghost use Rattle.st_call.specs.LastLines.{SaysLastLine, last_line};
 ghost use Rattle.st_session.specs.Commands.{opening_status};
 
-use st_call::{refuse, store_status};
+use st_call::{report_status, store_status};
 use st_host::Host;
 use st_protocol::Status;
 use st_recover::OpenFault;
@@ -30,6 +30,6 @@ pub(crate) fn refuse_opening<H: Host>(host: &mut H, fault: OpenFault) -> Status
     ensures disk { H.disk_faults host.new ≡ H.disk_faults host.old }
 {
     let status = opening_status(fault);
-    refuse(host, status);
+    report_status(host, status);
     status
 }

@@ -19,8 +19,8 @@ ghost use Rattle.st_session.specs.Opening.{session_over, session_so_far_over, se
 ghost use Rattle.st_call.specs.inside.Telling.{IsOfServing};
 
 use crate::first_lines::say_opening;
-use crate::kept::Kept;
-use crate::serving::answer_told;
+use crate::kept::SessionState;
+use crate::serving::follow;
 use st_chunk::Reader;
 use st_frames::World;
 use st_host::{Host, ReadFault, Source};
@@ -37,7 +37,7 @@ const LONGEST: u64 = 4_294_967_296;
 fn feed<H: Host, M: Memory>(
     alloc: Global,
     host: &mut H,
-    kept: &mut Kept<M>,
+    kept: &mut SessionState<M>,
     reader: &mut Reader,
     byte: u8,
 ) -> Result<(), Status>
@@ -48,14 +48,14 @@ fn feed<H: Host, M: Memory>(
         kept.old host.old result kept.new host.new }
 {
     let request = reader.feed(byte);
-    answer_told(alloc, host, kept, reader, request)
+    follow(alloc, host, kept, reader, request)
 }
 
 /// Reads these bytes of the script, and answers what they tell to be asked for.
 fn feed_all<H: Host, M: Memory>(
     alloc: Global,
     host: &mut H,
-    kept: &mut Kept<M>,
+    kept: &mut SessionState<M>,
     reader: &mut Reader,
     bytes: &[u8],
 ) -> Result<(), Status>
@@ -80,7 +80,7 @@ fn feed_all<H: Host, M: Memory>(
 fn end<H: Host, M: Memory>(
     alloc: Global,
     host: &mut H,
-    kept: &mut Kept<M>,
+    kept: &mut SessionState<M>,
     reader: &mut Reader,
 ) -> Result<(), Status>
     requires go_on { MayGoOn M.view kept.old }
@@ -90,14 +90,14 @@ fn end<H: Host, M: Memory>(
         kept.old host.old result kept.new host.new }
 {
     let request = reader.finish();
-    answer_told(alloc, host, kept, reader, request)
+    follow(alloc, host, kept, reader, request)
 }
 
 /// Comes to the end of the script, and behind a method once more. Answers the status in which the session ends.
 fn finish<H: Host, M: Memory>(
     alloc: Global,
     host: &mut H,
-    kept: &mut Kept<M>,
+    kept: &mut SessionState<M>,
     reader: &mut Reader,
 ) -> Status
     requires go_on { MayGoOn M.view kept.old }
@@ -120,7 +120,7 @@ fn finish<H: Host, M: Memory>(
 fn feed_last<H: Host, M: Memory>(
     alloc: Global,
     host: &mut H,
-    kept: &mut Kept<M>,
+    kept: &mut SessionState<M>,
     reader: &mut Reader,
     bytes: &[u8],
 ) -> Status
@@ -138,11 +138,11 @@ fn feed_last<H: Host, M: Memory>(
 }
 
 /// Follows a script, and answers the status in which the session ends.
-fn follow<H: Host, M: Memory, S: Source>(
+fn follow_script<H: Host, M: Memory, S: Source>(
     alloc: Global,
     host: &mut H,
     script: &mut S,
-    kept: &mut Kept<M>,
+    kept: &mut SessionState<M>,
     reader: &mut Reader,
 ) -> Status
     requires go_on { MayGoOn M.view kept.old }
@@ -182,11 +182,11 @@ fn follow<H: Host, M: Memory, S: Source>(
 }
 
 /// Says what was replayed and what was lost, and follows a script. Answers the status in which the session ends.
-fn open<H: Host, M: Memory, S: Source>(
+fn run_session<H: Host, M: Memory, S: Source>(
     alloc: Global,
     host: &mut H,
     script: &mut S,
-    kept: &mut Kept<M>,
+    kept: &mut SessionState<M>,
     replayed: u32,
     lost: &[Lost],
 ) -> Status
@@ -211,7 +211,7 @@ fn open<H: Host, M: Memory, S: Source>(
         Err(AllocError) => return Status::OutOfMemory,
     };
     match say_opening(host, replayed, lost) {
-        Ok(()) => follow(alloc, host, script, kept, &mut reader),
+        Ok(()) => follow_script(alloc, host, script, kept, &mut reader),
         Err(status) => status,
     }
 }
@@ -263,8 +263,8 @@ pub fn serve<M: Memory, H: Host, S: Source>(
     };
     let machine = Machine::boot(opened.loaded, world);
     let archive = Archive::new(opened.store, opened.changes);
-    let mut kept = Kept { machine, archive };
-    open(
+    let mut kept = SessionState { machine, archive };
+    run_session(
         alloc,
         host,
         script,

@@ -12,7 +12,7 @@ ghost use Rattle.st_session.specs.inside.Standing.{MayRun, MayGoOn, Serves, show
 ghost use Rattle.st_session.specs.{inside.Stretches.{SaysStretch, went}, inside.Watched.watched_stretch, Watching.look_of};
 ghost use Rattle.st_call.specs.inside.Telling.{IsOfServing};
 
-use crate::kept::Kept;
+use crate::kept::SessionState;
 use crate::watch::Watch;
 use crate::watching::push_run_on;
 use st_call::{Output, Reply, finish, say_reply};
@@ -46,7 +46,7 @@ fn keep_image<H: Host, M: Memory>(host: &mut H, m: &M, archive: &mut Archive) ->
 /// the line are finished.
 pub(crate) fn snapshot<H: Host, M: Memory>(
     host: &mut H,
-    kept: &mut Kept<M>,
+    kept: &mut SessionState<M>,
     finished: u32,
 ) -> Result<(), Status>
     requires go_on { MayGoOn M.view kept.old }
@@ -96,7 +96,7 @@ fn say_stretch<H: Host, M: Memory>(
 /// Runs so many cycles, watched or not, with the snapshots that bytecodes ask for, and says what is seen and said of them.
 pub(crate) fn run<H: Host, M: Memory>(
     host: &mut H,
-    kept: &mut Kept<M>,
+    kept: &mut SessionState<M>,
     watch: Watch,
     cycles: u32,
 ) -> Result<(), Status>

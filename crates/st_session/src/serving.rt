@@ -9,9 +9,9 @@ ghost use Rattle.st_session.specs.inside.Standing.{MayGoOn, Serves};
 
 use crate::answering::{answer_dead, answer_living};
 use crate::browsing::answer_named;
-use crate::kept::Kept;
+use crate::kept::SessionState;
 use st_call::{Reply, say_reply};
-use st_chunk::{Definition, Reader, Request};
+use st_chunk::{LentDefinition, Reader, Request};
 use st_host::Host;
 use st_install::{Prepared, Unprepared, carry_out, prepare};
 use st_memory::Memory;
@@ -22,8 +22,8 @@ use std::alloc::Global;
 fn accept<H: Host, M: Memory>(
     alloc: Global,
     host: &mut H,
-    kept: &mut Kept<M>,
-    definition: &Definition<'_>,
+    kept: &mut SessionState<M>,
+    definition: &LentDefinition<'_>,
     prepared: Prepared,
 ) -> Result<(), Status>
     requires good { IsDefinition (definition_of definition.now) }
@@ -53,8 +53,8 @@ fn accept<H: Host, M: Memory>(
 fn define<H: Host, M: Memory>(
     alloc: Global,
     host: &mut H,
-    kept: &mut Kept<M>,
-    definition: &Definition<'_>,
+    kept: &mut SessionState<M>,
+    definition: &LentDefinition<'_>,
 ) -> Result<(), Status>
     requires good { IsDefinition (definition_of definition.now) }
     requires go_on { MayGoOn M.view kept.old }
@@ -77,7 +77,7 @@ fn define<H: Host, M: Memory>(
 fn answer_request<H: Host, M: Memory>(
     alloc: Global,
     host: &mut H,
-    kept: &mut Kept<M>,
+    kept: &mut SessionState<M>,
     reader: &Reader,
     request: Request,
 ) -> Result<(), Status>
@@ -98,10 +98,10 @@ fn answer_request<H: Host, M: Memory>(
 }
 
 /// Answers what the reader tells to be asked for, if anything is. Here it is asked whether the machine is dead, for all of them.
-pub(crate) fn answer_told<H: Host, M: Memory>(
+pub(crate) fn follow<H: Host, M: Memory>(
     alloc: Global,
     host: &mut H,
-    kept: &mut Kept<M>,
+    kept: &mut SessionState<M>,
     reader: &Reader,
     request: Option<Request>,
 ) -> Result<(), Status>

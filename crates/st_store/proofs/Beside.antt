@@ -2,14 +2,14 @@
 use Rattle.std.proofs.Common.{◌≡◌, ◌≢◌, inl, ℕ, List, Option, IsTrue, sym}
 use Rattle.std.specs.Prelude.{◌⊎◌, Result}
 use Rattle.st_host.specs.Files.{Files}
-use Rattle.st_host.specs.Runs.{Elsewhere, Changes, IsAtRest, Makes}
+use Rattle.st_host.specs.Runs.{Elsewhere, ChangesOneFile, IsAtRest, Makes}
 use Rattle.st_host.specs.declared.host.Host.{Ghosts}
 use Rattle.st_host.proofs.Joining.{weaker, on_ok}
 use Rattle.st_store.specs.Names.{roots_file, changes_file, image_file}
 use Rattle.st_store.specs.Stored.{Stored, Opens, IsChosen}
 
 module _ {D : Type 0} (host : Ghosts D) (name : List ℕ) (k : ℕ) (c : Stored) (a b : D) (told : IsTrue host.is_told) (chosen : IsChosen host a name k c)
-    (file : List ℕ) (roots : file ≢ roots_file name) (changes : file ≢ changes_file name c.root.slot) (image : file ≢ image_file name c.root.slot) (run : Changes host file a b) where
+    (file : List ℕ) (roots : file ≢ roots_file name) (changes : file ≢ changes_file name c.root.slot) (image : file ≢ image_file name c.root.slot) (run : ChangesOneFile host file a b) where
   pub beside_kept : IsChosen host b name k c
   beside_kept =
       let apart = run.others told in

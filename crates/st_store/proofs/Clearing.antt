@@ -5,7 +5,7 @@ use Rattle.std.proofs.lemmas.List.{get_or_past}
 use Rattle.std.proofs.lemmas.Bool.{cases_lt, cases_eq}
 use Rattle.st_host.specs.Files.{bytes_of, IsCut}
 use Rattle.st_host.specs.Stops.{TornByCut, Here}
-use Rattle.st_host.specs.Runs.{LeavesOnly, Narrows, Changes, ReadsAlike, Touched, Cuts, IsSynced}
+use Rattle.st_host.specs.Runs.{LeavesOnly, Narrows, ChangesOneFile, ReadsAlike, Touched, Cuts, IsSynced}
 use Rattle.st_host.specs.declared.host.Host.{Ghosts}
 use Rattle.st_host.proofs.Joining.{weaker, moments_join}
 use Rattle.st_host.proofs.Touching.{cut_changes, changes_join}
@@ -83,10 +83,10 @@ module _ {D : Type 0} (host : Ghosts D) (name : List ℕ) where
   -- A run that looked whether the roots file has the letters, and cut it where it has none.
   pub record Clears (a d : D) : Type 0 where
     pub moments : IsTrue host.is_told → LeavesOnly host a d (λ f s. (s ≡ host.said a) × IsCleared host name a f)
-    pub only : Changes host (roots_file name) a d
+    pub only : ChangesOneFile host (roots_file name) a d
 
   -- the same, with the file by the names that the code has
-  pub clears : (a b d : D) (n r s : List ℕ) (there : Bool) → n ≡ name → r ≡ roots_file n → s ≡ roots_file n → Narrows host a b → ReadsAlike host a b → IsSynced host r b → Changes host r a b
+  pub clears : (a b d : D) (n r s : List ℕ) (there : Bool) → n ≡ name → r ≡ roots_file n → s ≡ roots_file n → Narrows host a b → ReadsAlike host a b → IsSynced host r b → ChangesOneFile host r a b
       → (IsTrue host.is_told → IsTrue there ↔ HasLetters (bytes_of (host.files a r))) → there ≡ false → Cuts host s 0 b d → Clears a d
   clears a b d n r s there is looked_at cut_at narrows alike synced looked found none cuts =
       let roots : r ≡ roots_file name = looked_at ∙ ap roots_file is in
@@ -95,7 +95,7 @@ module _ {D : Type 0} (host : Ghosts D) (name : List ℕ) where
       λ told letters. true≢false (sym ((found told).1 (subst (λ (x : List ℕ). HasLetters (bytes_of (host.files a x))) (sym roots) letters)) ∙ none) in
       record {
         moments = λ told. while_cut a b d told narrows alike (subst (λ (x : List ℕ). IsSynced host x b) roots synced) (not_there told) here;
-        only = changes_join host (roots_file name) a b d (subst (λ (x : List ℕ). Changes host x a b) roots looked) (cut_changes host (roots_file name) 0 b d here);
+        only = changes_join host (roots_file name) a b d (subst (λ (x : List ℕ). ChangesOneFile host x a b) roots looked) (cut_changes host (roots_file name) 0 b d here);
       }
 
 -- a cut, by the name that the code has

@@ -1,6 +1,6 @@
 -- What a run of a few calls keeps, so that a longer one is proved by one more call.
 use Rattle.std.proofs.Common.{◌≢◌, ℕ, List}
-use Rattle.st_host.specs.Runs.{OnlyReads, Narrows, Changes, Spares, Syncs, IsSynced}
+use Rattle.st_host.specs.Runs.{OnlyReads, Narrows, ChangesOneFile, Spares, Syncs, IsSynced}
 use Rattle.st_host.specs.declared.host.Host.{Ghosts}
 use Rattle.st_host.proofs.Joining.{reads_narrow, narrows_join}
 use Rattle.st_host.proofs.Touching.{sync_changes, write_changes, cut_changes, changes_join, changes_spare, spares_join, both_begun, both_join, both_more}
@@ -15,10 +15,10 @@ module _ {D : Type 0} (host : Ghosts D) where
     -- A run that synced a file, and behind that read it.
     pub record LooksAt (old new : D) : Type 0 where
       pub narrows : Narrows host old new
-      pub only : Changes host file old new
+      pub only : ChangesOneFile host file old new
       pub first : SyncsFirst host file old new
 
-    pub looks_at : (a b d : D) → Narrows host a b → Syncs host file a b → IsSynced host file b → OnlyReads host b d → Changes host file b d → LooksAt a d
+    pub looks_at : (a b d : D) → Narrows host a b → Syncs host file a b → IsSynced host file b → OnlyReads host b d → ChangesOneFile host file b d → LooksAt a d
     looks_at a b d narrows syncs synced reads changes =
         let behind = reads_narrow host b d reads in
         record {
@@ -28,7 +28,7 @@ module _ {D : Type 0} (host : Ghosts D) where
         }
 
     -- and read it once more
-    pub looks_on : (a b d : D) → LooksAt a b → OnlyReads host b d → Changes host file b d → LooksAt a d
+    pub looks_on : (a b d : D) → LooksAt a b → OnlyReads host b d → ChangesOneFile host file b d → LooksAt a d
     looks_on a b d run reads changes =
         let behind = reads_narrow host b d reads in
         record {
@@ -53,7 +53,7 @@ module _ {D : Type 0} (host : Ghosts D) where
         }
 
     -- and read one of them
-    pub both_read : (file : List ℕ) (a b d : D) → ((n : List ℕ) → (n ≢ image) × (n ≢ changes) → n ≢ file) → LooksAtBoth a b → OnlyReads host b d → Changes host file b d → LooksAtBoth a d
+    pub both_read : (file : List ℕ) (a b d : D) → ((n : List ℕ) → (n ≢ image) × (n ≢ changes) → n ≢ file) → LooksAtBoth a b → OnlyReads host b d → ChangesOneFile host file b d → LooksAtBoth a d
     both_read file a b d other run reads touched =
         let names = λ (n : List ℕ). (n ≢ image) × (n ≢ changes) in
         record {

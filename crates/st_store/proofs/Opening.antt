@@ -3,7 +3,7 @@ use Rattle.std.proofs.Common.{◌≡◌, ◌≢◌, ◌⊎◌, inl, inr, ⊎_eli
 use Rattle.std.specs.Prelude.{Some, None, Result}
 use Rattle.st_host.specs.Files.{Files, bytes_of, IsWritten}
 use Rattle.st_host.specs.Stops.{Here}
-use Rattle.st_host.specs.Runs.{LeavesOnly, Narrows, NarrowsBut, Changes, Spares, ReadsAlike, IsSynced, Makes}
+use Rattle.st_host.specs.Runs.{LeavesOnly, Narrows, NarrowsBut, ChangesOneFile, Spares, ReadsAlike, IsSynced, Makes}
 use Rattle.st_host.specs.declared.host.Host.{Ghosts}
 use Rattle.st_host.proofs.Joining.{weaker, moments_join, alike_join, synced_on}
 use Rattle.st_host.proofs.Touching.{narrows_but, changes_but, but_join, changes_spare, spares_join, spares_fewer}
@@ -121,7 +121,7 @@ module _ {D : Type 0} (host : Ghosts D) (name : List ℕ) where
   }
 
   -- reads and syncs, and then changes to the roots file
-  pub but_roots : (a m d : D) → Narrows host a m → Changes host (roots_file name) m d → NarrowsBut host (roots_file name) a d
+  pub but_roots : (a m d : D) → Narrows host a m → ChangesOneFile host (roots_file name) m d → NarrowsBut host (roots_file name) a d
   but_roots a m d narrows changes = but_join host (roots_file name) a m d (narrows_but host (roots_file name) a m narrows) (changes_but host (roots_file name) m d changes)
 
   pub only_looked : (a c : D) → IsTrue host.is_told → Narrows host a c → LeavesOnly host a c (λ f s. (s ≡ host.said a) × IsOpening host a name f)
@@ -179,14 +179,14 @@ module _ {D : Type 0} (host : Ghosts D) (name : List ℕ) where
 
   -- other files than the store's, while the roots file is looked at and what it names is synced
   pub spared : (a b m : D) (r im ch : List ℕ) (slot : ℕ) → r ≡ roots_file name → im ≡ image_file name slot → ch ≡ changes_file name slot
-      → Changes host r a b → Spares host (λ n. (n ≢ im) × (n ≢ ch)) b m → Spares host (IsNoFileOf name) a m
+      → ChangesOneFile host r a b → Spares host (λ n. (n ≢ im) × (n ≢ ch)) b m → Spares host (IsNoFileOf name) a m
   spared a b m r im ch slot is_roots is_image is_changes looked firm =
       spares_join host (IsNoFileOf name) a b m
       (changes_spare host r (IsNoFileOf name) a b (λ n no same. no.roots (same ∙ is_roots)) looked)
       (spares_fewer host (λ n. (n ≢ im) × (n ≢ ch)) (IsNoFileOf name) b m (λ n no. (λ same. no.image slot (same ∙ is_image), λ same. no.changes slot (same ∙ is_changes))) firm)
 
   -- and then the roots file is changed
-  pub spared_on : (a m d : D) → Spares host (IsNoFileOf name) a m → Changes host (roots_file name) m d → Spares host (IsNoFileOf name) a d
+  pub spared_on : (a m d : D) → Spares host (IsNoFileOf name) a m → ChangesOneFile host (roots_file name) m d → Spares host (IsNoFileOf name) a d
   spared_on a m d spares changes = spares_join host (IsNoFileOf name) a m d spares (changes_spare host (roots_file name) (IsNoFileOf name) m d (λ n no. no.roots) changes)
 
 -- the same moments, where the code has the name

@@ -2,7 +2,7 @@
 ghost use Rattle.std.specs.Prelude.{◌≡◌, ◌↔◌, ℕ, List, [], IsTrue, IfOk, IfErr, OnOk, OnErr, Option, Some, None, string_bytes};
 ghost use Rattle.st_host.specs.Counts.{HasCause};
 ghost use Rattle.st_host.specs.Files.{bytes_of};
-ghost use Rattle.st_host.specs.Runs.{LeavesOnly, ReadsAlike, Narrows, Changes, ChangesBoth, IsSynced, Makes};
+ghost use Rattle.st_host.specs.Runs.{LeavesOnly, ReadsAlike, Narrows, ChangesOneFile, ChangesBoth, IsSynced, Makes};
 ghost use Rattle.st_store.specs.Names.{roots_file, changes_file, image_file};
 ghost use Rattle.st_store.specs.Roots.{HasLetters, Fits};
 ghost use Rattle.st_store.specs.Faults.{RestsUnlessLetters};
@@ -12,7 +12,7 @@ ghost use Rattle.st_store.specs.Stored.{Stored, Begins, Leaves, IsFirm, IsChosen
 ghost use Rattle.st_store.specs.declared.fault.StoreFault.TheVariants.{Disk};
 
 use crate::front::{LETTERS, find_wrong_letter};
-use crate::names::Names;
+use crate::names::FileNames;
 use crate::root::bytes_of_root;
 use crate::{Root, Store, StoreFault};
 use st_host::{Host, HostFault, cut_synced, read_from, sync_file, write_synced};
@@ -22,7 +22,7 @@ use std::marker::Model;
 /// A store that is being made: there is none of its name, and its roots file is empty.
 #[derive(Drop)]
 pub struct NewStore {
-    names: Names,
+    names: FileNames,
 }
 
 impl Model for NewStore {
@@ -49,7 +49,7 @@ fn find_store<H: Host>(host: &mut H, roots: &str) -> Result<bool, HostFault>
     ensures synced { OnOk result (IsSynced H.Host.own roots.now host.new) }
     ensures alike { OnOk result (ReadsAlike H.Host.own host.old host.new) }
     ensures narrows { Narrows H.Host.own host.old host.new }
-    ensures only { Changes H.Host.own roots.now host.old host.new }
+    ensures only { ChangesOneFile H.Host.own roots.now host.old host.new }
     ensures cause { HasCause (H.disk_faults host.old) (H.disk_faults host.new) result }
 {
     sync_file(host, roots)?;
@@ -74,10 +74,10 @@ pub fn clear<H: Host>(alloc: Global, host: &mut H, name: &str) -> Result<NewStor
     ensures moments { IsTrue H.is_told → LeavesOnly H.Host.own host.old host.new
         (λ f s. (s ≡ H.said host.old) × IsCleared H.Host.own name.now host.old f) }
 
-    ensures only { Changes H.Host.own (roots_file name.now) host.old host.new }
+    ensures only { ChangesOneFile H.Host.own (roots_file name.now) host.old host.new }
     ensures cause { FaultHasCause (H.disk_faults host.old) (H.disk_faults host.new) result }
 {
-    let names = Names::new(alloc, name)?;
+    let names = FileNames::new(alloc, name)?;
     let there = find_store(host, names.roots())?;
     if there {
         return Err(StoreFault::Exists);
@@ -100,7 +100,7 @@ fn first_bytes(root: &Root) -> [u8; 72]
 /// chance before they are written. Where no state that a stop may leave of the roots file has a byte, the files are at each
 /// moment no store's.
 #[tactic(auto, using(crate::proofs::Looking::steps))]
-fn prepare<H: Host>(host: &mut H, names: &Names) -> Result<(), HostFault>
+fn prepare<H: Host>(host: &mut H, names: &FileNames) -> Result<(), HostFault>
     ensures makes { let name = string_bytes names.now.name in IsTrue H.is_told
         → Leaves H.Host.own host.old (roots_file name) (λ file. bytes_of file ≡ [])
         → Makes {C = Option Stored} H.Host.own (OpensMaybe name) None None host.old host.new result }
@@ -124,7 +124,7 @@ fn prepare<H: Host>(host: &mut H, names: &Names) -> Result<(), HostFault>
 /// Writes the roots file behind its letters, and the letters last. Where the roots file is one zero byte and what the root
 /// names is firm, the files are at each moment no store's, or open as the new one.
 #[tactic(auto, using(crate::proofs::Looking::steps))]
-fn inscribe<H: Host>(host: &mut H, names: &Names, root: &Root) -> Result<(), HostFault>
+fn inscribe<H: Host>(host: &mut H, names: &FileNames, root: &Root) -> Result<(), HostFault>
     ensures makes { let name = string_bytes names.now.name in (c : Stored) → IsTrue H.is_told
         → Leaves H.Host.own host.old (roots_file name) IsBlank → c.root ≡ root.now
         → IsFirm H.Host.own host.old name c
@@ -138,7 +138,7 @@ fn inscribe<H: Host>(host: &mut H, names: &Names, root: &Root) -> Result<(), Hos
         → IsChosen H.Host.own host.new name 0 c) }
     ensures bytes { OnOk result (let roots = roots_file (string_bytes names.now.name) in IsTrue H.is_told
         → Leaves H.Host.own host.old roots IsBlank → H.files host.new roots ≡ Some (first_file root.now)) }
-    ensures changes { Changes H.Host.own (roots_file (string_bytes names.now.name)) host.old host.new }
+    ensures changes { ChangesOneFile H.Host.own (roots_file (string_bytes names.now.name)) host.old host.new }
     ensures cause { HasCause (H.disk_faults host.old) (H.disk_faults host.new) result }
 {
     let bytes = first_bytes(root);

@@ -5,7 +5,7 @@ ghost use Rattle.st_store.specs.Names.{roots_file, changes_file, image_file};
 use std::alloc::{AllocError, Global};
 
 #[derive(Drop)]
-pub(crate) struct Names {
+pub(crate) struct FileNames {
     name: String,
     roots: String,
     image_a: String,
@@ -19,11 +19,11 @@ pub(crate) struct Names {
     pub ghost changes_2_is: { string_bytes changes_2 ≡ changes_file (string_bytes name) 2 },
 }
 
-impl Names {
-    pub(crate) fn new(alloc: Global, name: &str) -> Result<Names, AllocError>
+impl FileNames {
+    pub(crate) fn new(alloc: Global, name: &str) -> Result<FileNames, AllocError>
         ensures { IfOk result (λ names. string_bytes names.name ≡ name.now) }
     {
-        Ok(Names {
+        Ok(FileNames {
             name: joined(alloc, name, "")?,
             roots: joined(alloc, name, ".roots")?,
             image_a: joined(alloc, name, ".a")?,

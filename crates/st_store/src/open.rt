@@ -2,7 +2,7 @@
 ghost use Rattle.std.specs.Prelude.{◌≡◌, ◌≢◌, ◌≤◌, ◌^◌, IsTrue, IfOk, IfErr, OnOk, OnErr, MatchOption, length, string_bytes};
 ghost use Rattle.st_host.specs.Counts.{HasCause};
 ghost use Rattle.st_host.specs.Files.{bytes_of};
-ghost use Rattle.st_host.specs.Runs.{LeavesOnly, ReadsAlike, Narrows, NarrowsBut, Changes, Spares, IsSynced, Makes};
+ghost use Rattle.st_host.specs.Runs.{LeavesOnly, ReadsAlike, Narrows, NarrowsBut, ChangesOneFile, Spares, IsSynced, Makes};
 ghost use Rattle.st_store.specs.Names.{roots_file, IsNoFileOf};
 ghost use Rattle.st_store.specs.Roots.{Chooses, IsFresh};
 ghost use Rattle.st_store.specs.Refusals.{IsWrongNumber, Fit, RefusesFront, RefusesNumbers, Refuses, IsOfOpening, IsRefusal, FaultHasCause};
@@ -12,7 +12,7 @@ ghost use Rattle.st_store.specs.declared.fault.StoreFault.TheVariants.{NotAStore
 ghost use Rattle.st_store.specs.declared.fault.StorePlace.TheVariants.{Roots};
 
 use crate::front::{Chosen, choose};
-use crate::names::Names;
+use crate::names::FileNames;
 use crate::steps::{stage, turn};
 use crate::{Root, Store, StoreFault, StorePlace};
 use st_host::{Host, HostFault, file_length, read_from, sync_file};
@@ -40,7 +40,7 @@ fn look<H: Host>(host: &mut H, roots: &str) -> Result<Chosen, StoreFault>
     ensures tried { OnErr result (TriesSync H.Host.own roots.now host.old host.new) }
     ensures alike { OnOk result (ReadsAlike H.Host.own host.old host.new) }
     ensures narrows { Narrows H.Host.own host.old host.new }
-    ensures only { Changes H.Host.own roots.now host.old host.new }
+    ensures only { ChangesOneFile H.Host.own roots.now host.old host.new }
     ensures cause { FaultHasCause (H.disk_faults host.old) (H.disk_faults host.new) result }
 {
     sync_file(host, roots)?;
@@ -111,7 +111,7 @@ fn make_firm<H: Host>(
 }
 
 /// Syncs the roots file and reads the root that it chooses, and then syncs and tests what this names.
-fn seek<H: Host>(host: &mut H, names: &Names) -> Result<Chosen, StoreFault>
+fn seek<H: Host>(host: &mut H, names: &FileNames) -> Result<Chosen, StoreFault>
     ensures number { IfOk result (λ r. r.number ≤ 1) }
     ensures sound { IfOk result (λ r. IsSound r.root) }
     ensures chosen { IfOk result (λ r. let name = string_bytes names.now.name in IsTrue H.is_told
@@ -138,7 +138,12 @@ fn seek<H: Host>(host: &mut H, names: &Names) -> Result<Chosen, StoreFault>
 
 /// Writes the root that isn't chosen as a copy of the chosen one, and the gate afresh. Where no stop leaves another root
 /// chosen and what this one names is firm, it stays so at each moment.
-fn freshen<H: Host>(host: &mut H, names: &Names, number: u64, root: &Root) -> Result<(), HostFault>
+fn freshen<H: Host>(
+    host: &mut H,
+    names: &FileNames,
+    number: u64,
+    root: &Root,
+) -> Result<(), HostFault>
     requires { number ≤ 1 }
     ensures makes { let name = string_bytes names.now.name in
         WhereChosen H.Host.own host.old name number root.now
@@ -148,7 +153,7 @@ fn freshen<H: Host>(host: &mut H, names: &Names, number: u64, root: &Root) -> Re
     ensures fresh { OnOk result (let name = string_bytes names.now.name in
         WhereChosen H.Host.own host.old name number root.now
         (λ c. IsFresh number c.root (H.files host.new (roots_file name)))) }
-    ensures changes { Changes H.Host.own (roots_file (string_bytes names.now.name)) host.old host.new }
+    ensures changes { ChangesOneFile H.Host.own (roots_file (string_bytes names.now.name)) host.old host.new }
     ensures cause { HasCause (H.disk_faults host.old) (H.disk_faults host.new) result }
 {
     stage(host, names, number, root)?;
@@ -191,7 +196,7 @@ pub fn open_store<H: Host>(alloc: Global, host: &mut H, name: &str) -> Result<St
     ensures spares { Spares H.Host.own (IsNoFileOf name.now) host.old host.new }
     ensures cause { FaultHasCause (H.disk_faults host.old) (H.disk_faults host.new) result }
 {
-    let names = Names::new(alloc, name)?;
+    let names = FileNames::new(alloc, name)?;
     let chosen = seek(host, &names)?;
     let Chosen { number, root } = chosen;
     freshen(host, &names, number, &root)?;

@@ -2,12 +2,12 @@
 ghost use Rattle.std.specs.Prelude.{◌≡◌, ◌≤◌, ◌-◌, ◌∷◌, ℕ, [], IsTrue, OnOk, string_bytes};
 ghost use Rattle.st_host.specs.Counts.{HasCause};
 ghost use Rattle.st_host.specs.Files.{IsWritten};
-ghost use Rattle.st_host.specs.Runs.{Makes, Changes, Writes};
+ghost use Rattle.st_host.specs.Runs.{Makes, ChangesOneFile, Writes};
 ghost use Rattle.st_store.specs.Names.{roots_file};
 ghost use Rattle.st_store.specs.Stored.{Stored, Opens, IsFirm, IsChosen, IsStaged, IsReady};
 
 use crate::Root;
-use crate::names::Names;
+use crate::names::FileNames;
 use crate::root::bytes_of_root;
 use st_host::{Host, HostFault, write_synced};
 
@@ -16,7 +16,7 @@ use st_host::{Host, HostFault, write_synced};
 #[tactic(auto, using(crate::proofs::Looking::steps))]
 pub(crate) fn stage<H: Host>(
     host: &mut H,
-    names: &Names,
+    names: &FileNames,
     chosen: u64,
     root: &Root,
 ) -> Result<(), HostFault>
@@ -27,7 +27,7 @@ pub(crate) fn stage<H: Host>(
     ensures staged { OnOk result (let name = string_bytes names.now.name in (c d : Stored) → IsTrue H.is_told
         → IsChosen H.Host.own host.old name chosen c → IsFirm H.Host.own host.old name d → d.root ≡ root.now
         → IsStaged H.Host.own host.new name chosen c d) }
-    ensures changes { Changes H.Host.own (roots_file (string_bytes names.now.name)) host.old host.new }
+    ensures changes { ChangesOneFile H.Host.own (roots_file (string_bytes names.now.name)) host.old host.new }
     ensures cause { HasCause (H.disk_faults host.old) (H.disk_faults host.new) result }
 {
     let bytes = bytes_of_root(root);
@@ -37,7 +37,7 @@ pub(crate) fn stage<H: Host>(
 
 /// Writes the gate, and syncs it. Where both roots stand and what they name is firm, one of them is chosen at each moment.
 #[tactic(auto, using(crate::proofs::Looking::steps))]
-pub(crate) fn turn<H: Host>(host: &mut H, names: &Names, gate: u64) -> Result<(), HostFault>
+pub(crate) fn turn<H: Host>(host: &mut H, names: &FileNames, gate: u64) -> Result<(), HostFault>
     requires { gate ≤ 1 }
     ensures written { OnOk result (let roots = roots_file (string_bytes names.now.name) in IsTrue H.is_told
         → IsWritten 8 (gate ∷ []) (H.files host.old roots) (H.files host.new roots)) }
@@ -61,7 +61,7 @@ pub(crate) fn turn<H: Host>(host: &mut H, names: &Names, gate: u64) -> Result<()
         → IsStaged H.Host.own host.old name gate c c → IsChosen H.Host.own host.new name gate c) }
 
     ensures writes { Writes H.Host.own (roots_file (string_bytes names.now.name)) 8 1 host.old host.new }
-    ensures changes { Changes H.Host.own (roots_file (string_bytes names.now.name)) host.old host.new }
+    ensures changes { ChangesOneFile H.Host.own (roots_file (string_bytes names.now.name)) host.old host.new }
     ensures cause { HasCause (H.disk_faults host.old) (H.disk_faults host.new) result }
 {
     write_synced(host, names.roots(), 8, &[gate as u8])?;

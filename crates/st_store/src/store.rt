@@ -5,7 +5,7 @@ ghost use Rattle.st_host.specs.Files.{bytes_of};
 ghost use Rattle.st_store.specs.Names.{roots_file, changes_file, image_file};
 
 use crate::Root;
-use crate::names::Names;
+use crate::names::FileNames;
 use crate::steps::{stage, turn};
 use st_host::{Host, HostFault};
 use std::marker::Model;
@@ -13,7 +13,7 @@ use std::marker::Model;
 /// A store that is open: its name, the number of the root that its gate chooses, and this root.
 #[derive(Drop)]
 pub struct Store {
-    pub(crate) names: Names,
+    pub(crate) names: FileNames,
     pub(crate) chosen: u64,
     pub(crate) root: Root,
 }
@@ -30,7 +30,7 @@ impl Model for Store {
 }
 
 impl Store {
-    ghost use Rattle.st_host.specs.Runs.{Makes, Changes};
+    ghost use Rattle.st_host.specs.Runs.{Makes, ChangesOneFile};
     ghost use Rattle.st_store.specs.Stored.{Stored, Opens, IsFirm, IsKept};
     ghost use Rattle.st_store.specs.Faults.{RestsUnlessGate};
 
@@ -93,7 +93,7 @@ impl Store {
 
         ensures gate { IfOk result (λ store. IsTrue H.is_told
             → slice_index (bytes_of (H.files host.new (roots_file store.name))) 8 ≡ store.chosen) }
-        ensures changes { Changes H.Host.own (roots_file self.name) host.old host.new }
+        ensures changes { ChangesOneFile H.Host.own (roots_file self.name) host.old host.new }
         ensures cause { HasCause (H.disk_faults host.old) (H.disk_faults host.new) result }
     {
         let other = 1 - self.chosen;

@@ -7,7 +7,7 @@ use Rattle.st_model.specs.Table.{Table}
 use Rattle.st_model.specs.View.{View, is_live, object_of}
 use Rattle.st_at_once.specs.declared.known.Fields.{Fields}
 use Rattle.st_at_once.specs.declared.known.Code.{Code}
-use Rattle.st_at_once.specs.declared.known.Known.{Known}
+use Rattle.st_at_once.specs.declared.known.NearPlaces.{NearPlaces}
 
 -- the object of this word is that of kind Pointers which is held, and has so many fields
 pub record HasFields (t : Table) (held : Value) (f : Fields) : Type 0 where
@@ -65,14 +65,14 @@ pub record HasLiteral (t : Table) (v : Value) (i : ℕ) : Type 0 where
   pub literal : i + 1 < length (object_of t v).fields
 
 -- what is known is so
-pub record IsNear (v : View) (k : Known) : Type 0 where
+pub record IsNear (v : View) (k : NearPlaces) : Type 0 where
   pub active : KnowsFields v.objects v.held.active k.active
   pub home : KnowsFields v.objects v.held.home k.home
   pub code : KnowsCode v.objects v.held.method k.code
   pub made : KnowsFields v.objects (word k.made.object) k.made
 
 -- what is known stands at these places
-pub record ArePlaced (stands : Value → ℕ → Type 0) (k : Known) : Type 0 where
+pub record ArePlaced (stands : Value → ℕ → Type 0) (k : NearPlaces) : Type 0 where
   pub active : 0 < k.active.number → stands (word k.active.object) k.active.place
   pub home : 0 < k.home.number → stands (word k.home.object) k.home.place
   pub literals : 0 < k.code.literals → stands (word k.code.method) k.code.place

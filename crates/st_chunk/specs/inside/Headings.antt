@@ -1,10 +1,10 @@
 -- The header of a group, held as its class's name and its category, one behind the other.
 use Rattle.std.specs.Prelude.{◌≡◌, ℕ, ◌≤◌, Bool, List, ◌++◌, length, reverse, take, drop, codes, Option, Some, None, MatchBool}
 use Rattle.std.specs.Option.{option_and_then}
-use Rattle.st_chunk.specs.Groups.{after_blanks, Header, header_of, behind, behind_blanks, inside_quotes}
+use Rattle.st_chunk.specs.Groups.{after_blanks, GroupHeader, header_of, behind, behind_blanks, inside_quotes}
 use Rattle.st_chunk.specs.declared.heading.Heading.{Heading}
 
-abbrev pub heading_in : List ℕ → ℕ → Bool → Header
+abbrev pub heading_in : List ℕ → ℕ → Bool → GroupHeader
 heading_in held k meta = record { class = take k held; meta = meta; category = drop k held }
 
 pub record IsFoundHeading (chunk held : List ℕ) (h : Heading) : Type 0 where

@@ -3,7 +3,7 @@ use Rattle.std.specs.Prelude.{◌≡◌, ◌≤◌, length, Option}
 use Rattle.st_chunk.specs.declared.cutting.Phase.TheVariants.{Within, Marked}
 use Rattle.st_chunk.specs.Texts.{most}
 use Rattle.st_chunk.specs.Feeding.{MayGoOn, IsTold}
-use Rattle.st_chunk.specs.Groups.{Header}
+use Rattle.st_chunk.specs.Groups.{GroupHeader}
 use Rattle.st_chunk.specs.declared.request.Request.{Request}
 use Rattle.st_chunk.specs.declared.progress.Mode.{Mode}
 use Rattle.st_chunk.specs.declared.progress.Mode.TheVariants as modes
@@ -13,7 +13,7 @@ use Rattle.st_chunk.specs.Lines.{line_ask}
 use Rattle.st_chunk.specs.Reading.{Place, InLine, behind_line, Opened, InHeader, InMethods, Defined, CutOff, InBlanks, BehindBlanks, Over, Reading, Told}
 
 -- the header of the open group
-abbrev pub heading_of : Progress → Header
+abbrev pub heading_of : Progress → GroupHeader
 heading_of p = heading_in p.text p.class_length p.meta
 
 abbrev pub place_in : Mode → Progress → Place

@@ -7,7 +7,7 @@ use Rattle.st_scan.specs.declared.chain.Link.{Link}
 use Rattle.st_scan.specs.Views.{ExpressionView, name_view, names_view as list_view, expression_view, statements_view}
 use Rattle.st_scan.specs.inside.Chains.{links_view, linked}
 use Rattle.st_emit.specs.declared.names.Around.{Around}
-use Rattle.st_emit.specs.declared.frame.Frame.{Frame}
+use Rattle.st_emit.specs.declared.declared_names.DeclaredNames.{DeclaredNames}
 use Rattle.st_emit.specs.Names.{NamesView, Scope}
 use Rattle.st_emit.specs.inside.NameViews.{names_view, scope_view}
 use Rattle.st_code.specs.declared.fault.Fault.{Fault}
@@ -26,7 +26,7 @@ abbrev pub block_around : Around → List Name → List Statement → Option Fau
 block_around around arguments body = looked_up block_fault around (list_view arguments) (statements_view body)
 
 -- a name that is declared, of which as many of its frame stand before it
-abbrev pub once_fault : List Frame → Frame → (before : ℕ) → Name → Option Fault
+abbrev pub once_fault : List DeclaredNames → DeclaredNames → (before : ℕ) → Name → Option Fault
 once_fault scope frame before n = among_fault (scope_view scope) (list_view (take before frame.names.now)) (name_view n)
 
 -- what a chain's start is with all of its links

@@ -1,16 +1,16 @@
 -- Instructions with the places where they stand.
 use Rattle.std.specs.Prelude.{◌≡◌, ℕ, ◌+◌, List, [], ◌∷◌, map, take, drop, Option, Some, None}
 use Rattle.std.specs.Borrow.{Bor}
-use Rattle.st_emit.specs.declared.step.Step.{Step}
+use Rattle.st_emit.specs.declared.instruction.Instruction.{Instruction}
 use Rattle.st_emit.specs.Steps.{size_of}
 use Rattle.st_decompile.specs.declared.located.Located.{Located}
 use Rattle.st_decompile.specs.Reading.{front, behind}
 
-abbrev pub steps_in : List Located → List Step
+abbrev pub steps_in : List Located → List Instruction
 steps_in ls = map (λ l. l.step) ls
 
 -- the place behind instructions that begin at one
-abbrev pub end_of : ℕ → List Step → ℕ
+abbrev pub end_of : ℕ → List Instruction → ℕ
 end_of at [] = at
 end_of at (s ∷ ss) = end_of (at + size_of s) ss
 
@@ -25,7 +25,7 @@ AreSpaced [] = Unit {0}
 AreSpaced (l ∷ ls) = AreFrom (l.at + size_of l.step) ls
 
 -- instructions that stand one behind the other from a place on
-abbrev pub located_from : ℕ → List Step → List Located
+abbrev pub located_from : ℕ → List Instruction → List Located
 located_from at [] = []
 located_from at (s ∷ ss) = record { at = at; step = s } ∷ located_from (at + size_of s) ss
 

@@ -2,9 +2,9 @@
 use Rattle.std.specs.Prelude.{◌≡◌, ℕ, ◌+◌, ◌-◌, ◌==◌, Bool, true, false, min, List, [], ◌∷◌, map, take, drop, slice_get, Option, Some, None}
 use Rattle.std.specs.Borrow.{Bor}
 use Rattle.st_scan.specs.Views.{NameView, names_view, ExpressionView, no_statements}
-use Rattle.st_emit.specs.declared.step.Place.{Place}
-use Rattle.st_emit.specs.declared.step.Step.{Step}
-use Rattle.st_emit.specs.declared.step.Step.TheVariants.{JumpIf, SendSpecial, Jump as JumpOver, JumpPast}
+use Rattle.st_emit.specs.declared.instruction.InstructionOperand.{InstructionOperand}
+use Rattle.st_emit.specs.declared.instruction.Instruction.{Instruction}
+use Rattle.st_emit.specs.declared.instruction.Instruction.TheVariants.{JumpIf, SendSpecial, Jump as JumpOver, JumpPast}
 use Rattle.st_emit.specs.Literals.{LiteralView}
 use Rattle.st_emit.specs.inside.Views.{literals_view}
 use Rattle.st_emit.specs.Resolving.{special_selectors, first_special}
@@ -26,43 +26,43 @@ use Rattle.st_expression_stack.specs.inside.Called.{calling_view}
 use Rattle.st_expression_stack.specs.Names.{name_in}
 
 module _ (r : Reading) where
-  abbrev pub name_by : Place → List ℕ
+  abbrev pub name_by : InstructionOperand → List ℕ
   name_by = name_in (calling_view r.calling.now)
 
   abbrev pub literals_by : List LiteralView
   literals_by = literals_view r.literals.now
 
-  abbrev pub region_by : (depth at : ℕ) → List Step → Option (List Item)
+  abbrev pub region_by : (depth at : ℕ) → List Instruction → Option (List Item)
   region_by depth = region name_by literals_by depth
 
-  abbrev pub act_by : (depth : ℕ) → Step → (at next : ℕ) → List Step → List Item → Option Acted
+  abbrev pub act_by : (depth : ℕ) → Instruction → (at next : ℕ) → List Instruction → List Item → Option Acted
   act_by depth = act name_by literals_by (region_by depth)
 
-  abbrev pub makes_block_by : (depth at : ℕ) → List Step → List Item → Option Acted
+  abbrev pub makes_block_by : (depth at : ℕ) → List Instruction → List Item → Option Acted
   makes_block_by depth = makes_block name_by literals_by (region_by depth)
 
   -- with what was read of a first side
   abbrev pub decided_by : (depth : ℕ) → (on : Bool) → (distance : ℕ) → Spot → (first xs : List Item) → Option Acted
   decided_by depth on distance s first xs = decided name_by literals_by (region_by depth) on s.next distance (steps_in s.rest.now) xs first
 
-  abbrev pub assigned_by : Place → Piece → Piece
+  abbrev pub assigned_by : InstructionOperand → Piece → Piece
   assigned_by = assigned name_by literals_by (region_by 0)
 
-  abbrev pub pushed_by : Place → Option ExpressionView
+  abbrev pub pushed_by : InstructionOperand → Option ExpressionView
   pushed_by = pushed_tree name_by literals_by (region_by 0)
 
-  abbrev pub popped_into_by : Place → List Item → Option Acted
+  abbrev pub popped_into_by : InstructionOperand → List Item → Option Acted
   popped_into_by = popped_into name_by literals_by (region_by 0)
 
   -- what a value that is popped into a variable becomes
-  abbrev pub popped_by : Place → Option Piece → Item
+  abbrev pub popped_by : InstructionOperand → Option Piece → Item
   popped_by place None = argument place
   popped_by place (Some p) = piece (assigned_by place p)
 
-  abbrev pub stored_into_by : Place → List Item → Option Acted
+  abbrev pub stored_into_by : InstructionOperand → List Item → Option Acted
   stored_into_by = stored_into name_by literals_by (region_by 0)
 
-  abbrev pub pushes_by : Place → ℕ → List Item → Option Acted
+  abbrev pub pushes_by : InstructionOperand → ℕ → List Item → Option Acted
   pushes_by p at xs = on_some (pushed_by p) (λ e. goes_on (piece (items.leaf e at) ∷ xs))
 
   -- the arguments of a block as names
@@ -85,12 +85,12 @@ abbrev pub returns_top_by : List Item → Option Acted
 returns_top_by xs = on_piece xs (λ x below. goes_on (piece (record x { returns = true }) ∷ below))
 
 -- an instruction that begins no region
-abbrev pub IsPlain : Step → Type 0
+abbrev pub IsPlain : Instruction → Type 0
 IsPlain (JumpIf on d) = ⊥
 IsPlain (SendSpecial code) = (code == 200) ≡ false
 IsPlain step = Unit {0}
 
-abbrev pub passed_by : List Step → Option (ℕ × List Step)
+abbrev pub passed_by : List Instruction → Option (ℕ × List Instruction)
 passed_by (JumpPast d ∷ ss) = Some (d, ss)
 passed_by (JumpOver d ∷ ss) = Some (d, ss)
 passed_by ss = None

@@ -5,7 +5,7 @@ use Rattle.st_scan.specs.Views.{NameView, ContentView, ExpressionView, Expressio
 use Rattle.st_scan.specs.Views as views
 use Rattle.st_scan.specs.inside.Chains.{LinkView, assigned, sent}
 use Rattle.st_emit.specs.declared.names.Around.{Around}
-use Rattle.st_emit.specs.declared.step.Step.TheVariants.{PushConstant}
+use Rattle.st_emit.specs.declared.instruction.Instruction.TheVariants.{PushConstant}
 use Rattle.st_emit.specs.declared.form.TwoSided.TheVariants.{TrueFirst, FalseFirst}
 use Rattle.st_emit.specs.declared.level.Level.{Level}
 use Rattle.st_emit.specs.inside.NameViews.{names_view, scope_view}

@@ -1,6 +1,6 @@
 -- What is added to a draft.
 use Rattle.std.specs.Prelude.{◌≡◌, List, [], ◌∷◌, ◌++◌}
-use Rattle.st_emit.specs.declared.step.Step.{Step}
+use Rattle.st_emit.specs.declared.instruction.Instruction.{Instruction}
 use Rattle.st_emit.specs.declared.level.Level.{Level}
 use Rattle.st_emit.specs.declared.draft.Draft.{Draft}
 use Rattle.st_emit.specs.Literals.{LiteralView, Naming}
@@ -8,16 +8,16 @@ use Rattle.st_emit.specs.inside.Views.{literals_view}
 
 -- instructions and what they do to the level, and the literals then
 pub record Part : Type 0 where
-  pub steps : List Step
+  pub steps : List Instruction
   pub literals : List LiteralView
   pub level : Level → Level
 
 -- what is made behind these literals
-abbrev pub part_of : {A : Type 0} → (code : A → List Step) → (level : A → Level → Level) → Naming A → List LiteralView → Part
+abbrev pub part_of : {A : Type 0} → (code : A → List Instruction) → (level : A → Level → Level) → Naming A → List LiteralView → Part
 part_of code level naming ls = let n = naming ls in record { steps = code n.part; literals = n.literals; level = level n.part }
 
 -- one instruction more, which does this to the level
-abbrev pub step_part : Step → (Level → Level) → List LiteralView → Part
+abbrev pub step_part : Instruction → (Level → Level) → List LiteralView → Part
 step_part step level ls = record { steps = step ∷ []; literals = ls; level = level }
 
 -- a draft with a part more

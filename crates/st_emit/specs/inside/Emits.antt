@@ -14,7 +14,7 @@ use Rattle.st_emit.specs.declared.form.Lookup.{Lookup}
 use Rattle.st_emit.specs.declared.shape.Choice.{Choice}
 use Rattle.st_emit.specs.declared.shape.Side.{Side}
 use Rattle.st_emit.specs.declared.shape.Repetition.{Repetition}
-use Rattle.st_emit.specs.declared.step.Place.{Place}
+use Rattle.st_emit.specs.declared.instruction.InstructionOperand.{InstructionOperand}
 use Rattle.st_emit.specs.Literals.{LiteralView, Naming}
 use Rattle.st_emit.specs.Nodes.{is_above}
 use Rattle.st_emit.specs.Resolving.{place_of_name, names_in, names_in_all, names_in_messages, names_in_statements}
@@ -23,7 +23,7 @@ use Rattle.st_emit.specs.inside.Drafts.{Part, Adds, Goes}
 use Rattle.st_emit.specs.inside.Around.{context, at_number, value_part, effect_part, values_part, message_part, cascade_part, shape_part, link_part, side_part, choice_part, loop_part, block_part, block_body_part, body_part, return_part, method_part, names_in_link, names_in_side, names_in_repetition}
 
 -- the variable of a name
-abbrev pub place_at : Around → Name → Naming Place
+abbrev pub place_at : Around → Name → Naming InstructionOperand
 place_at a n = place_of_name (context a) (name_view n)
 
 -- EXPRESSIONS

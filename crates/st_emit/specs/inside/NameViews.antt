@@ -4,7 +4,7 @@ use Rattle.std.specs.Global.{Vec}
 use Rattle.std.specs.Borrow.{Bor}
 use Rattle.st_model.specs.declared.oop.Oop.{Oop}
 use Rattle.st_emit.specs.declared.names.Names.{Names}
-use Rattle.st_emit.specs.declared.frame.Frame.{Frame}
+use Rattle.st_emit.specs.declared.declared_names.DeclaredNames.{DeclaredNames}
 use Rattle.st_emit.specs.declared.names.Variable.{Variable as Kept}
 use Rattle.st_emit.specs.declared.names.Variable.TheVariants.{Temporary, Field, Shared}
 use Rattle.st_scan.specs.Views.{name_view}
@@ -26,15 +26,15 @@ names_view n = record {
 }
 
 -- names that are declared together
-abbrev pub frame_view : Frame → List Declared
+abbrev pub frame_view : DeclaredNames → List Declared
 frame_view f = numbered f.assignable f.first (map name_view f.names.now)
 
-abbrev pub scope_view : List Frame → Scope
+abbrev pub scope_view : List DeclaredNames → Scope
 scope_view [] = []
 scope_view (f ∷ fs) = frame_view f ++ scope_view fs
 
 -- what a name means
-abbrev pub variable_at : Names → List Frame → List ℕ → Option Variable
+abbrev pub variable_at : Names → List DeclaredNames → List ℕ → Option Variable
 variable_at names fs text = variable_named (names_view names) (scope_view fs) text
 
 abbrev pub variable_view : Kept → Variable

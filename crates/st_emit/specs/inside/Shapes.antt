@@ -3,8 +3,8 @@ use Rattle.std.specs.Prelude.{◌≡◌, ℕ, Bool, true, false, List, [], ◌�
 use Rattle.st_scan.specs.Views.{ExpressionView, ExpressionsView, StatementsView, MessagesView, no_statements, statement, no_expressions, expression, message, no_messages, statements_view}
 use Rattle.st_scan.specs.Views as views
 use Rattle.st_scan.specs.inside.Chains.{LinkView, sent}
-use Rattle.st_emit.specs.declared.step.Constant.{Constant}
-use Rattle.st_emit.specs.declared.step.Constant.TheVariants.{Context}
+use Rattle.st_emit.specs.declared.instruction.Constant.{Constant}
+use Rattle.st_emit.specs.declared.instruction.Constant.TheVariants.{Context}
 use Rattle.st_emit.specs.declared.form.OneSided.{OneSided}
 use Rattle.st_emit.specs.declared.form.TwoSided.{TwoSided}
 use Rattle.st_emit.specs.declared.form.Loop.{Loop}

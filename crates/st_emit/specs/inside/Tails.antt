@@ -1,7 +1,7 @@
 -- What is done to a node, as code behind the node's own. A loop has none: its node stands in it as statements.
 use Rattle.std.specs.Prelude.{false, List, [], ◌∷◌}
-use Rattle.st_emit.specs.declared.step.Step.{Step}
-use Rattle.st_emit.specs.declared.step.Step.TheVariants.{PushConstant, Store}
+use Rattle.st_emit.specs.declared.instruction.Instruction.{Instruction}
+use Rattle.st_emit.specs.declared.instruction.Instruction.TheVariants.{PushConstant, Store}
 use Rattle.st_emit.specs.declared.level.Level.{Level}
 use Rattle.st_emit.specs.declared.form.TwoSided.{TwoSided}
 use Rattle.st_emit.specs.declared.form.TwoSided.TheVariants.{TrueFirst, FalseFirst}
@@ -9,11 +9,11 @@ use Rattle.st_emit.specs.Nodes.{Body, Tail, assigned, sent, sided, chosen, loope
 use Rattle.st_emit.specs.Emitting.{choice, body_code, messages_code, passes_on, other_side}
 use Rattle.st_emit.specs.Depths.{pushed, popped, beside, joined, body_level, messages_level}
 
-abbrev pub two_code : TwoSided → Body → Body → List Step
+abbrev pub two_code : TwoSided → Body → Body → List Instruction
 two_code TrueFirst a b = choice false [] (body_code a) (body_code b)
 two_code FalseFirst a b = choice false [] (body_code b) (body_code a)
 
-abbrev pub tail_code : Tail → List Step
+abbrev pub tail_code : Tail → List Instruction
 tail_code (assigned p) = Store p ∷ []
 tail_code (sent above ms) = messages_code above ms
 tail_code (sided side a) = choice (passes_on side) [] (body_code a) (PushConstant (other_side side) ∷ [])

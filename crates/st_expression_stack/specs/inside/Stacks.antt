@@ -3,7 +3,7 @@ use Rattle.std.specs.Prelude.{◌≡◌, ◌<◌, length, ℕ, Bool, true, false
 use Rattle.std.specs.Borrow.{Bor}
 use Rattle.std.specs.Global.{Vec}
 use Rattle.st_scan.specs.Views.{ExpressionsView, no_expressions, statement, expression_view, expressions_view, statements_view, messages_view}
-use Rattle.st_emit.specs.declared.step.Place.{Place}
+use Rattle.st_emit.specs.declared.instruction.InstructionOperand.{InstructionOperand}
 use Rattle.st_expression_stack.specs.declared.item.Piece.{Piece as Kept}
 use Rattle.st_expression_stack.specs.declared.item.Statements.{Statements}
 use Rattle.st_expression_stack.specs.declared.item.Item.{Item as KeptItem}
@@ -46,7 +46,7 @@ abbrev pub IsArgumentless : List Item → Type 0
 IsArgumentless (items.argument p ∷ xs) = ⊥
 IsArgumentless xs = Unit {0}
 
-abbrev pub IsArgumentPopped : (old new : List KeptItem) → Option Place → Type 0
+abbrev pub IsArgumentPopped : (old new : List KeptItem) → Option InstructionOperand → Type 0
 IsArgumentPopped old new None = IsArgumentless (stack_view old) × (new ≡ old)
 IsArgumentPopped old new (Some p) = (stack_view old ≡ items.argument p ∷ stack_view new) × (length new < length old)
 

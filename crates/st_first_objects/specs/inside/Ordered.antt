@@ -3,7 +3,7 @@ use Rattle.std.specs.Prelude.{◌≡◌, ◌<◌, ◌≤◌, length, Result, Ok,
 use Rattle.st_first_objects.specs.declared.unmade.Unmade.{Unmade}
 use Rattle.st_first_objects.specs.declared.unmade.Unmade.TheVariants.{NoRoom, OutOfMemory}
 use Rattle.st_first_objects.specs.Orders.{Order}
-use Rattle.st_first_objects.specs.Plans.{Plan}
+use Rattle.st_first_objects.specs.Plans.{FirstObjects}
 
 -- now it is this one; or it has more things than there are pointers
 abbrev pub Becomes : Order → (now : Order) → Result Unit Unmade → Type 0
@@ -16,7 +16,7 @@ IsOrder whole (Ok o) = (o ≡ whole) × (length o.things ≤ 32767)
 IsOrder whole (Err NoRoom) = 32767 < length whole.things
 IsOrder whole (Err OutOfMemory) = Unit {0}
 
-abbrev pub IsPlan : Plan → Result Plan Unmade → Type 0
+abbrev pub IsPlan : FirstObjects → Result FirstObjects Unmade → Type 0
 IsPlan whole (Ok p) = (p ≡ whole) × (length p.order.things ≤ 32767)
 IsPlan whole (Err NoRoom) = 32767 < length whole.order.things
 IsPlan whole (Err OutOfMemory) = Unit {0}

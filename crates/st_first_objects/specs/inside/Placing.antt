@@ -9,7 +9,7 @@ use Rattle.st_model.specs.View.{View, with_object}
 use Rattle.st_first_objects.specs.declared.unmade.Unmade.{Unmade}
 use Rattle.st_first_objects.specs.declared.unmade.Unmade.TheVariants.{NoRoom, OutOfMemory}
 use Rattle.st_first_objects.specs.Things.{Thing, class}
-use Rattle.st_first_objects.specs.Plans.{Plan}
+use Rattle.st_first_objects.specs.Plans.{FirstObjects}
 use Rattle.st_first_objects.specs.Pointers.{place, object}
 use Rattle.st_first_objects.specs.First.{with_things, fit_beside}
 
@@ -39,7 +39,7 @@ filled filler (x ∷ xs) zero = filler ∷ filled filler xs zero
 filled filler (x ∷ xs) (suc n) = x ∷ filled filler xs n
 
 -- The objects of the first i things are placed, and these words are theirs.
-pub record Underway (p : Plan) (begun v : View) (used i : ℕ) : Type 0 where
+pub record Underway (p : FirstObjects) (begun v : View) (used i : ℕ) : Type 0 where
   pub rest : with_things p 0 p.order.things begun.objects ≡ with_things p i (drop i p.order.things) v.objects
   pub fits : fit_beside p 0 p.order.things ≡ fit_beside p used (drop i p.order.things)
   pub held : v.held ≡ begun.held
@@ -53,7 +53,7 @@ pub record Underway (p : Plan) (begun v : View) (used i : ℕ) : Type 0 where
   pub objects : (k : ℕ) (o : Object) → entry v.objects k ≡ Some o → (x : Thing) × (o ≡ object p x)
 
 -- no object is placed
-pub record IsBegun (p : Plan) (v : View) : Type 0 where
+pub record IsBegun (p : FirstObjects) (v : View) : Type 0 where
   pub objects : v.objects ≡ replicate 32768 None
   pub entries : v.head.entries ≡ 32767
   pub words : v.head.words ≡ most_words
@@ -61,7 +61,7 @@ pub record IsBegun (p : Plan) (v : View) : Type 0 where
   pub methods : slice_get p.order.things 12 ≡ Some (class (codes "CompiledMethod"))
 
 -- the objects of all things are placed, unless there is no room
-abbrev pub PlacesAll : Plan → (begun now : View) → Result Unit Unmade → Type 0
+abbrev pub PlacesAll : FirstObjects → (begun now : View) → Result Unit Unmade → Type 0
 PlacesAll p begun now (Ok done) = (used : ℕ) × Underway p begun now used (length p.order.things)
 PlacesAll p begun now (Err NoRoom) = fit_beside p 0 p.order.things ≡ false
 PlacesAll p begun now (Err OutOfMemory) = Unit {0}

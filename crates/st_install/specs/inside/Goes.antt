@@ -12,7 +12,7 @@ use Rattle.st_model.specs.inside.Calls.{Changes, itself}
 use Rattle.st_scan.specs.Views.{MethodView}
 use Rattle.st_emit.specs.Names.{NamesView}
 use Rattle.st_code.specs.Methods.{PartsView}
-use Rattle.st_install.specs.Plans.{Part, There, Made, NewObject, Plan}
+use Rattle.st_install.specs.Plans.{PlannedValue, There, Made, NewObject, Plan}
 use Rattle.st_scope.specs.Calls.{names}
 use Rattle.st_install.specs.Calls.{ready}
 use Rattle.st_install.specs.Installing.{install}
@@ -54,7 +54,7 @@ ReadyInstalls = (v : View) (p : Plan) → IsWhole v → IsReadyFor v p → Insta
 -- OBJECTS
 
 -- a header that is there, and counts the literals behind it
-abbrev pub HasHeader : List Part → Type 0
+abbrev pub HasHeader : List PlannedValue → Type 0
 HasHeader [] = ⊥
 HasHeader (Made k ∷ literals) = ⊥
 HasHeader (There header ∷ literals) = (is_small header ≡ true) × (literals_of header ≡ length literals)

@@ -10,9 +10,9 @@ use Rattle.st_model.specs.Steps.{count_fields, fetch_fields}
 use Rattle.st_model.specs.Table.{Table, table}
 use Rattle.st_scope.specs.declared.unread.Unread.{Unread}
 use Rattle.st_scope.specs.declared.unread.Unread.TheVariants.{Dies, OutOfMemory}
-use Rattle.st_install.specs.declared.plan.Part.{Part as CodePart}
+use Rattle.st_install.specs.declared.plan.PlannedValue.{PlannedValue as CodePart}
 use Rattle.st_install.specs.declared.symbol_plan.SymbolPlan.{SymbolPlan}
-use Rattle.st_install.specs.Plans.{Part, There, Made, pointers_object}
+use Rattle.st_install.specs.Plans.{PlannedValue, There, Made, pointers_object}
 use Rattle.st_install.specs.Symbols.{Symbols, symbol_part, grown_size, with_new_symbol, with_symbols}
 use Rattle.st_install.specs.inside.Readies.{part_of, parts_of, objects_of, stores_of}
 use Rattle.st_install.specs.inside.Told.{named_of}
@@ -52,21 +52,21 @@ abbrev pub Becomes : (Symbols → Symbols) → SymbolPlan → SymbolPlan → Typ
 Becomes f old new = (s : Symbols) → IsNamed old s → IsNamed new (f s)
 
 -- a Symbol is known by its text
-abbrev pub with_named : List ℕ → Part → Symbols → Symbols
+abbrev pub with_named : List ℕ → PlannedValue → Symbols → Symbols
 with_named text p s = record s { named = s.named ++ record { text = text; part = p } ∷ [] }
 
 -- a Symbol goes into the field of the table
-abbrev pub in_field : ℕ → Part → Symbols → Symbols
+abbrev pub in_field : ℕ → PlannedValue → Symbols → Symbols
 in_field k p s = record s {
   fields = slice_set s.fields k p;
   stores = s.stores ++ record { object = s.table; field = k; value = p } ∷ [];
 }
 
-abbrev pub grown_with : Part → List Part → List Part
+abbrev pub grown_with : PlannedValue → List PlannedValue → List PlannedValue
 grown_with p fields = fields ++ p ∷ replicate (grown_size (length fields) - (length fields + 1)) (There nil)
 
 -- an Array that has the Symbol too becomes the table's value
-abbrev pub in_array : Oop → Part → Symbols → Symbols
+abbrev pub in_array : Oop → PlannedValue → Symbols → Symbols
 in_array association p s = record s {
   table = Made (length s.objects);
   fields = grown_with p s.fields;

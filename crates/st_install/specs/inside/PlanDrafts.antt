@@ -14,7 +14,7 @@ use Rattle.st_install.specs.declared.plan.Owner.{Owner}
 use Rattle.st_scope.specs.declared.fault.InstallFault.{InstallFault}
 use Rattle.st_scope.specs.declared.unread.Unread.{Unread}
 use Rattle.st_scope.specs.declared.unread.Unread.TheVariants.{Dies, OutOfMemory}
-use Rattle.st_install.specs.Plans.{Part, There, Made, NewObject, Plan, method_object}
+use Rattle.st_install.specs.Plans.{PlannedValue, There, Made, NewObject, Plan, method_object}
 use Rattle.st_install.specs.Symbols.{Symbols}
 use Rattle.st_install.specs.Literals.{PlacedAll}
 use Rattle.st_install.specs.Dictionaries.{grows_for}
@@ -24,17 +24,17 @@ use Rattle.st_install.specs.inside.Growing.{IsGrown}
 use Rattle.st_install.specs.Calls.{planned_for, ready_for}
 
 -- the dictionary of a class, and how it grows
-pub record IsGrowth (class : Value) (selector : Part) (next : ℕ) (t : Table) (g : Growth) : Type 0 where
+pub record IsGrowth (class : Value) (selector : PlannedValue) (next : ℕ) (t : Table) (g : Growth) : Type 0 where
   pub dictionary : (s : State Table) → s.memory ≡ t → (fetch_field table class 1).run s ≡ Went (value g.dictionary) s
   pub grown : IsGrown (value g.dictionary) selector next t g.objects.items
   pub number : g.number ≡ (if grown.grows then Some next else None)
 
 -- the dictionary's growth, and then the rest of a plan
-abbrev pub growth_then : Value → Part → ℕ → (Value → Bool → List NewObject → Step Table Plan) → Step Table Plan
+abbrev pub growth_then : Value → PlannedValue → ℕ → (Value → Bool → List NewObject → Step Table Plan) → Step Table Plan
 growth_then class selector next rest =
     fetch_field table class 1 >>= (λ d. grows_for table d selector >>= (λ grows. grown_if table d next grows >>= (λ os. rest d grows os)))
 
-abbrev pub TellsGrowth : Value → Part → ℕ → Table → Result Growth Unread → Type 0
+abbrev pub TellsGrowth : Value → PlannedValue → ℕ → Table → Result Growth Unread → Type 0
 TellsGrowth class selector next t (Ok g) = IsGrowth class selector next t g
 TellsGrowth class selector next t (Err (Dies k)) = (rest : Value → Bool → List NewObject → Step Table Plan) (s : State Table) → s.memory ≡ t → (growth_then class selector next rest).run s ≡ Died k
 TellsGrowth class selector next t (Err OutOfMemory) = ⊤

@@ -2,18 +2,18 @@
 use Rattle.std.specs.Prelude.{◌≡◌, List, map, length, Result, Ok, Err}
 use Rattle.st_model.specs.Values.{value}
 use Rattle.st_scope.specs.declared.fault.InstallFault.{InstallFault}
-use Rattle.st_install.specs.declared.plan.Part.{Part as CodePart}
-use Rattle.st_install.specs.declared.plan.Part.TheVariants as part
+use Rattle.st_install.specs.declared.plan.PlannedValue.{PlannedValue as CodePart}
+use Rattle.st_install.specs.declared.plan.PlannedValue.TheVariants as part
 use Rattle.st_install.specs.declared.plan.NewObject.{NewObject as CodeObject}
 use Rattle.st_install.specs.declared.plan.SymbolStore.{SymbolStore}
 use Rattle.st_install.specs.declared.plan.Ready.{Ready}
-use Rattle.st_install.specs.Plans.{Part, There, Made, NewObject, Store, Plan}
+use Rattle.st_install.specs.Plans.{PlannedValue, There, Made, NewObject, FieldStore, Plan}
 
-abbrev pub part_of : CodePart → Part
+abbrev pub part_of : CodePart → PlannedValue
 part_of (part.There o) = There (value o)
 part_of (part.Made k) = Made k
 
-abbrev pub parts_of : List CodePart → List Part
+abbrev pub parts_of : List CodePart → List PlannedValue
 parts_of ps = map part_of ps
 
 abbrev pub object_of : CodeObject → NewObject
@@ -22,10 +22,10 @@ object_of o = record { class = value o.class; kind = o.kind; fields = parts_of o
 abbrev pub objects_of : List CodeObject → List NewObject
 objects_of os = map object_of os
 
-abbrev pub store_of : SymbolStore → Store
+abbrev pub store_of : SymbolStore → FieldStore
 store_of s = record { object = part_of s.object; field = s.field; value = part_of s.value }
 
-abbrev pub stores_of : List SymbolStore → List Store
+abbrev pub stores_of : List SymbolStore → List FieldStore
 stores_of ss = map store_of ss
 
 abbrev pub plan_of : Ready → Plan

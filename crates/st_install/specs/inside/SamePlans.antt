@@ -2,15 +2,15 @@
 use Rattle.std.specs.Prelude.{ℕ, List, [], ◌∷◌, Result, Ok, Err}
 use Rattle.st_model.specs.Values.{Value, renamed, IsLive}
 use Rattle.st_scope.specs.declared.fault.InstallFault.{InstallFault}
-use Rattle.st_install.specs.Plans.{Part, There, Made, NewObject, Store, Plan}
+use Rattle.st_install.specs.Plans.{PlannedValue, There, Made, NewObject, FieldStore, Plan}
 
 -- NAMES CHANGED
 
-abbrev pub renamed_part : (ℕ → ℕ) → Part → Part
+abbrev pub renamed_part : (ℕ → ℕ) → PlannedValue → PlannedValue
 renamed_part f (There v) = There (renamed f v)
 renamed_part f (Made k) = Made k
 
-abbrev pub renamed_parts : (ℕ → ℕ) → List Part → List Part
+abbrev pub renamed_parts : (ℕ → ℕ) → List PlannedValue → List PlannedValue
 renamed_parts f [] = []
 renamed_parts f (p ∷ ps) = renamed_part f p ∷ renamed_parts f ps
 
@@ -21,10 +21,10 @@ abbrev pub renamed_objects : (ℕ → ℕ) → List NewObject → List NewObject
 renamed_objects f [] = []
 renamed_objects f (o ∷ os) = renamed_new f o ∷ renamed_objects f os
 
-abbrev pub renamed_store : (ℕ → ℕ) → Store → Store
+abbrev pub renamed_store : (ℕ → ℕ) → FieldStore → FieldStore
 renamed_store f s = record { object = renamed_part f s.object; field = s.field; value = renamed_part f s.value }
 
-abbrev pub renamed_stores : (ℕ → ℕ) → List Store → List Store
+abbrev pub renamed_stores : (ℕ → ℕ) → List FieldStore → List FieldStore
 renamed_stores f [] = []
 renamed_stores f (s ∷ ss) = renamed_store f s ∷ renamed_stores f ss
 
@@ -41,11 +41,11 @@ renamed_plan f p = record {
 
 -- WHAT LIVES: what a plan names, the objects that it makes aside
 
-abbrev pub IsLivePart : (ℕ → Type 0) → Part → Type 0
+abbrev pub IsLivePart : (ℕ → Type 0) → PlannedValue → Type 0
 IsLivePart live (There v) = IsLive live v
 IsLivePart live (Made k) = Unit {0}
 
-abbrev pub AllLiveParts : (ℕ → Type 0) → List Part → Type 0
+abbrev pub AllLiveParts : (ℕ → Type 0) → List PlannedValue → Type 0
 AllLiveParts live [] = Unit {0}
 AllLiveParts live (p ∷ ps) = IsLivePart live p × AllLiveParts live ps
 
@@ -57,11 +57,11 @@ abbrev pub AllLiveObjects : (ℕ → Type 0) → List NewObject → Type 0
 AllLiveObjects live [] = Unit {0}
 AllLiveObjects live (o ∷ os) = IsLiveNew live o × AllLiveObjects live os
 
-pub record IsLiveStore (live : ℕ → Type 0) (s : Store) : Type 0 where
+pub record IsLiveStore (live : ℕ → Type 0) (s : FieldStore) : Type 0 where
   pub object : IsLivePart live s.object
   pub value : IsLivePart live s.value
 
-abbrev pub AllLiveStores : (ℕ → Type 0) → List Store → Type 0
+abbrev pub AllLiveStores : (ℕ → Type 0) → List FieldStore → Type 0
 AllLiveStores live [] = Unit {0}
 AllLiveStores live (s ∷ ss) = IsLiveStore live s × AllLiveStores live ss
 

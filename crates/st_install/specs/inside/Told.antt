@@ -6,7 +6,7 @@ use Rattle.st_model.specs.Table.{Table, table}
 use Rattle.st_model.specs.Values.{value}
 use Rattle.st_scope.specs.declared.unread.Unread.{Unread}
 use Rattle.st_scope.specs.declared.unread.Unread.TheVariants.{Dies, OutOfMemory}
-use Rattle.st_install.specs.declared.plan.Part.{Part as CodePart}
+use Rattle.st_install.specs.declared.plan.PlannedValue.{PlannedValue as CodePart}
 use Rattle.st_install.specs.declared.plan.NewObject.{NewObject as CodeObject}
 use Rattle.st_install.specs.declared.single.Single.{Single}
 use Rattle.st_install.specs.declared.single.Single.TheVariants as single

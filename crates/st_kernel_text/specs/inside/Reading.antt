@@ -3,8 +3,8 @@ use Rattle.std.specs.Prelude.{◌≡◌, ℕ, ◌&&◌, List, [], ◌++◌, leng
 use Rattle.st_chunk.specs.Texts.{Cut, cut_behind, behind_mark, is_empty}
 use Rattle.st_chunk.specs.declared.cutting.Phase.{Phase}
 use Rattle.st_chunk.specs.declared.cutting.Phase.TheVariants.{Marked}
-use Rattle.st_kernel_text.specs.declared.place.Place.{Place}
-use Rattle.st_kernel_text.specs.declared.place.Place.TheVariants.{Declarations}
+use Rattle.st_kernel_text.specs.declared.place.ChunkPlace.{ChunkPlace}
+use Rattle.st_kernel_text.specs.declared.place.ChunkPlace.TheVariants.{Declarations}
 use Rattle.st_kernel_text.specs.declared.cause.Cause.{Cause}
 use Rattle.st_kernel_text.specs.declared.cause.Cause.TheVariants.{Form}
 use Rattle.st_kernel_text.specs.declared.cause.Stop.{Stop}
@@ -27,7 +27,7 @@ Declares expected old now (Err OutOfMemory) = Unit {0}
 
 -- the parts so far, and where the next chunk stands
 pub record State : Type 0 where
-  pub place : Place
+  pub place : ChunkPlace
   pub known : Known
   pub parts : List Part
 

@@ -6,8 +6,8 @@ use Rattle.st_model.specs.Objects.{Object}
 use Rattle.st_model.specs.Table.{Table, entry, settled_table}
 use Rattle.st_model.specs.View.{is_live}
 use Rattle.st_memory.specs.inside.Searched.{Finds}
-use Rattle.st_lookup.specs.declared.entry.Entry.{Entry}
-use Rattle.st_lookup.specs.declared.entry.TheConstants.Entry.{NONE}
+use Rattle.st_lookup.specs.declared.entry.CachedLookup.{CachedLookup}
+use Rattle.st_lookup.specs.declared.entry.TheConstants.CachedLookup.{NONE}
 
 -- the pointers that are watched, halved
 abbrev pub on : List ℕ → ℕ → Bool
@@ -40,13 +40,13 @@ abbrev pub IsSeen : List ℕ → Table → Value → Type 0
 IsSeen bits t v = object_at (watched bits t) v ≡ object_at t v
 
 -- If the class is there, the search finds the method, and meets no object that isn't watched.
-pub record IsRemembered (bits : List ℕ) (t : Table) (e : Entry) : Type 0 where
+pub record IsRemembered (bits : List ℕ) (t : Table) (e : CachedLookup) : Type 0 where
   pub class : IsOn bits (value e.class)
   pub selector : IsOn bits (value e.selector)
   pub finds : is_live t (value e.class) ≡ true → Finds (watched bits t) (value e.class) (value e.selector) (value e.method)
 
-abbrev pub AllRemembered : List ℕ → Table → List Entry → Type 0
-AllRemembered bits t es = (i : ℕ) (e : Entry) → slice_get es i ≡ Some e → IsRemembered bits t e
+abbrev pub AllRemembered : List ℕ → Table → List CachedLookup → Type 0
+AllRemembered bits t es = (i : ℕ) (e : CachedLookup) → slice_get es i ≡ Some e → IsRemembered bits t e
 
 -- what was watched is watched
 abbrev pub Grows : List ℕ → List ℕ → Type 0
@@ -61,5 +61,5 @@ abbrev pub StaysIfOff : List ℕ → Value → Table → Table → Type 0
 StaysIfOff bits v t u = IsOff bits v → SameWatched bits t u
 
 -- 512 entries of nothing
-abbrev pub HasNone : List Entry → Type 0
+abbrev pub HasNone : List CachedLookup → Type 0
 HasNone es = es ≡ replicate 512 NONE

@@ -1,6 +1,6 @@
 -- What the nodes of an arena do, each by what those before it do.
 use Rattle.std.specs.Prelude.{ℕ, Bool, true, false, List, [], ◌∷◌, ◌++◌, slice_get, Option, Some, None}
-use Rattle.st_emit.specs.declared.step.Constant.TheVariants.{Receiver}
+use Rattle.st_emit.specs.declared.instruction.Constant.TheVariants.{Receiver}
 use Rattle.st_meaning.specs.declared.deed.Value.{Value}
 use Rattle.st_meaning.specs.inside.Values.{constant_value}
 use Rattle.st_meaning.specs.declared.arena.Statements.{Statements}

@@ -1,12 +1,12 @@
 -- The blocks of a method: each has a trace and a walk of its own.
 use Rattle.std.specs.Prelude.{ℕ, zero, suc, ◌+◌, Bool, false, List, [], ◌∷◌}
-use Rattle.st_emit.specs.declared.step.Step.TheVariants.{Jump, JumpIf}
+use Rattle.st_emit.specs.declared.instruction.Instruction.TheVariants.{Jump, JumpIf}
 use Rattle.st_emit.specs.declared.form.TwoSided.TheVariants.{TrueFirst, FalseFirst}
 use Rattle.st_emit.specs.Literals.{LiteralView}
 use Rattle.st_emit.specs.Steps.{size, size_of}
 use Rattle.st_emit.specs.Nodes.{Node, constant, small, literal, variable, assign, block, send, one_sided, two_sided, loop, Body, nothing, last, next, returned, Messages, only, also, Nodes, none, node, count}
 use Rattle.st_emit.specs.Emitting.{for_value, for_effect, code_of, body_code, nodes_code, send_step, passes_on, other_side, leaves_on, pop_arguments}
-use Rattle.st_emit.specs.declared.step.Step.TheVariants.{PushConstant}
+use Rattle.st_emit.specs.declared.instruction.Instruction.TheVariants.{PushConstant}
 use Rattle.st_meaning.specs.declared.deed.Value.{Value}
 use Rattle.st_meaning.specs.declared.deed.Value.TheVariants.{First}
 use Rattle.st_meaning.specs.declared.deed.Variable.TheVariants.{Temporary}

@@ -1,11 +1,11 @@
 -- What one instruction does with a stack, whatever a variable and a value are: places and words of a machine, or those of a
 -- walk.
 use Rattle.std.specs.Prelude.{ℕ, zero, suc, ◌+◌, ◌-◌, ◌==◌, Bool, true, false, List, [], ◌∷◌, slice_get, Option, Some, None, if◌then◌else◌}
-use Rattle.st_emit.specs.declared.step.Constant.{Constant}
-use Rattle.st_emit.specs.declared.step.Place.{Place}
-use Rattle.st_emit.specs.declared.step.Place.TheVariants.{Literal}
-use Rattle.st_emit.specs.declared.step.Step.{Step}
-use Rattle.st_emit.specs.declared.step.Step.TheVariants.{Push, PushConstant, PushNumber, Store, PopStore, Pop, Duplicate, Send, SendSuper, SendSpecial, ReturnConstant, ReturnTop, ReturnBlock, Jump, JumpBack, JumpIf, JumpPast}
+use Rattle.st_emit.specs.declared.instruction.Constant.{Constant}
+use Rattle.st_emit.specs.declared.instruction.InstructionOperand.{InstructionOperand}
+use Rattle.st_emit.specs.declared.instruction.InstructionOperand.TheVariants.{Literal}
+use Rattle.st_emit.specs.declared.instruction.Instruction.{Instruction}
+use Rattle.st_emit.specs.declared.instruction.Instruction.TheVariants.{Push, PushConstant, PushNumber, Store, PopStore, Pop, Duplicate, Send, SendSuper, SendSpecial, ReturnConstant, ReturnTop, ReturnBlock, Jump, JumpBack, JumpIf, JumpPast}
 use Rattle.st_emit.specs.Resolving.{special_selectors, first_special, block_copy}
 use Rattle.st_emit.specs.Selectors.{arity}
 
@@ -14,8 +14,8 @@ pub record Values (P A : Type 0) : Type 0 where
   pub constant : Constant → A
   pub small : ℕ → A
   pub literal : ℕ → Option A
-  pub variable : Place → A
-  pub target : Place → P
+  pub variable : InstructionOperand → A
+  pub target : InstructionOperand → P
   pub selector : ℕ → Option (List ℕ)
 
 pub data Walked (P A : Type 0) : Type 0 where
@@ -60,7 +60,7 @@ copies s = on_message 1 [] s (λ r arguments rest. copied rest)
 abbrev pub sends_special : {P A : Type 0} → (code : ℕ) → List A → Walked P A
 sends_special code s = if code == first_special + block_copy then copies s else on_some (slice_get special_selectors (code - first_special)) (λ text. sends false (arity text) text s)
 
-abbrev pub walk_code : {P A : Type 0} → Values P A → Step → List A → Walked P A
+abbrev pub walk_code : {P A : Type 0} → Values P A → Instruction → List A → Walked P A
 walk_code v (Push (Literal n)) s = on_some (v.literal n) (λ x. went (x ∷ s))
 walk_code v (Push p) s = went (v.variable p ∷ s)
 walk_code v (PushConstant k) s = went (v.constant k ∷ s)

@@ -2,8 +2,8 @@
 use Rattle.std.specs.Prelude.{◌≡◌, ◌≢◌, ◌≤◌, ℕ, zero, suc, ◌+◌, List, [], ◌∷◌, ◌++◌, length, reverse, drop, slice_get, Option, Some, None, Bool, true, false, if◌then◌else◌}
 use Rattle.st_meaning.specs.declared.deed.Variable.{Variable}
 use Rattle.st_meaning.specs.declared.deed.Variable.TheVariants.{Field, Temporary, Shared}
-use Rattle.st_emit.specs.declared.step.Step.{Step}
-use Rattle.st_emit.specs.declared.step.Step.TheVariants.{Push, Store, PopStore}
+use Rattle.st_emit.specs.declared.instruction.Instruction.{Instruction}
+use Rattle.st_emit.specs.declared.instruction.Instruction.TheVariants.{Push, Store, PopStore}
 use Rattle.st_meaning.specs.declared.deed.Value.{Value}
 use Rattle.st_resolved.specs.Instructions.{instruction}
 use Rattle.st_code.specs.Methods.{PartsView}
@@ -117,7 +117,7 @@ boolean (Constant (suc (suc zero))) = Some false
 boolean v = None
 
 -- an instruction whose places have 8 bits
-abbrev pub NamesShort : Step → Type 0
+abbrev pub NamesShort : Instruction → Type 0
 NamesShort (Push p) = IsShort p
 NamesShort (Store p) = IsShort p
 NamesShort (PopStore p) = IsShort p

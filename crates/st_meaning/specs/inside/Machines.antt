@@ -16,12 +16,12 @@ use Rattle.st_model.specs.Bytecodes.{step}
 use Rattle.st_model.specs.Cycles.{cycle, warned}
 use Rattle.st_model.specs.Outcomes.{With}
 use Rattle.st_model.specs.Settled.{reclaim}
-use Rattle.st_emit.specs.declared.step.Constant.{Constant}
-use Rattle.st_emit.specs.declared.step.Constant.TheVariants.{Receiver, True, False, Nil, Context}
-use Rattle.st_emit.specs.declared.step.Place.{Place}
-use Rattle.st_emit.specs.declared.step.Place.TheVariants.{Field, Temporary, Literal, Shared}
-use Rattle.st_emit.specs.declared.step.Step.{Step as Code}
-use Rattle.st_emit.specs.declared.step.Step.TheVariants.{Push, Store, PopStore, Send, SendSuper, SendSpecial, ReturnConstant, ReturnBlock, JumpIf}
+use Rattle.st_emit.specs.declared.instruction.Constant.{Constant}
+use Rattle.st_emit.specs.declared.instruction.Constant.TheVariants.{Receiver, True, False, Nil, Context}
+use Rattle.st_emit.specs.declared.instruction.InstructionOperand.{InstructionOperand}
+use Rattle.st_emit.specs.declared.instruction.InstructionOperand.TheVariants.{Field, Temporary, Literal, Shared}
+use Rattle.st_emit.specs.declared.instruction.Instruction.{Instruction as Code}
+use Rattle.st_emit.specs.declared.instruction.Instruction.TheVariants.{Push, Store, PopStore, Send, SendSuper, SendSpecial, ReturnConstant, ReturnBlock, JumpIf}
 use Rattle.st_emit.specs.Resolving.{special_selectors, first_special}
 use Rattle.st_emit.specs.Selectors.{arity}
 use Rattle.st_resolved.specs.declared.reading.Found.{Found}
@@ -75,7 +75,7 @@ module _ {H : Type 0} (m : ObjectMemory H) where
   value_at h (Some v) = field_at h v 1
 
   -- what a variable holds: a field of the receiver, a temporary of the home, a literal, or the value of an association among these
-  abbrev pub variable_at : State H → Place → Option Value
+  abbrev pub variable_at : State H → InstructionOperand → Option Value
   variable_at s (Field n) = field_at s.memory s.registers.receiver n
   variable_at s (Temporary n) = field_at s.memory s.registers.home (6 + n)
   variable_at s (Literal n) = literal_at s n
@@ -94,7 +94,7 @@ module _ {H : Type 0} (m : ObjectMemory H) where
   text_at h (Some v) = option_map (λ (o : Object). o.units) (object_in h v)
 
   -- what a walk has, by what stands in the machine
-  abbrev pub values_in : State H → Values Place (Option Value)
+  abbrev pub values_in : State H → Values InstructionOperand (Option Value)
   values_in s = record {
     constant = λ k. Some (constant_at s k);
     small = λ n. Some (small_at n);
@@ -116,7 +116,7 @@ module _ {H : Type 0} (m : ObjectMemory H) where
   -- CONDITIONS
 
   -- a temporary that code names is one of the method's
-  abbrev pub IsNamed : (temporaries : ℕ) → Place → Type 0
+  abbrev pub IsNamed : (temporaries : ℕ) → InstructionOperand → Type 0
   IsNamed temporaries (Temporary n) = n < temporaries
   IsNamed temporaries p = Unit {0}
 
@@ -185,16 +185,16 @@ module _ {H : Type 0} (m : ObjectMemory H) where
   behind s n = record s { registers = record s.registers { ip = s.registers.ip +ℤ pos n } }
 
   -- the receiver's fields and the home's temporaries, which are so many
-  abbrev pub IsOwn : (temporaries : ℕ) → Place → Type 0
+  abbrev pub IsOwn : (temporaries : ℕ) → InstructionOperand → Type 0
   IsOwn temporaries (Field n) = Unit {0}
   IsOwn temporaries (Temporary n) = n < temporaries
   IsOwn temporaries p = ⊥
 
   abbrev pub Keeps : (temporaries : ℕ) → State H → State H → Type 0
-  Keeps temporaries s t = (p : Place) → IsOwn temporaries p → variable_at t p ≡ variable_at s p
+  Keeps temporaries s t = (p : InstructionOperand) → IsOwn temporaries p → variable_at t p ≡ variable_at s p
 
-  abbrev pub KeepsBut : (temporaries : ℕ) → Place → State H → State H → Type 0
-  KeepsBut temporaries q s t = (p : Place) → IsOwn temporaries p → p ≢ q → variable_at t p ≡ variable_at s p
+  abbrev pub KeepsBut : (temporaries : ℕ) → InstructionOperand → State H → State H → Type 0
+  KeepsBut temporaries q s t = (p : InstructionOperand) → IsOwn temporaries p → p ≢ q → variable_at t p ≡ variable_at s p
 
   -- the machine goes on in the same context, with this stack, at this place
   pub record GoesOn (below : ℕ) (stack : List (Option Value)) (at : ℤ) (s t : State H) : Type 0 where
@@ -262,7 +262,7 @@ module _ {H : Type 0} (m : ObjectMemory H) where
 
   -- What the machine makes of s by this code, in a step that comes to o and leaves t, where u is s behind the code: it is what the
   -- code's part of a walk says.
-  abbrev pub Shows : (temporaries below : ℕ) → Code → Walked Place (Option Value) → (u t : State H) → Transition (State H) Outcome → Type 0
+  abbrev pub Shows : (temporaries below : ℕ) → Code → Walked InstructionOperand (Option Value) → (u t : State H) → Transition (State H) Outcome → Type 0
   Shows k b code (went st) u t o = GoesOn b st u.registers.ip u t × Keeps k u t
   Shows k b code (stored p v st) u t o = GoesOn b st u.registers.ip u t × (variable_at t p ≡ v) × KeepsBut k p u t
   Shows k b code (ahead d st) u t o = GoesOn b st (u.registers.ip +ℤ pos d) u t × Keeps k u t

@@ -1,7 +1,7 @@
 -- The trace of a method's tree, and the walk of its code.
 use Rattle.std.specs.Prelude.{ℕ, ◌+◌, ◌*◌, nat_lt, List, [], length, Option, Some, None, if◌then◌else◌}
 use Rattle.st_scan.specs.Views.{MethodView}
-use Rattle.st_emit.specs.declared.step.Constant.TheVariants.{Nil}
+use Rattle.st_emit.specs.declared.instruction.Constant.TheVariants.{Nil}
 use Rattle.st_emit.specs.Names.{NamesView}
 use Rattle.st_emit.specs.Literals.{LiteralView}
 use Rattle.st_emit.specs.Selectors.{arity}

@@ -1,10 +1,10 @@
 -- Values and deeds, as both a trace and a walk have them.
 use Rattle.std.specs.Prelude.{ℕ, zero, suc, ℤ, pos, ◌-ℤ◌, ◌==◌, ◌<◌, nat_le, Bool, false, List, if◌then◌else◌}
 use Rattle.st_scan.specs.declared.token.Signed.{Signed}
-use Rattle.st_emit.specs.declared.step.Constant.{Constant as Pseudo}
-use Rattle.st_emit.specs.declared.step.Constant.TheVariants.{Receiver, True, False, Nil, Context}
-use Rattle.st_emit.specs.declared.step.Place.{Place}
-use Rattle.st_emit.specs.declared.step.Place.TheVariants as place
+use Rattle.st_emit.specs.declared.instruction.Constant.{Constant as Pseudo}
+use Rattle.st_emit.specs.declared.instruction.Constant.TheVariants.{Receiver, True, False, Nil, Context}
+use Rattle.st_emit.specs.declared.instruction.InstructionOperand.{InstructionOperand}
+use Rattle.st_emit.specs.declared.instruction.InstructionOperand.TheVariants as place
 use Rattle.st_emit.specs.Literals.{LiteralView}
 use Rattle.st_emit.specs.Literals as literals
 use Rattle.st_meaning.specs.declared.deed.Value.{Value}
@@ -60,14 +60,14 @@ small_value (suc (suc (suc k))) = Number (pos 2)
 
 -- The variable at a place. A literal is none: no tree names one there, and code that stores into one is no compiler's, and is
 -- taken to store into the association in its place.
-abbrev pub variable_of : Place → Variable
+abbrev pub variable_of : InstructionOperand → Variable
 variable_of (place.Field n) = Field n
 variable_of (place.Temporary n) = Temporary n
 variable_of (place.Literal n) = Shared n
 variable_of (place.Shared n) = Shared n
 
 -- a place whose number has 8 bits
-abbrev pub IsShort : Place → Type 0
+abbrev pub IsShort : InstructionOperand → Type 0
 IsShort (place.Field n) = n < 256
 IsShort (place.Temporary n) = n < 256
 IsShort (place.Literal n) = n < 256

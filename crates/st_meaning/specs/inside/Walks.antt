@@ -1,6 +1,6 @@
 -- What code does in one context, from the meaning of each bytecode, where each send takes the next answer.
 use Rattle.std.specs.Prelude.{ℕ, zero, suc, ◌+◌, ◌-◌, Bool, true, false, List, ◌∷◌, drop, slice_get, Option, Some, None, option_map}
-use Rattle.st_emit.specs.declared.step.Step.{Step}
+use Rattle.st_emit.specs.declared.instruction.Instruction.{Instruction}
 use Rattle.st_emit.specs.Literals.{LiteralView, symbol}
 use Rattle.st_resolved.specs.declared.reading.Found.{Found}
 use Rattle.st_resolved.specs.Instructions.{instruction}
@@ -56,7 +56,7 @@ module _ (most : ℕ) where
 
   module _ (literals : List LiteralView) where
     -- one instruction
-    abbrev pub act : Step → Next → ℕ → List Value → Run Value
+    abbrev pub act : Instruction → Next → ℕ → List Value → Run Value
     act x next at s = λ g. done (walk_code (values_at literals g) x s) next at g
 
     abbrev pub act_found : Option Found → Next → ℕ → List Value → Run Value

@@ -2,8 +2,8 @@
 use Rattle.std.specs.Prelude.{◌≡◌, ◌≢◌, ◌≤◌, ℕ, ◌-◌, ◌+◌, Bool, true, false, List, slice_get, Some}
 use Rattle.st_emit.specs.declared.form.By.{By}
 use Rattle.st_emit.specs.declared.form.By.TheVariants.{Special, SelectorAt}
-use Rattle.st_emit.specs.declared.step.Place.{Place}
-use Rattle.st_emit.specs.declared.step.Place.TheVariants.{Literal}
+use Rattle.st_emit.specs.declared.instruction.InstructionOperand.{InstructionOperand}
+use Rattle.st_emit.specs.declared.instruction.InstructionOperand.TheVariants.{Literal}
 use Rattle.st_emit.specs.Selectors.{arity}
 use Rattle.st_emit.specs.Literals.{LiteralView, symbol}
 use Rattle.st_emit.specs.Resolving.{special_selectors, first_special, block_copy}
@@ -15,7 +15,7 @@ IsCount (small k) = Unit {0}
 IsCount (literal x place) = Unit {0}
 IsCount _ = ⊥
 
-abbrev pub IsVariable : Place → Type 0
+abbrev pub IsVariable : InstructionOperand → Type 0
 IsVariable (Literal n) = ⊥
 IsVariable p = Unit {0}
 

@@ -1,8 +1,8 @@
 -- The variables that nodes name are seen where they stand, and their literals stand in a text without fault.
 use Rattle.std.specs.Prelude.{◌≡◌, ℕ, zero, suc, ◌+◌, ◌<◌, ◌≤◌, ◌⊎◌, Bool, true, not, ◌&&◌, nat_lt, List, [], ◌∷◌, ◌++◌, slice_get, Some, None}
 use Rattle.st_scan.specs.Views.{ContentView}
-use Rattle.st_emit.specs.declared.step.Place.{Place}
-use Rattle.st_emit.specs.declared.step.Place.TheVariants.{Field, Temporary, Literal, Shared}
+use Rattle.st_emit.specs.declared.instruction.InstructionOperand.{InstructionOperand}
+use Rattle.st_emit.specs.declared.instruction.InstructionOperand.TheVariants.{Field, Temporary, Literal, Shared}
 use Rattle.st_emit.specs.Names.{NamesView, Scope, constant_named, field_named, shared_named}
 use Rattle.st_emit.specs.Literals.{LiteralView, literal_of, named}
 use Rattle.st_emit.specs.Nodes as nodes
@@ -71,13 +71,13 @@ pub record IsWritten (l : LiteralView) : Type 0 where
 
 module _ (from to : ℕ) (names : NamesView) (literals : List LiteralView) where
   -- among variables with these numbers
-  abbrev pub SeenPlace : List ℕ → Place → Type 0
+  abbrev pub SeenPlace : List ℕ → InstructionOperand → Type 0
   SeenPlace ks (Temporary k) = In ks k
   SeenPlace ks (Field n) = IsField names n
   SeenPlace ks (Shared p) = IsShared names literals p
   SeenPlace ks (Literal n) = ⊥
 
-  abbrev pub StoredPlace : List ℕ → Place → Type 0
+  abbrev pub StoredPlace : List ℕ → InstructionOperand → Type 0
   StoredPlace ks (Temporary k) = In ks k × (assigns from to k ≡ true)
   StoredPlace ks p = SeenPlace ks p
 

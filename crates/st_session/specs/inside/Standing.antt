@@ -18,7 +18,7 @@ use Rattle.st_protocol.specs.Statuses.{Counts}
 use Rattle.st_call.specs.inside.Telling.{IsOfServing}
 use Rattle.st_recover.specs.inside.Archives.{ArchiveState, Holds}
 use Rattle.st_recover.specs.Commits.{Commit, OpensAs}
-use Rattle.st_session.specs.declared.kept.Kept.{Kept}
+use Rattle.st_session.specs.declared.kept.SessionState.{SessionState}
 use Rattle.st_session.specs.Ends.{DidTold, DidSome}
 use Rattle.st_session.specs.Points.{Being, Alive, Gone, Point}
 
@@ -40,7 +40,7 @@ module _ {M : Type 0} (view : M → View) where
   StandsAt m p = IsBeing m.death (shown_by m) p.being
 
   -- a session can go on: its machine is dead or ready, and its archive is open
-  pub record MayGoOn (s : Kept M) : Type 0 where
+  pub record MayGoOn (s : SessionState M) : Type 0 where
     pub may_run : MayRun s.machine
     pub is_open : IsSome s.archive.store
 
@@ -52,13 +52,13 @@ module _ {M : Type 0} (view : M → View) where
 
     -- From wherever the machine and the archive stand, the call does what the course from there says, and they stand where it
     -- leads. No file but the store's is touched.
-    abbrev pub Follows : (Point Commit → Course Commit (Point Commit)) → Kept M → D → Result Unit Status → Kept M → D → Type 0
+    abbrev pub Follows : (Point Commit → Course Commit (Point Commit)) → SessionState M → D → Result Unit Status → SessionState M → D → Type 0
     Follows course s old result t new = (p : Point Commit) → IsAt s.machine s.archive old p
         → Obeys host (OpensAs s.archive.name) (IsNoFileOf s.archive.name) (IsAt t.machine t.archive new) (λ q. q.kept) p.kept (course p) result old new
 
     -- What a call does that answers what is asked for: it follows the course, and where it goes on the session can go on. Where there
     -- was no memory this stands; a call that takes none never says so.
-    pub record Serves (course : Point Commit → Course Commit (Point Commit)) (stands : Type 0) (s : Kept M) (old : D) (result : Result Unit Status) (t : Kept M) (new : D) : Type 0 where
+    pub record Serves (course : Point Commit → Course Commit (Point Commit)) (stands : Type 0) (s : SessionState M) (old : D) (result : Result Unit Status) (t : SessionState M) (new : D) : Type 0 where
       pub go_on : OnOk result (MayGoOn t)
       pub named : t.archive.name ≡ s.archive.name
       pub follows : Follows course s old result t new
@@ -69,11 +69,11 @@ module _ {M : Type 0} (view : M → View) where
       pub starved : IsErrOf result OutOfMemory → stands
 
     -- From wherever they stand, the deeds were done that the bytes of the script before those that are left tell.
-    abbrev pub FollowsTold : (Point Commit → List ℕ → Course Commit (Point Commit)) → List ℕ → List ℕ → Kept M → D → D → Type 0
+    abbrev pub FollowsTold : (Point Commit → List ℕ → Course Commit (Point Commit)) → List ℕ → List ℕ → SessionState M → D → D → Type 0
     FollowsTold course script left s old new = (p : Point Commit) → IsAt s.machine s.archive old p
         → DidTold host (OpensAs s.archive.name) (IsNoFileOf s.archive.name) p.kept (course p) script left old new
 
     -- From wherever they stand, some first ones of these requests were answered, and nothing else was done.
-    abbrev pub FollowsSome : (Point Commit → List Asked → Course Commit (Point Commit)) → List Asked → Kept M → D → D → Type 0
+    abbrev pub FollowsSome : (Point Commit → List Asked → Course Commit (Point Commit)) → List Asked → SessionState M → D → D → Type 0
     FollowsSome course asked s old new = (p : Point Commit) → IsAt s.machine s.archive old p
         → DidSome host (OpensAs s.archive.name) (IsNoFileOf s.archive.name) p.kept (course p) asked old new

@@ -11,5 +11,5 @@ returns g c =
         ends = (w.tool-status.result, number ∙ ap number_of w.status-is, rw w.as_slice.ensures.value at w.tool-status.ensures.ends);
         refused = tt;
       })
-      | in-Err w ↦ rw (w.in-Err.is, w.host-is) (record { ends = tt; refused = (number ∙ ap number_of w.status-is, w.refuse.ensures.line) })
+      | in-Err w ↦ rw (w.in-Err.is, w.host-is) (record { ends = tt; refused = (number ∙ ap number_of w.status-is, w.report_status.ensures.line) })
     ]

@@ -114,6 +114,6 @@ pub returns-in-None : goal.returns-in-None
 returns-in-None g c =
     let script = c.args.script.now in
     record {
-      ends = usage_ends g.H.Host (map string_bytes c.args.words.now) _ (Rose (g.S.Source.read_faults script) (g.S.Source.read_faults script)) (g.S.Source.remaining script) (g.S.Source.remaining script) c.args.host.now c.refuse.new.host _
-          (sym c.in-None.ensures) refl c.refuse.ensures.line c.refuse.ensures.reads;
+      ends = usage_ends g.H.Host (map string_bytes c.args.words.now) _ (Rose (g.S.Source.read_faults script) (g.S.Source.read_faults script)) (g.S.Source.remaining script) (g.S.Source.remaining script) c.args.host.now c.report_status.new.host _
+          (sym c.in-None.ensures) refl c.report_status.ensures.line c.report_status.ensures.reads;
     }

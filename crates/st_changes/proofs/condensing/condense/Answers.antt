@@ -1,7 +1,7 @@
 use Rattle.std.proofs.Common.{◌≡◌, inl, inr, ◌<◌, ℕ, List, [], ◌++◌, length, take, drop, refl, sym, ap, ◌∙◌, subst, arith, length-append}
 use Rattle.std.proofs.Math.ListN.{length-map}
 use Rattle.std.proofs.lemmas.Grind.{common_steps}
-use Rattle.st_host.specs.Runs.{WritesAbove, Changes}
+use Rattle.st_host.specs.Runs.{WritesAbove, ChangesOneFile}
 use Rattle.st_host.proofs.Joining.{makes_then, makes_failed}
 use Rattle.st_host.proofs.Pushing.{from_none}
 use Rattle.st_host.proofs.Touching.{above_changes, both_join}
@@ -87,7 +87,7 @@ returns-in_err-store-clause-files g c =
     let st = c.args.store in
     let is = c.changes_name_of.ensures ∙ ap (changes_file st.name) (c.turned-slot.ensures ∙ ap (λ (r : Root). turned r.slot) c.root-root.ensures) in
     both_join H (changes_file st.name (turned st.root.slot)) (roots_file st.name) c.args.host.now c.write_kept.new.host c.commit.new.host
-    (subst (λ (n : List ℕ). Changes H n c.args.host.now c.write_kept.new.host) is (above_changes H c.changes_name_of.result.now 0 c.args.host.now c.write_kept.new.host c.write_kept.ensures.writes)) c.commit.ensures.changes
+    (subst (λ (n : List ℕ). ChangesOneFile H n c.args.host.now c.write_kept.new.host) is (above_changes H c.changes_name_of.result.now 0 c.args.host.now c.write_kept.new.host c.write_kept.ensures.writes)) c.commit.ensures.changes
 
 pub returns-clause-makes : goal.returns-clause-makes
 returns-clause-makes g c x z told kept =
@@ -177,7 +177,7 @@ returns-clause-files g c =
     let st = c.args.store in
     let is = c.changes_name_of.ensures ∙ ap (changes_file st.name) (c.turned-slot.ensures ∙ ap (λ (r : Root). turned r.slot) c.root-root.ensures) in
     both_join H (changes_file st.name (turned st.root.slot)) (roots_file st.name) c.args.host.now c.write_kept.new.host c.commit.new.host
-    (subst (λ (n : List ℕ). Changes H n c.args.host.now c.write_kept.new.host) is (above_changes H c.changes_name_of.result.now 0 c.args.host.now c.write_kept.new.host c.write_kept.ensures.writes)) c.commit.ensures.changes
+    (subst (λ (n : List ℕ). ChangesOneFile H n c.args.host.now c.write_kept.new.host) is (above_changes H c.changes_name_of.result.now 0 c.args.host.now c.write_kept.new.host c.write_kept.ensures.writes)) c.commit.ensures.changes
 
 pub returns-in_err-marks-clause-either : goal.returns-in_err-marks-clause-either
 returns-in_err-marks-clause-either g c x told kept =

@@ -1,6 +1,6 @@
 use Rattle.std.proofs.Common.{◌≡◌, ℕ, ◌-◌, List, ◌++◌, length, take, drop, sym, ap, ◌∙◌, arith, length-append, length-drop}
 use Rattle.std.specs.Prelude.{Some, None}
-use Rattle.st_chunk.specs.Groups.{Header, word_of, behind_word, behind_blanks, header_in}
+use Rattle.st_chunk.specs.Groups.{GroupHeader, word_of, behind_word, behind_blanks, header_in}
 use Rattle.st_chunk.proofs.Blanks.{tail_whole}
 use Rattle.st_chunk.proofs.Words.{word_front, word_behind}
 use Rattle.st_chunk.proofs.Headers.{no_blank, by_side, no_category, in_quotes, held_is, taken_long}
@@ -60,7 +60,7 @@ returns-then-unquote c =
           sym (ap header_in c.trimmed-text.ensures)
           ∙ by_side t c.in-Some.others.now c.side-meta.result.1.now c.side-meta.result.0 (sym c.if-not-has_name.ensures) blank side
           ∙ in_quotes (word_of t) c.side-meta.result.0 c.side-meta.result.1.now c.in-Some-category.category.now (Some category) (sym c.in-Some-category.ensures) c.if-unquote.ensures.is
-          ∙ ap (λ (h : Header). Some h) (held_is (word_of t) category c.unquote.new.held c.side-meta.result.0 k held long);
+          ∙ ap (λ (h : GroupHeader). Some h) (held_is (word_of t) category c.unquote.new.held c.side-meta.result.0 k held long);
       within = omega (arith, all, length-append (word_of t) category, long);
     }
 

@@ -1,6 +1,6 @@
 use Rattle.std.proofs.Common.{◌≡◌, ℕ, ◌++◌, List, ap, ◌∙◌}
 use Rattle.st_scan.specs.Views.{method_view}
-use Rattle.st_emit.specs.declared.step.Step.{Step}
+use Rattle.st_emit.specs.declared.instruction.Instruction.{Instruction}
 use Rattle.st_emit.specs.Literals.{LiteralView}
 use Rattle.st_emit.specs.inside.NameViews.{names_view}
 use Rattle.st_code.specs.Methods.{body, flag_of, flag, last_of}
@@ -21,7 +21,7 @@ returns c =
           c.in_ok-put_last.ensures.literals
           ∙ ap (λ (ls : List LiteralView). ls ++ last_of tree c.flag_of-flag.result made.draft.steps.items) c.in_ok-made.ensures.literals
           ∙ ap (λ (f : ℕ). own ++ last_of tree f made.draft.steps.items) same
-          ∙ ap (λ (ss : List Step). own ++ last_of tree (flag tree names) ss) c.in_ok-made.ensures.steps;
+          ∙ ap (λ (ss : List Instruction). own ++ last_of tree (flag tree names) ss) c.in_ok-made.ensures.steps;
       level = c.in_ok-put_last.ensures.level ∙ c.in_ok-made.ensures.level;
       variables = c.in_ok-made.ensures.variables;
     }

@@ -4,7 +4,7 @@ use Rattle.st_scan.specs.Views.{ExpressionView, MessagesView, StatementsView, na
 use Rattle.st_scan.specs.inside.Chains.{LinkView, sent, linked, link_view, links_view, with_link}
 use Rattle.st_scan.proofs.Chains.{linked_take, link_within, chain_within}
 use Rattle.st_scan.proofs.Views.{expression_view-block}
-use Rattle.st_emit.specs.declared.step.Step.TheVariants.{Pop, Duplicate}
+use Rattle.st_emit.specs.declared.instruction.Instruction.TheVariants.{Pop, Duplicate}
 use Rattle.st_emit.specs.declared.draft.Draft.{Draft}
 use Rattle.st_emit.specs.inside.Views.{literals_view}
 use Rattle.st_emit.specs.Depths.{pushed, popped}

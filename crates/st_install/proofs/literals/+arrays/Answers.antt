@@ -1,7 +1,7 @@
 use Rattle.std.proofs.Common.{◌≡◌, ◌+◌, List, Err, length, get_or, set, sym, ap, ◌∙◌, subst, rules}
 use Rattle.st_model.specs.Machine.{Step}
 use Rattle.st_model.specs.Table.{Table}
-use Rattle.st_install.specs.declared.plan.Part.{Part}
+use Rattle.st_install.specs.declared.plan.PlannedValue.{PlannedValue}
 use Rattle.st_install.specs.declared.plan.NewObject.{NewObject}
 use Rattle.st_scope.specs.declared.unread.Unread.TheVariants.{Dies}
 use Rattle.st_install.specs.Literals.{Placed}
@@ -109,7 +109,7 @@ place_literals-returns-in_err-part g t c =
 pub place_literals-loop-literal-preserved : goal.place_literals-loop-literal-preserved
 place_literals-loop-literal-preserved g t c =
     let u = (g.M.Memory.view c.args.m.now).objects in
-    subst (λ (ps : List Part). LeftLiterals c.args.named.now.entries c.args.of u c.args.literals.now c.args.objects.now.items c.place_literal.new.objects.items (c.loop-literal.literal-index + 1) ps) (sym c.in_ok-push.ensures.items)
+    subst (λ (ps : List PlannedValue). LeftLiterals c.args.named.now.entries c.args.of u c.args.literals.now c.args.objects.now.items c.place_literal.new.objects.items (c.loop-literal.literal-index + 1) ps) (sym c.in_ok-push.ensures.items)
     (left_placed c.args.named.now.entries c.args.of u c.args.literals.now c.args.objects.now.items
     c.loop-literal.objects.items c.loop-literal.literal-index c.loop-literal.parts.items c.loop-literal.invariant c.literal-item.result c.loop-literal-test.true c.literal-item.is
     c.place_literal.new.objects.items c.in_ok-part.part c.in_ok-part.ensures)

@@ -3,7 +3,7 @@ use Rattle.st_model.specs.declared.dead.Dead.{Dead}
 use Rattle.st_model.specs.Values.{value}
 use Rattle.st_model.specs.Table.{table}
 use Rattle.st_model.specs.inside.Calls.{Reads}
-use Rattle.st_install.specs.declared.places.Place.{Place}
+use Rattle.st_install.specs.declared.places.DictionaryPlace.{DictionaryPlace}
 use Rattle.st_install.specs.Dictionaries.{seek}
 use Rattle.st_install.specs.inside.Endings.{ending_of}
 use Rattle.st_install.proofs.Refills.{array_there, method_there, place_found, put_somewhere, put_goes, carried}
@@ -24,19 +24,19 @@ unwrap-requires g c =
 pub unwrap-place-requires : goal.unwrap-place-requires
 unwrap-place-requires g c =
     let v = g.M.Memory.view c.args.m.now in
-    let found = subst (λ (r : Result (Option Place) Dead). Reads (seek table (value c.args.new) (value (record { 0 = 2 })) (value c.args.selector)) ending_of v.objects r) c.unwrap.ensures c.seek.ensures.ends in
+    let found = subst (λ (r : Result (Option DictionaryPlace) Dead). Reads (seek table (value c.args.new) (value (record { 0 = 2 })) (value c.args.selector)) ending_of v.objects r) c.unwrap.ensures c.seek.ensures.ends in
     put_somewhere (value c.args.new) (value c.args.selector) (value c.field-method.result) v c.unwrap.result
     (put_goes (value c.args.old) (value c.args.new) c.args.k (value c.args.selector) v c.requires c.field-methods.result c.field-methods.ensures c.field-method.result c.field-method.ensures c.unwrap.result found)
 
 pub put_at-requires-clause-goes : goal.put_at-requires-clause-goes
 put_at-requires-clause-goes g c =
     let v = g.M.Memory.view c.args.m.now in
-    let found = subst (λ (r : Result (Option Place) Dead). Reads (seek table (value c.args.new) (value (record { 0 = 2 })) (value c.args.selector)) ending_of v.objects r) (c.unwrap.ensures ∙ ap (λ (p : Option Place). Ok p) c.unwrap-place.ensures) c.seek.ensures.ends in
+    let found = subst (λ (r : Result (Option DictionaryPlace) Dead). Reads (seek table (value c.args.new) (value (record { 0 = 2 })) (value c.args.selector)) ending_of v.objects r) (c.unwrap.ensures ∙ ap (λ (p : Option DictionaryPlace). Ok p) c.unwrap-place.ensures) c.seek.ensures.ends in
     put_goes (value c.args.old) (value c.args.new) c.args.k (value c.args.selector) v c.requires c.field-methods.result c.field-methods.ensures c.field-method.result c.field-method.ensures (Some c.unwrap-place.result) found
 
 pub returns : goal.returns
 returns g c =
     let v = g.M.Memory.view c.args.m.now in
-    let found = subst (λ (r : Result (Option Place) Dead). Reads (seek table (value c.args.new) (value (record { 0 = 2 })) (value c.args.selector)) ending_of v.objects r) (c.unwrap.ensures ∙ ap (λ (p : Option Place). Ok p) c.unwrap-place.ensures) c.seek.ensures.ends in
+    let found = subst (λ (r : Result (Option DictionaryPlace) Dead). Reads (seek table (value c.args.new) (value (record { 0 = 2 })) (value c.args.selector)) ending_of v.objects r) (c.unwrap.ensures ∙ ap (λ (p : Option DictionaryPlace). Ok p) c.unwrap-place.ensures) c.seek.ensures.ends in
     carried (value c.args.old) (value c.args.new) c.args.k (value c.args.selector) v c.requires c.field-methods.result c.field-methods.ensures c.field-method.result c.field-method.ensures (Some c.unwrap-place.result) found
     (g.M.Memory.view c.put_at.new.m) c.put_at.ensures

@@ -3,7 +3,7 @@ use Rattle.st_model.specs.Machine.{Step}
 use Rattle.st_model.specs.Table.{Table, table}
 use Rattle.st_model.specs.Steps.{store_field}
 use Rattle.st_install.specs.declared.plan.SymbolStore.{SymbolStore}
-use Rattle.st_install.specs.declared.plan.Part.TheVariants as part
+use Rattle.st_install.specs.declared.plan.PlannedValue.TheVariants as part
 use Rattle.st_install.specs.inside.Carried.{Goes, Becomes}
 use Rattle.st_scope.specs.inside.Meanings.{values}
 use Rattle.st_install.proofs.Going.{part_goes, remains_next, all_done}

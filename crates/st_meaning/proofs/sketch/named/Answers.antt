@@ -1,6 +1,6 @@
 use Rattle.std.proofs.Common.{◌≡◌, Option, Some, None, refl, ap}
 use Rattle.st_scan.specs.Views.{name_view}
-use Rattle.st_emit.specs.declared.step.Constant.{Constant as Name}
+use Rattle.st_emit.specs.declared.instruction.Constant.{Constant as Name}
 use Rattle.st_emit.specs.Names.{constant_named}
 use Rattle.st_emit.specs.Nodes.{constant}
 use Rattle.st_emit.specs.Resolving.{constant_or, place_of_name, name_node}

@@ -1,5 +1,5 @@
 use Rattle.std.proofs.Common.{◌≡◌, true, false, Err, rules}
-use Rattle.st_emit.specs.declared.step.Constant.TheVariants.{Receiver}
+use Rattle.st_emit.specs.declared.instruction.Constant.TheVariants.{Receiver}
 use Rattle.st_meaning.specs.inside.Values.{constant_value}
 use Rattle.st_meaning.specs.inside.Courses.{going_view}
 use Rattle.st_meaning.specs.inside.Meanings.{most}

@@ -1,7 +1,7 @@
 use Rattle.std.proofs.Common.{◌≡◌, ◌∙◌, inl, ℕ, List, true, IsTrue, length, refl, subst, ap, arith}
 use Rattle.std.proofs.lemmas.Result.{err_from_is_err_and}
 use Rattle.std.specs.Prelude.{Some, Err}
-use Rattle.st_host.specs.Runs.{Changes}
+use Rattle.st_host.specs.Runs.{ChangesOneFile}
 use Rattle.st_host.proofs.Rising.{rose_second}
 use Rattle.st_host.proofs.Touching.{above_changes}
 use Rattle.st_store.specs.Names.{image_file}
@@ -52,7 +52,7 @@ returns-in_err-image_length g c =
     let first = λ (told : IsTrue H.is_told). clearing H name image a b (c.clear.ensures.moments told) in
     let d = c.write.new.host in
     let is : c.image_name.result.now ≡ image_file name 0 = c.image_name.ensures ∙ ap (λ (n : List ℕ). image_file n 0) c.in_ok-new_store.ensures.named in
-    let wrote = subst (λ (n : List ℕ). Changes H n b d) is (above_changes H c.image_name.result.now 0 b d c.write.ensures.writes) in
+    let wrote = subst (λ (n : List ℕ). ChangesOneFile H n b d) is (above_changes H c.image_name.result.now 0 b d c.write.ensures.writes) in
     let none = c.in_ok-new_store.ensures.none in
     let empty = c.in_ok-new_store.ensures.empty in
     let second = λ (told : IsTrue H.is_told). imaging H name image a b told (none told) (empty told) (cleared.quiet told) d (first told) wrote in
@@ -86,7 +86,7 @@ returns-in_err-store g c =
     let first = λ (told : IsTrue H.is_told). clearing H name image a b (c.clear.ensures.moments told) in
     let d = c.write.new.host in
     let is : c.image_name.result.now ≡ image_file name 0 = c.image_name.ensures ∙ ap (λ (n : List ℕ). image_file n 0) c.in_ok-new_store.ensures.named in
-    let wrote = subst (λ (n : List ℕ). Changes H n b d) is (above_changes H c.image_name.result.now 0 b d c.write.ensures.writes) in
+    let wrote = subst (λ (n : List ℕ). ChangesOneFile H n b d) is (above_changes H c.image_name.result.now 0 b d c.write.ensures.writes) in
     let none = c.in_ok-new_store.ensures.none in
     let empty = c.in_ok-new_store.ensures.empty in
     let second = λ (told : IsTrue H.is_told). imaging H name image a b told (none told) (empty told) (cleared.quiet told) d (first told) wrote in
@@ -134,7 +134,7 @@ returns g c =
     let first = λ (told : IsTrue H.is_told). clearing H name image a b (c.clear.ensures.moments told) in
     let d = c.write.new.host in
     let is : c.image_name.result.now ≡ image_file name 0 = c.image_name.ensures ∙ ap (λ (n : List ℕ). image_file n 0) c.in_ok-new_store.ensures.named in
-    let wrote = subst (λ (n : List ℕ). Changes H n b d) is (above_changes H c.image_name.result.now 0 b d c.write.ensures.writes) in
+    let wrote = subst (λ (n : List ℕ). ChangesOneFile H n b d) is (above_changes H c.image_name.result.now 0 b d c.write.ensures.writes) in
     let none = c.in_ok-new_store.ensures.none in
     let empty = c.in_ok-new_store.ensures.empty in
     let second = λ (told : IsTrue H.is_told). imaging H name image a b told (none told) (empty told) (cleared.quiet told) d (first told) wrote in

@@ -20,6 +20,6 @@ returns-in-Err-clause-ends g c =
     let text = bytes_of (g.H.Host.files c.args.host.now c.args.kernel.now) in
     let read = c.in-Err.ensures in
     let told = IsTrue g.H.Host.is_told in
-    let line = c.refuse.ensures in
-    unread_ends g.H.Host origin.Kernel (Builds text) (IsWrongKernel told text) c.args.store.now c.args.host.now c.build_memory.new.host c.refuse.new.host read.reads c.in-Err.status
+    let line = c.report_status.ensures in
+    unread_ends g.H.Host origin.Kernel (Builds text) (IsWrongKernel told text) c.args.store.now c.args.host.now c.build_memory.new.host c.report_status.new.host read.reads c.in-Err.status
     read.refused (λ t x is why. kernel_clash told text x c.in-Err.status t is why) read.cause line.line line.reads line.alike line.disk

@@ -54,4 +54,4 @@ returns-in-Ok-clause-reads g c =
     (_, reads_first g.H.Host _ _ _ _ c.start.ensures.reads (c.run_and_report.ensures.says some.0 some.1).part)
 
 pub returns-clause-reads : goal.returns-clause-reads
-returns-clause-reads g c = (_, reads_first g.H.Host _ _ _ _ c.start.ensures.reads c.refuse.ensures.reads)
+returns-clause-reads g c = (_, reads_first g.H.Host _ _ _ _ c.start.ensures.reads c.report_status.ensures.reads)

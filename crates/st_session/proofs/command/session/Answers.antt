@@ -23,12 +23,12 @@ returns-in-Ok-clause-ends g c =
     let view = g.L.Done.Memory.view in
     let opened = c.in-Ok.ensures in
     let served = c.serve-status.ensures in
-    let line = c.refuse.ensures in
+    let line = c.report_status.ensures in
     let e = c.serve-status.result in
     let old = c.args.host.now in
     let mid = c.reopen.new.host in
     let closed = c.serve-status.new.host in
-    let new = c.refuse.new.host in
+    let new = c.report_status.new.host in
     let script = g.S.Source.remaining c.args.script.now in
     let left = g.S.Source.remaining c.serve-status.new.script in
     let reads = Rose (g.S.Source.read_faults c.args.script.now) (g.S.Source.read_faults c.serve-status.new.script) in
@@ -74,8 +74,8 @@ pub returns-in-Ok-clause-cause : goal.returns-in-Ok-clause-cause
 returns-in-Ok-clause-cause g c =
     let opened = c.in-Ok.ensures in
     let served = c.serve-status.ensures in
-    let line = c.refuse.ensures in
-    cause_between g.H.Host (Rose (g.S.Source.read_faults c.args.script.now) (g.S.Source.read_faults c.serve-status.new.script)) c.args.host.now c.reopen.new.host c.serve-status.new.host c.refuse.new.host c.serve-status.result opened.only.disk opened.only.say served.counts.say line.reads.say line.disk served.cause
+    let line = c.report_status.ensures in
+    cause_between g.H.Host (Rose (g.S.Source.read_faults c.args.script.now) (g.S.Source.read_faults c.serve-status.new.script)) c.args.host.now c.reopen.new.host c.serve-status.new.host c.report_status.new.host c.serve-status.result opened.only.disk opened.only.say served.counts.say line.reads.say line.disk served.cause
 
 pub returns-in-Err-clause-ends : goal.returns-in-Err-clause-ends
 returns-in-Err-clause-ends g c =

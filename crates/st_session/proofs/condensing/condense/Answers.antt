@@ -18,7 +18,7 @@ use Rattle.st_session.proofs.condensing.condense.Goals as goal
 
 pub returns-in-Ok-clause-cause : goal.returns-in-Ok-clause-cause
 returns-in-Ok-clause-cause g c =
-    cause_done g.H.Host c.args.store.now _ c.args.host.now c.reopen.new.host c.condense_store.new.host c.refuse.new.host c.condense_store.result c.status_of-status.result c.status_of-status.ensures c.in-Ok.ensures.only c.condense_store.ensures.counts c.refuse.ensures.reads c.refuse.ensures.disk
+    cause_done g.H.Host c.args.store.now _ c.args.host.now c.reopen.new.host c.condense_store.new.host c.report_status.new.host c.condense_store.result c.status_of-status.result c.status_of-status.ensures c.in-Ok.ensures.only c.condense_store.ensures.counts c.report_status.ensures.reads c.report_status.ensures.disk
 
 pub returns-in-Ok-clause-ends : goal.returns-in-Ok-clause-ends
 returns-in-Ok-clause-ends g c =
@@ -27,12 +27,12 @@ returns-in-Ok-clause-ends g c =
     let o = c.in-Ok.opened in
     let opened = c.in-Ok.ensures in
     let did = c.condense_store.ensures in
-    let line = c.refuse.ensures in
+    let line = c.report_status.ensures in
     let r = c.condense_store.result in
     let old = c.args.host.now in
     let mid = c.reopen.new.host in
     let closed = c.condense_store.new.host in
-    let new = c.refuse.new.host in
+    let new = c.report_status.new.host in
     let is = c.status_of-status.ensures in
     let said = subst (λ (x : Status). SaysLastLine host x closed new) is line.line in
     let reads = subst (λ (x : Status). ReadsAndSays host (last_line x) closed new) is line.reads in

@@ -13,8 +13,8 @@ returns-in-Ok-clause-ends g c =
 
 pub returns-clause-ends : goal.returns-clause-ends
 returns-clause-ends g c =
-    let line = c.refuse.ensures in
-    drill_refused g.H.Host c.args.number c.args.host.now c.refuse.new.host c.in-Err.fault c.kernel_status-status.result c.kernel_status-status.ensures c.in-Err.ensures.refused line.line line.alike line.disk
+    let line = c.report_status.ensures in
+    drill_refused g.H.Host c.args.number c.args.host.now c.report_status.new.host c.in-Err.fault c.kernel_status-status.result c.kernel_status-status.ensures c.in-Err.ensures.refused line.line line.alike line.disk
 
 pub returns-in-Ok-say_drill-clause-says : goal.returns-in-Ok-say_drill-clause-says
 returns-in-Ok-say_drill-clause-says g c =
@@ -25,7 +25,7 @@ returns-in-Ok-clause-says g c =
     drill_reads g.H.Host c.args.number c.args.host.now c.say_drill.new.host (g.L.Done.Memory.view c.in-Ok.machine.memory) (shown_by g.L.Done.Memory.view c.in-Ok.machine) (g.met.L.Done.Memory.whole c.in-Ok.machine.memory) c.in-Ok.ensures.begins c.say_drill.result c.say_drill.ensures
 
 pub returns-clause-says : goal.returns-clause-says
-returns-clause-says g c = (_, c.refuse.ensures.reads)
+returns-clause-says g c = (_, c.report_status.ensures.reads)
 
 pub returns-clause-cause : goal.returns-clause-cause
-returns-clause-cause g c = wrong_cause g.H.Host c.args.host.now c.refuse.new.host c.in-Err.fault c.kernel_status-status.result c.kernel_status-status.ensures
+returns-clause-cause g c = wrong_cause g.H.Host c.args.host.now c.report_status.new.host c.in-Err.fault c.kernel_status-status.result c.kernel_status-status.ensures

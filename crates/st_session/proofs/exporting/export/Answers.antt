@@ -13,7 +13,7 @@ use Rattle.st_session.proofs.exporting.export.Goals as goal
 
 pub returns-in-Ok-clause-cause : goal.returns-in-Ok-clause-cause
 returns-in-Ok-clause-cause g c =
-    cause_done g.H.Host c.args.store.now _ c.args.host.now c.reopen.new.host c.export_loaded.new.host c.refuse.new.host c.export_loaded.result c.status_of-status.result c.status_of-status.ensures c.in-Ok.ensures.only c.export_loaded.ensures.counts c.refuse.ensures.reads c.refuse.ensures.disk
+    cause_done g.H.Host c.args.store.now _ c.args.host.now c.reopen.new.host c.export_loaded.new.host c.report_status.new.host c.export_loaded.result c.status_of-status.result c.status_of-status.ensures c.in-Ok.ensures.only c.export_loaded.ensures.counts c.report_status.ensures.reads c.report_status.ensures.disk
 
 pub returns-in-Ok-clause-ends : goal.returns-in-Ok-clause-ends
 returns-in-Ok-clause-ends g c =
@@ -23,12 +23,12 @@ returns-in-Ok-clause-ends g c =
     let o = c.in-Ok.opened in
     let opened = c.in-Ok.ensures in
     let did = c.export_loaded.ensures in
-    let line = c.refuse.ensures in
+    let line = c.report_status.ensures in
     let r = c.export_loaded.result in
     let old = c.args.host.now in
     let mid = c.reopen.new.host in
     let closed = c.export_loaded.new.host in
-    let new = c.refuse.new.host in
+    let new = c.report_status.new.host in
     let is = c.status_of-status.ensures in
     let said = subst (λ (x : Status). SaysLastLine host x closed new) is line.line in
     let cause = subst (StatusHasCause host ⊥ old new) is (returns-in-Ok-clause-cause g c) in

@@ -23,7 +23,7 @@ returns-in-Err-clause-ends g c =
     let bytes = bytes_of (g.H.Host.files c.args.host.now c.args.image.now) in
     let read = c.in-Err.ensures in
     let told = IsTrue g.H.Host.is_told in
-    let line = c.refuse.ensures in
-    unread_ends g.H.Host origin.Image (ReadsAs over bytes) (IsWrongImage told over bytes) c.args.store.now c.args.host.now c.read_image.new.host c.refuse.new.host read.reads c.status-status.result
+    let line = c.report_status.ensures in
+    unread_ends g.H.Host origin.Image (ReadsAs over bytes) (IsWrongImage told over bytes) c.args.store.now c.args.host.now c.read_image.new.host c.report_status.new.host read.reads c.status-status.result
     (image_unread told over bytes c.in-Err.refusal c.status-status.result c.status-status.ensures read.refused) (λ t x is why. image_clash told over bytes x c.status-status.result t is why)
     (image_cause g.H.Host c.args.host.now c.read_image.new.host c.in-Err.refusal c.status-status.result c.status-status.ensures read.cause) line.line line.reads line.alike line.disk

@@ -25,5 +25,5 @@ pub returns-clause-ends : goal.returns-clause-ends
 returns-clause-ends g c =
     let v = g.M.Memory.view c.args.m.now in
     let new = c.in-Err.ensures in
-    let line = c.refuse.ensures in
-    failed_ends g.H.Host c.args.origin (contents_in v) c.args.store.now c.args.host.now c.create.new.host (tried g.H.Host c.args.store.now (commit_of (contents_in v)) c.args.host.now c.create.new.host new.moments new.left new.quiet new.spares new.say_count new.cause.later) c.in-Err.fault new.kind new.refused new.broken c.store_status-status.result c.refuse.new.host c.store_status-status.ensures (λ same. new.cause.rose (ap Err same)) new.writes_nothing line.line line.reads line.alike line.disk
+    let line = c.report_status.ensures in
+    failed_ends g.H.Host c.args.origin (contents_in v) c.args.store.now c.args.host.now c.create.new.host (tried g.H.Host c.args.store.now (commit_of (contents_in v)) c.args.host.now c.create.new.host new.moments new.left new.quiet new.spares new.say_count new.cause.later) c.in-Err.fault new.kind new.refused new.broken c.store_status-status.result c.report_status.new.host c.store_status-status.ensures (λ same. new.cause.rose (ap Err same)) new.writes_nothing line.line line.reads line.alike line.disk

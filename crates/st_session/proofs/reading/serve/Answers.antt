@@ -67,9 +67,9 @@ returns-clause-ends g c = λ told k s o.
     let view = g.M.Memory.view in
     let opened = c.args.opened in
     let h = c.args.host.now in
-    let new = c.open.new.host in
+    let new = c.run_session.new.host in
     let script = g.S.Source.remaining c.args.script.now in
-    let left = g.S.Source.remaining c.open.new.script in
+    let left = g.S.Source.remaining c.run_session.new.script in
     let m = c.boot-machine.result in
     let a = c.new-archive.result in
     let p : Point Commit = alive s k in
@@ -79,18 +79,18 @@ returns-clause-ends g c = λ told k s o.
     let holds : Holds g.H.Host h a k = subst (λ (x : ArchiveState). Holds g.H.Host h x k) (sym c.new-archive.ensures)
     (subst (λ (n : List ℕ). Holds g.H.Host h (record { name = n; store = Some opened.store; listed = opened.changes.listed }) k) opened.list_of.of_store.named o.holds) in
     let at : IsAt view g.H.Host m a h p = record { stands = (boots.alive, subst (λ (x : State Table). Shows x s) (sym same) o.shows); holds = holds } in
-    let on = IsAt view g.H.Host c.open.new.kept.machine c.open.new.kept.archive new in
+    let on = IsAt view g.H.Host c.run_session.new.kept.machine c.run_session.new.kept.archive new in
     let named : a.name ≡ opened.store.name = ap (λ (x : ArchiveState). x.name) c.new-archive.ensures ∙ sym opened.list_of.of_store.named in
-    ends_so g.H.Host k s opened.replayed script left h new a.name opened.store.name lost (losses_of opened.lost.items) c.open.result c.open.result named (ap losses_of c.deref.ensures.value) refl
+    ends_so g.H.Host k s opened.replayed script left h new a.name opened.store.name lost (losses_of opened.lost.items) c.run_session.result c.run_session.result named (ap losses_of c.deref.ensures.value) refl
     (ends_of g.H.Host (OpensAs a.name) (IsNoFileOf a.name) k on (λ (x : Point Commit). x.kept) (session_over opened.replayed lost s k script) (session_so_far_over opened.replayed lost s k) script left (session_of_over opened.replayed lost s k) (asked_in script) a.name
-    (λ tells other x new gate. own_gate g.H.Host a.name other x new tells (λ y n. g.met.H.Host.read_counts y n tells) gate) (Err c.open.result) h new
-    (session_ends in_a_store installed opened.replayed lost p script) (session_law opened.replayed lost p script) (c.open.ensures.follows told p at) (λ fault. c.open.ensures.told (ap status_in fault) told p at)
+    (λ tells other x new gate. own_gate g.H.Host a.name other x new tells (λ y n. g.met.H.Host.read_counts y n tells) gate) (Err c.run_session.result) h new
+    (session_ends in_a_store installed opened.replayed lost p script) (session_law opened.replayed lost p script) (c.run_session.ensures.follows told p at) (λ fault. c.run_session.ensures.told (ap status_in fault) told p at)
     (λ none tells. ⊎_elim (λ same. none_acknowledged g.H.Host a.name p opened.replayed lost script h new same (holds_rest g.H.Host a k holds) tells)
-    (λ some. some_acknowledged g.H.Host a.name p opened.replayed lost script h new (some p at) tells) (c.open.ensures.starved (ap status_in none) told))
-    (λ none tells. ⊎_elim (λ same. inl same) (λ some. inr (some p at)) (c.open.ensures.starved (ap status_in none) told)))
+    (λ some. some_acknowledged g.H.Host a.name p opened.replayed lost script h new (some p at) tells) (c.run_session.ensures.starved (ap status_in none) told))
+    (λ none tells. ⊎_elim (λ same. inl same) (λ some. inr (some p at)) (c.run_session.ensures.starved (ap status_in none) told)))
 
 pub returns-clause-cause : goal.returns-clause-cause
-returns-clause-cause g c = c.open.ensures.counts.cause
+returns-clause-cause g c = c.run_session.ensures.counts.cause
 
 pub returns-clause-complete : goal.returns-clause-complete
 returns-clause-complete g c = λ told k s o end calm.
@@ -98,11 +98,11 @@ returns-clause-complete g c = λ told k s o end calm.
     let name = opened.store.name in
     let script = g.S.Source.remaining c.args.script.now in
     let lost = losses_of opened.lost.items in
-    complete_of g.H.Host (OpensAs name) (IsNoFileOf name) k (λ (x : Point Commit). Unit {0}) (λ (x : Point Commit). x.kept) (session_over opened.replayed lost s k script) (session_so_far_over opened.replayed lost s k) script (g.S.Source.remaining c.open.new.script) (session_of_over opened.replayed lost s k) (asked_in script) name (Rose (g.S.Source.read_faults c.args.script.now) (g.S.Source.read_faults c.open.new.script)) c.open.result c.args.host.now c.open.new.host
+    complete_of g.H.Host (OpensAs name) (IsNoFileOf name) k (λ (x : Point Commit). Unit {0}) (λ (x : Point Commit). x.kept) (session_over opened.replayed lost s k script) (session_so_far_over opened.replayed lost s k) script (g.S.Source.remaining c.run_session.new.script) (session_of_over opened.replayed lost s k) (asked_in script) name (Rose (g.S.Source.read_faults c.args.script.now) (g.S.Source.read_faults c.run_session.new.script)) c.run_session.result c.args.host.now c.run_session.new.host
     (returns-clause-ends g c told k s o) (returns-clause-cause g c) end calm
 
 pub returns-clause-counts : goal.returns-clause-counts
-returns-clause-counts g c = record { disk = c.open.ensures.counts.disk; say = c.open.ensures.counts.say }
+returns-clause-counts g c = record { disk = c.run_session.ensures.counts.disk; say = c.run_session.ensures.counts.say }
 
 pub returns-in-Err-clause-counts : goal.returns-in-Err-clause-counts
 returns-in-Err-clause-counts g c = record { disk = omega arith; say = omega arith }

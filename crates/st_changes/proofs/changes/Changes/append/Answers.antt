@@ -12,7 +12,7 @@ use Rattle.st_changes.specs.inside.States.{ChangesState, grown}
 use Rattle.st_changes.specs.inside.Readying.{reserved_of}
 use Rattle.st_changes.specs.inside.IndexStates.{found}
 use Rattle.st_changes.specs.Last.{Answers}
-use Rattle.st_changes.specs.declared.changes.Ready.{Ready}
+use Rattle.st_changes.specs.declared.changes.ReservedEntry.{ReservedEntry}
 use Rattle.st_changes.proofs.ListTexts.{entries_more, all_more}
 use Rattle.st_changes.proofs.Growing.{grown_root}
 use Rattle.st_changes.proofs.changes.Changes.append.Goals as goal
@@ -73,7 +73,7 @@ invariant_of-self-2 g c =
     let place = ap (λ (s : ChangesState). length (entries s.listed)) c.self.view_is in
     let many : c.len-2.result ≡ length ds = omega (arith, c.len-2.ensures, c.self.inside.listed.ok, length-map c.self.inside.listed.items definition_of) in
     let answers = c.note.ensures ds c.self.invariant.2 many in
-    let none : (x : Ready) → c.take.new.self ≡ Some x → ⊥ = λ x e. let not = sym c.take.ensures.after ∙ e in absurd cc in (
+    let none : (x : ReservedEntry) → c.take.new.self ≡ Some x → ⊥ = λ x e. let not = sym c.take.ensures.after ∙ e in absurd cc in (
       omega (arith, total, place, c.requires.place, ap (λ (r : Root). r.length) c.root-root.ensures, c.len.ensures, ap length is, c.in-Some.field-0.entry.ok),
       λ y e. absurd (none y e),
       subst (λ (es : List Definition). Answers es (found c.note.new.index)) (sym more) answers,

@@ -7,12 +7,12 @@ use Rattle.st_changes.specs.inside.Views.{definition_of, definitions_of}
 use Rattle.st_changes.specs.inside.States.{IsTotal}
 use Rattle.st_changes.specs.Last.{Answers}
 use Rattle.st_changes.specs.inside.Prepared.{IsReady}
-use Rattle.st_changes.specs.declared.changes.Ready.{Ready}
+use Rattle.st_changes.specs.declared.changes.ReservedEntry.{ReservedEntry}
 use Rattle.st_changes.proofs.Lasts.{answers_same, ready_on, ready_of}
 use Rattle.st_changes.proofs.changes.Changes.reserve_as.Goals as goal
 
-some_same : {x y : Ready} → Some x ≡ Some y → x ≡ y
-some_same {x} e = ap (λ (o : Option Ready). unwrap_or o x) e
+some_same : {x y : ReservedEntry} → Some x ≡ Some y → x ≡ y
+some_same {x} e = ap (λ (o : Option ReservedEntry). unwrap_or o x) e
 
 pub invariant_of-self-in_err-prepare : goal.invariant_of-self-in_err-prepare
 invariant_of-self-in_err-prepare c =
@@ -36,7 +36,7 @@ invariant_of-self-2 c =
       subst (IsTotal old.length) (sym e) inv.0,
       λ r is. omega (arith, c.in_ok-reserve.ensures.ok, c.in_ok-reserve.ensures.len),
       subst (λ (ds : List Definition). Answers ds (found c.prepare.new.index)) (sym e) (answers_same (definitions_of old.listed.items) (found old.index) (found c.prepare.new.index) p.same inv.2),
-      λ r is. subst (λ (q : Ready). IsReady c.prepare.new.index q.entry.items (option_map (λ v. v.items) q.selector)) (some_same is)
+      λ r is. subst (λ (q : ReservedEntry). IsReady c.prepare.new.index q.entry.items (option_map (λ v. v.items) q.selector)) (some_same is)
           (ready_of c.prepare.new.index (definition_of c.args.definition.now) c.in_ok-entry.entry.items (option_map (λ v. v.items) c.args.selector) c.requires.good c.in_ok-entry.ensures p.prepared),
       subst (λ (ds : List Definition). All IsDefinition ds) (sym e) inv.4,
     )

@@ -6,7 +6,7 @@ use Rattle.st_model.specs.Table.{Table}
 use Rattle.st_model.specs.View.{is_live, object_of}
 use Rattle.st_counted.specs.inside.Counts.{is_unused}
 use Rattle.st_counted.specs.inside.Contents.{counts_of}
-use Rattle.st_heap.specs.declared.objects.Objects.{Objects}
+use Rattle.st_heap.specs.declared.objects.HeapObjects.{HeapObjects}
 use Rattle.st_heap.specs.inside.Tables.{objects_of}
 use Rattle.st_heap.proofs.Placing.{length-objects}
 use Rattle.st_counted.specs.declared.contents.Contents.{Contents}
@@ -22,7 +22,7 @@ use Rattle.st_counted.proofs.Storing.{lowered_to}
 use Rattle.st_counted.proofs.contents.Contents.drop_object.Goals as goal
 
 -- the class and the fields of the object are in hand
-in_hand : (m : Contents) (left : Objects) (cs1 : List (Option ℕ)) (k : ℕ) (o class : Oop) → AllCounted m → is_unused (numbers_of m) k ≡ true → k < 32768 → o.0 ≡ 2 * k → value class ≡ Ref (object_of (objects_of left) (value o)).class
+in_hand : (m : Contents) (left : HeapObjects) (cs1 : List (Option ℕ)) (k : ℕ) (o class : Oop) → AllCounted m → is_unused (numbers_of m) k ≡ true → k < 32768 → o.0 ≡ 2 * k → value class ≡ Ref (object_of (objects_of left) (value o)).class
     → objects_of left ≡ objects_of m.objects → cs1 ≡ set (numbers_of m) k None → IsCounted (slice_set (objects_of m.objects) k None) (all_roots (counted_view m)) (value class ∷ (object_of (objects_of m.objects) (value o)).fields) cs1
 in_hand m left cs1 k o class h unused within two is same gone =
     let t = objects_of m.objects in

@@ -8,7 +8,7 @@ use Rattle.st_model.proofs.WholeLemmas.{formed_live, field_known}
 use Rattle.st_counted.specs.inside.Counts.{number_at}
 use Rattle.st_counted.specs.inside.Contents.{counts_of}
 use Rattle.st_heap.specs.inside.Tables.{objects_of}
-use Rattle.st_heap.specs.declared.objects.Objects.{Objects}
+use Rattle.st_heap.specs.declared.objects.HeapObjects.{HeapObjects}
 use Rattle.st_counted.specs.declared.contents.Contents.{Contents}
 use Rattle.st_counted.specs.inside.References.{times, AddsReferences}
 use Rattle.st_counted.specs.inside.Counted.{counted_view, numbers_of}
@@ -19,7 +19,7 @@ use Rattle.st_counted.proofs.contents.Contents.raise_fields.Goals as goal
 
 -- the field that was read, in the objects of the beginning
 same_field : (m l : Contents) (o : Value) (i : ℕ) (x : Value) → m.objects ≡ l.objects → slice_get (object_of (objects_of m.objects) o).fields i ≡ Some x → slice_get (object_of (objects_of l.objects) o).fields i ≡ Some x
-same_field m l o i x same h = subst (λ (y : Objects). slice_get (object_of (objects_of y) o).fields i ≡ Some x) same h
+same_field m l o i x same h = subst (λ (y : HeapObjects). slice_get (object_of (objects_of y) o).fields i ≡ Some x) same h
 
 pub field-v-requires-clause-live : goal.field-v-requires-clause-live
 field-v-requires-clause-live c = subst (λ (m : Contents). is_live (objects_of m.objects) (value c.args.o) ≡ true) (sym c.loop-i.invariant.rest) c.requires.live

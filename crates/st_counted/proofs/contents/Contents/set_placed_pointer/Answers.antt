@@ -3,7 +3,7 @@ use Rattle.std.specs.Prelude.{Some, slice_get}
 use Rattle.st_model.specs.declared.oop.Oop.{Oop}
 use Rattle.st_model.specs.Values.{value}
 use Rattle.st_model.specs.View.{IsKnown, is_live, object_of, with_stored}
-use Rattle.st_heap.specs.declared.objects.Objects.{Objects}
+use Rattle.st_heap.specs.declared.objects.HeapObjects.{HeapObjects}
 use Rattle.st_counted.specs.declared.contents.Contents.{Contents}
 use Rattle.st_model.specs.Table.{Table}
 use Rattle.st_counted.specs.inside.Contents.{counts_of}
@@ -63,7 +63,7 @@ pub names_unused-requires : goal.names_unused-requires
 names_unused-requires c small = name_counted c.args.self.now c.args.v c.requires.counted c.requires.known small
 
 -- what the field held is in hand once the new value is counted
-old_in_hand : (m : Contents) (now : Objects) (o y old : Oop) (i : ℕ) → AllCounted m → IsKnown (objects_of m.objects) (value y) → is_live (objects_of m.objects) (value o) ≡ true → slice_get (object_of (objects_of m.objects) (value o)).fields i ≡ Some (value old)
+old_in_hand : (m : Contents) (now : HeapObjects) (o y old : Oop) (i : ℕ) → AllCounted m → IsKnown (objects_of m.objects) (value y) → is_live (objects_of m.objects) (value o) ≡ true → slice_get (object_of (objects_of m.objects) (value o)).fields i ≡ Some (value old)
     → objects_of now ≡ with_stored (objects_of m.objects) (value o) i (value y) → IsCounted (objects_of now) (all_roots (counted_view m)) (value old ∷ []) (raised_by (numbers_of m) (value y) 1)
 old_in_hand m now o y old i h known live there is = stored (counted_view m) (numbers_of m) (raised_by (numbers_of m) (value y) 1) (objects_of now) (value o) i (value y) (value old) h known live there refl is
 

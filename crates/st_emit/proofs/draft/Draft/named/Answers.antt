@@ -1,6 +1,6 @@
 use Rattle.std.proofs.Common.{List, refl, sym, ap, ◌∙◌}
 use Rattle.std.proofs.lemmas.List.{length-map}
-use Rattle.st_emit.specs.declared.step.Step.{Step}
+use Rattle.st_emit.specs.declared.instruction.Instruction.{Instruction}
 use Rattle.st_emit.specs.declared.level.Level.{Level}
 use Rattle.st_emit.specs.inside.Views.{literal_view, literals_view}
 use Rattle.st_emit.proofs.LiteralPlaces.{views_more, new_place}
@@ -13,6 +13,6 @@ returns c =
     record {
       part = c.len-place.ensures ∙ sym (length-map old literal_view) ∙ new.0;
       literals = ap literals_view c.in_ok-put.ensures ∙ views_more old c.args.literal ∙ new.1;
-      steps = refl {A = List Step};
+      steps = refl {A = List Instruction};
       level = refl {A = Level};
     }

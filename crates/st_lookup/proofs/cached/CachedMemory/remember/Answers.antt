@@ -1,14 +1,14 @@
 use Rattle.std.proofs.Common.{◌∙◌, List, ℕ, length-set}
 use Rattle.st_model.specs.Values.{value}
 use Rattle.st_model.specs.Table.{Table}
-use Rattle.st_lookup.specs.declared.entry.Entry.{Entry}
+use Rattle.st_lookup.specs.declared.entry.CachedLookup.{CachedLookup}
 use Rattle.st_lookup.specs.inside.Remembered.{AllRemembered, Grows}
 use Rattle.st_lookup.proofs.Staying.{all_grown, on_grown}
 use Rattle.st_lookup.proofs.Looked.{grows_then, all_set}
 use Rattle.st_lookup.proofs.cached.CachedMemory.remember.Goals as goal
 
 -- three times more is watched
-still : (old one two bits : List ℕ) (t : Table) (es : List Entry) → Grows old one → Grows one two → Grows two bits → AllRemembered old t es → AllRemembered bits t es
+still : (old one two bits : List ℕ) (t : Table) (es : List CachedLookup) → Grows old one → Grows one two → Grows two bits → AllRemembered old t es → AllRemembered bits t es
 still old one two bits t es f g h = all_grown old bits t es (grows_then old one bits f (grows_then one two bits g h))
 
 pub invariant_of-self : goal.invariant_of-self
@@ -18,7 +18,7 @@ invariant_of-self g c =
     let one = c.add.new.self.words.items in
     let two = c.add-2.new.self.words.items in
     let bits = c.mark.new.watch.words.items in
-    let entry : Entry = record { class = c.args.class; selector = c.args.selector; method = c.args.method } in
+    let entry : CachedLookup = record { class = c.args.class; selector = c.args.selector; method = c.args.method } in
     record {
       size = length-set a.entries.items c.slot.result entry ∙ a.size;
       remembered = all_set bits t a.entries.items c.slot.result entry

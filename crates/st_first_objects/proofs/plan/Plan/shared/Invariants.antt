@@ -1,8 +1,0 @@
-use Rattle.std.proofs.Common.{◌≡◌, ◌++◌, drop}
-use Rattle.std.specs.Prelude.{filter}
-use Rattle.st_first_objects.specs.Contents.{all_of, members, is_shared_of}
-use Rattle.st_first_objects.specs.inside.Views.{fields_of}
-use Rattle.st_first_objects.proofs.plan.Plan.shared.Given as goal
-
-abbrev pub invariant-loop-i : goal.invariant-loop-i
-invariant-loop-i l = fields_of l.fields.items ++ all_of (filter (is_shared_of l.self l.class) (drop l.i l.self.order.things)) ≡ members l.self (is_shared_of l.self l.class)
