@@ -49,6 +49,7 @@ impl<'a, M: Memory> Objects for Roomy<'a, M> {
         self.near.count_fields(o)
     }
 
+    #[inline(always)]
     fn context_fields(&self, context: Word) -> Option<ContextFields> {
         self.near.context_fields(context)
     }
@@ -92,6 +93,7 @@ impl<'a, M: Memory> Objects for Roomy<'a, M> {
         self.near.fetch_method_field(method, i)
     }
 
+    #[inline(always)]
     #[tactic(auto, using(st_memory::proofs::Wide::bounded))]
     fn byte_at(&self, method: Word, ip: i32) -> Result<u8, Dead> {
         self.near.byte_at(method, ip)
