@@ -8,13 +8,11 @@ use Rattle.st_model.specs.Values.{Value}
 use Rattle.st_model.specs.Objects.{Object, first_unit}
 use Rattle.st_model.specs.Machine.{State, Died, Went, is_there}
 use Rattle.st_model.specs.Steps.{literal, code_byte, byte_at, store_field}
-use Rattle.st_model.specs.Table.{Table, table, bounded_table}
+use Rattle.st_model.specs.Table.{Table, table}
 use Rattle.st_model.specs.View.{Has, object_of}
 use Rattle.st_model.proofs.Runs.{run-then, run-next, after-went, run-live, run-passed, run-some}
 use Rattle.st_at_once.specs.inside.Known.{IsCodeAt, HasLiteral}
-use Rattle.st_memory.proofs.Wide.{run_set_gone, fetch_field-bounded, count_fields-bounded, literal-bounded, byte_at-bounded, store_field-bounded}
-
-pub ruleset bounded = (fetch_field-bounded, count_fields-bounded, literal-bounded, byte_at-bounded, store_field-bounded)
+use Rattle.st_memory.proofs.Wide.{run_set_gone}
 
 -- a bytecode
 
@@ -38,9 +36,9 @@ code_table s v ip b c e =
     simp (run-then, run-next, after-went, run-live v s c.live, run-passed dead.Kind _ s c.kind, run-some dead.Ip _ b s (code_here (object_of s.memory v) b ip c.low c.high e)) refl
 
 pub code_read : (t : Table) (v w : Value) (ip : ℤ) (b : ℕ) → v ≡ w → IsCodeAt t v ip → slice_get (object_of t v).units (nat_abs ip - first_unit (object_of t v)) ≡ Some b
-    → (s : State Table) → s.memory ≡ t → (byte_at bounded_table w ip).run s ≡ Went b s
+    → (s : State Table) → s.memory ≡ t → (byte_at table w ip).run s ≡ Went b s
 code_read t v w ip b same c e s over =
-    rw (sym same, byte_at-bounded v ip) (code_table s v ip b (subst (λ u. IsCodeAt u v ip) (sym over) c)
+    rw (sym same) (code_table s v ip b (subst (λ u. IsCodeAt u v ip) (sym over) c)
     (subst (λ u. slice_get (object_of u v).units (nat_abs ip - first_unit (object_of u v)) ≡ Some b) (sym over) e))
 
 -- a literal
@@ -51,9 +49,9 @@ literal_table s v i x h e =
     simp (run-then, run-next, after-went, run-live v s h.live, run-passed dead.Kind _ s h.kind, run-some dead.Field _ x s e) refl
 
 pub literal_read : (t : Table) (v w : Value) (i : ℕ) (x y : Value) → v ≡ w → HasLiteral t v i → slice_get (object_of t v).fields (i + 1) ≡ Some x → y ≡ x
-    → (s : State Table) → s.memory ≡ t → (literal bounded_table w i).run s ≡ Went y s
+    → (s : State Table) → s.memory ≡ t → (literal table w i).run s ≡ Went y s
 literal_read t v w i x y same h e f s over =
-    rw (sym same, literal-bounded v i, f) (literal_table s v i x (subst (λ u. HasLiteral u v i) (sym over) h)
+    rw (sym same, f) (literal_table s v i x (subst (λ u. HasLiteral u v i) (sym over) h)
     (subst (λ u. slice_get (object_of u v).fields (i + 1) ≡ Some x) (sym over) e))
 
 -- what isn't there isn't stored
@@ -66,6 +64,6 @@ absent_table v i x s has e =
     simp (run-then, run-next, after-went, run-live v s has.live, run-passed dead.Kind _ s has.kind, run-passed dead.Field _ s r, run_set_gone v i x s has.live e) refl
 
 pub store_absent : (t : Table) (v w : Value) (i : ℕ) (x : Value) → v ≡ w → Has t v i 1 → is_there table t x ≡ false
-    → (s : State Table) → s.memory ≡ t → (store_field bounded_table w i x).run s ≡ Died dead.Kind
+    → (s : State Table) → s.memory ≡ t → (store_field table w i x).run s ≡ Died dead.Kind
 store_absent t v w i x same has e s over =
-    rw (sym same, store_field-bounded v i x) (absent_table v i x s (subst (λ u. Has u v i 1) (sym over) has) (ap (λ u. is_there table u x) over ∙ e))
+    rw (sym same) (absent_table v i x s (subst (λ u. Has u v i 1) (sym over) has) (ap (λ u. is_there table u x) over ∙ e))

@@ -1,19 +1,15 @@
 -- What is known stays known while each object keeps its kind and its sizes, as it does whatever a row does but exchange.
-use Rattle.std.proofs.Common.{◌≡◌, ℕ, ◌+◌, ◌*◌, zero, suc, Bool, true, false, List, [], ◌∷◌, length, length-set, is_some, Result, Ok, Err, refl, sym, ap, ◌∙◌, subst, arith, inl, inr}
-use Rattle.std.specs.Prelude.{Option, Some, None, unwrap_or, ⊤, nat_lt, IfErr, if◌then◌else◌, pos, ◌≤ℤ◌}
+use Rattle.std.proofs.Common.{◌≡◌, ℕ, ◌+◌, ◌*◌, true, length, length-set, is_some, Result, Ok, Err, refl, sym, ap, ◌∙◌, subst, arith, inl, inr}
+use Rattle.std.specs.Prelude.{Option, Some, None, unwrap_or, ⊤, IfErr, if◌then◌else◌, pos, ◌≤ℤ◌}
 use Rattle.std.proofs.lemmas.Bool.{cases_eq}
 use Rattle.st_model.specs.declared.dead.Dead.{Dead}
-use Rattle.st_model.specs.declared.kind.Kind.{Kind}
 use Rattle.st_model.specs.Values.{Value, Small, Ref, word}
 use Rattle.st_model.specs.Objects.{Object, is_pointers, is_method, size_of, with_field}
-use Rattle.st_model.specs.Machine.{State, Transition, Died, Went, Step, after, answer, die, is_there, has_room, ◌>>=◌, ◌>>◌}
-use Rattle.st_model.specs.Steps.{found, object_named, object, check, or_die, stored_at, store_at, set_field, fetch_field, store_field, fetch_fields, store_fields, transfer, new_of, made, make_named, make}
-use Rattle.st_model.specs.Table.{Table, table, bounded_table, entry, changed, first_free, placed}
-use Rattle.st_model.specs.inside.Calls.{Changes}
+use Rattle.st_model.specs.Machine.{State, Went, Step}
+use Rattle.st_model.specs.Table.{Table, entry, changed, first_free, placed}
+use Rattle.st_model.specs.inside.Calls.{Changes, itself}
 use Rattle.st_model.specs.View.{View, is_live, object_of, with_stored, nothing}
 use Rattle.st_model.proofs.TableLemmas.{changed-some, changed-other, first_free-none, placed-other}
-use Rattle.st_model.proofs.Tabular.{store_field-as, transfer-as}
-use Rattle.st_memory.specs.inside.Tabular.{bounded_tabular}
 use Rattle.st_memory.proofs.Looking.{some_state}
 use Rattle.st_at_once.specs.declared.known.Fields.{Fields}
 use Rattle.st_at_once.specs.declared.known.Code.{Code}
@@ -49,7 +45,7 @@ then_kept (Some o) (Some p) (Some q) a b = record { kind = b.kind ∙ a.kind; fi
 pub keeps_same : (t u : Table) → u ≡ t → KeepsSizes t u
 keeps_same t u e = λ n. subst (λ (x : Table). Kept (entry t n) (entry x n)) (sym e) (same_kept (entry t n))
 
-keeps_then : (t u w : Table) → KeepsSizes t u → KeepsSizes u w → KeepsSizes t w
+pub keeps_then : (t u w : Table) → KeepsSizes t u → KeepsSizes u w → KeepsSizes t w
 keeps_then t u w a b = λ n. then_kept (entry t n) (entry u n) (entry w n) (a n) (b n)
 
 -- what is known of a table
@@ -111,7 +107,7 @@ near_kept v w k keeps held near = record {
 
 -- what changes a table
 
-keeps_changed : (t : Table) (n : ℕ) (o p : Object) → entry t n ≡ Some o → IsSized o p → KeepsSizes t (changed t n p)
+pub keeps_changed : (t : Table) (n : ℕ) (o p : Object) → entry t n ≡ Some o → IsSized o p → KeepsSizes t (changed t n p)
 keeps_changed t n o p e s = λ m. elim (cases_eq m n) [
   | inl q ↦ subst (λ k. Kept (entry t k) (entry (changed t n p) k)) (sym q)
       (subst (λ x. Kept x (entry (changed t n p) n)) (sym e) (subst (λ x. Kept (Some o) x) (sym (changed-some t n p o e)) s))
@@ -124,7 +120,7 @@ keeps_placed t o = λ m. elim (cases_eq m (first_free t)) [
   | inr d ↦ subst (λ x. Kept (entry t m) x) (sym (placed-other t m o d)) (same_kept (entry t m))
 ]
 
-stored_sized : (o : Object) (i : ℕ) (x : Value) → IsSized o (with_field o i x)
+pub stored_sized : (o : Object) (i : ℕ) (x : Value) → IsSized o (with_field o i x)
 stored_sized o i x = record { kind = refl; fields = length-set o.fields i x; units = refl }
 
 keeps_stored_at : (t : Table) (n i : ℕ) (x : Value) (e : Option Object) → entry t n ≡ e → KeepsSizes t (changed t n (with_field (unwrap_or e nothing) i x))
@@ -139,121 +135,17 @@ unfolding with_stored object_of
 keeps_stored t (Small n) i x = keeps_same t t refl
 keeps_stored t (Ref n) i x = keeps_stored_at t n i x (entry t n) refl
 
--- steps
-
 -- wherever it goes, it leaves each object its kind and sizes
 abbrev pub KeepsBy : {A : Type 0} → Step Table A → Type 0
 KeepsBy {A} m = (s t : State Table) (a : A) → m.run s ≡ Went a t → KeepsSizes s.memory t.memory
 
-module _ {A B : Type 0} (m : Step Table A) (f : A → Step Table B) (first : KeepsBy m) (second : (a : A) → KeepsBy (f a)) (s t : State Table) (b : B) where
-  by_first : (x : Transition (State Table) A) → m.run s ≡ x → after x (λ a u. (f a).run u) ≡ Went b t → KeepsSizes s.memory t.memory
-  unfolding after
-  by_first (Died d) e h = cc
-  by_first (Went a u) e h = keeps_then s.memory u.memory t.memory (first s u a e) (second a u t b h)
-
-  bind_keeps : (m >>= f).run s ≡ Went b t → KeepsSizes s.memory t.memory
-  unfolding ◌>>=◌
-  bind_keeps h = by_first (m.run s) refl h
-
-answer_keeps : {A : Type 0} (x : A) → KeepsBy (answer x)
-unfolding answer
-answer_keeps x s t a e = let q : s ≡ t = cc in keeps_same s.memory t.memory (ap (λ (y : State Table). y.memory) (sym q))
-
-die_keeps : {A : Type 0} (d : Dead) → KeepsBy (die {A = A} d)
-unfolding die
-die_keeps d s t a e = cc
-
-found_keeps : (e : Option Object) → KeepsBy (found e)
-unfolding found
-found_keeps None = die_keeps _
-found_keeps (Some o) = answer_keeps o
-
-object_keeps : (v : Value) → KeepsBy (object table v)
-unfolding object object_named
-object_keeps (Small n) = die_keeps _
-object_keeps (Ref n) = λ s t a e. found_keeps (entry s.memory n) s t a e
-
-check_keeps : (d : Dead) (b : Bool) → KeepsBy (check d b)
-unfolding check
-check_keeps d true = answer_keeps tt
-check_keeps d false = die_keeps d
-
-or_die_keeps : {A : Type 0} (d : Dead) (x : Option A) → KeepsBy (or_die d x)
-unfolding or_die
-or_die_keeps d None = die_keeps d
-or_die_keeps d (Some a) = answer_keeps a
-
-set_keeps : (v : Value) (i : ℕ) (x : Value) → KeepsBy (set_field table v i x)
-unfolding set_field store_at stored_at
-set_keeps (Small n) i x = die_keeps _
-set_keeps (Ref n) i x = λ s t a h. by_entry s t a (entry s.memory n) refl (is_there table s.memory x) h
-  where
-    by_entry : (s t : State Table) (a : Unit {0}) (e : Option Object) → entry s.memory n ≡ e → (b : Bool) → stored_at table n i x s e b ≡ Went a t → KeepsSizes s.memory t.memory
-    by_entry s t a None e b h = cc
-    by_entry s t a (Some o) e false h = cc
-    by_entry s t a (Some o) e true h =
-        let q : record s { memory = changed s.memory n (with_field o i x) } ≡ t = cc in
-        subst (λ (y : State Table). KeepsSizes s.memory y.memory) q (keeps_changed s.memory n o (with_field o i x) e (stored_sized o i x))
-
-fetch_keeps : (v : Value) (i : ℕ) → KeepsBy (fetch_field table v i)
-unfolding fetch_field ◌>>◌
-fetch_keeps v i = bind_keeps (object table v) _ (object_keeps v) (λ o. bind_keeps (check _ (is_pointers o.kind)) _ (check_keeps _ (is_pointers o.kind)) (λ u. or_die_keeps _ _))
-
-store_keeps : (v : Value) (i : ℕ) (x : Value) → KeepsBy (store_field table v i x)
-unfolding store_field ◌>>◌
-store_keeps v i x =
-    bind_keeps (object table v) _ (object_keeps v) (λ o.
-    bind_keeps (check _ (is_pointers o.kind)) _ (check_keeps _ (is_pointers o.kind)) (λ u.
-    bind_keeps (check _ (nat_lt i (length o.fields))) _ (check_keeps _ (nat_lt i (length o.fields))) (λ u. set_keeps v i x)))
-
-fetches_keep : (n : ℕ) (v : Value) (from : ℕ) → KeepsBy (fetch_fields table v from n)
-unfolding fetch_fields
-fetches_keep zero v from = answer_keeps []
-fetches_keep (suc n) v from = bind_keeps _ _ (fetch_keeps v from) (λ x. bind_keeps _ _ (fetches_keep n v (suc from)) (λ xs. answer_keeps (x ∷ xs)))
-
-stores_keep : (xs : List Value) (v : Value) (to : ℕ) → KeepsBy (store_fields table v to xs)
-unfolding store_fields ◌>>◌
-stores_keep [] v to = answer_keeps tt
-stores_keep (x ∷ xs) v to = bind_keeps _ _ (store_keeps v to x) (λ u. stores_keep xs v (suc to))
-
-transfer_keeps : (n : ℕ) (source : Value) (from : ℕ) (target : Value) (to : ℕ) → KeepsBy (transfer table n source from target to)
-unfolding transfer
-transfer_keeps n source from target to = bind_keeps _ _ (fetches_keep n source from) (λ xs. stores_keep xs target to)
-
-made_keeps : (o : Object) (s t : State Table) (a : Value) (there room : Bool) → made bounded_table o s there room ≡ Went a t → KeepsSizes s.memory t.memory
-unfolding made
-made_keeps o s t a false room h = cc
-made_keeps o s t a true true h =
-    let q : record s { memory = placed s.memory o } ≡ t = cc in
-    subst (λ (y : State Table). KeepsSizes s.memory y.memory) q (keeps_placed s.memory o)
-made_keeps o s t a true false h = let q : s ≡ t = cc in keeps_same s.memory t.memory (ap (λ (y : State Table). y.memory) (sym q))
-
--- by what a row changes its objects, but for exchange
-
-pub store_stays : (v : Value) (i : ℕ) (x : Value) → KeepsBy (store_field bounded_table v i x)
-store_stays v i x = subst KeepsBy (sym (store_field-as bounded_tabular v i x)) (store_keeps v i x)
-
-pub transfer_stays : (n : ℕ) (source : Value) (from : ℕ) (target : Value) (to : ℕ) → KeepsBy (transfer bounded_table n source from target to)
-transfer_stays n source from target to = subst KeepsBy (sym (transfer-as bounded_tabular n source from target to)) (transfer_keeps n source from target to)
-
-pub make_stays : (v : Value) (k : Kind) (n l : ℕ) → KeepsBy (make bounded_table v k n l)
-unfolding make make_named
-make_stays (Small c) k n l = die_keeps _
-make_stays (Ref c) k n l = λ s t a h.
-    let o = new_of bounded_table s.memory c k n l in
-    made_keeps o s t a (is_there bounded_table s.memory (Ref c)) (has_room bounded_table s.head s.memory o) h
-
-pub near_changed : {A B : Type 0} (m : Step Table A) (f : B → A) (r : B) (v w : View) (k : NearPlaces) → KeepsBy m
-    → Changes m f v.objects v.head (Ok r) w.objects → w.held ≡ v.held → IsNear v k → IsNear w k
-near_changed m f r v w k keeps changes held near =
+-- a call that may die, and then leaves the objects as they were
+pub near_unless : (m : Step Table Unit) (r : Result Unit Dead) (v w : View) (k : NearPlaces) → KeepsBy m → Changes m itself v.objects v.head r w.objects → IfErr r (λ e. w.objects ≡ v.objects)
+    → w.held ≡ v.held → IsNear v k → IsNear w k
+near_unless m (Ok b) v w k keeps changes dead held near =
     let s : State Table = record (some_state v.objects) { head = v.head } in
     near_kept v w k (keeps s _ _ (changes s refl refl)) held near
-
--- if it died, the objects are as they were
-pub near_unless : {A B : Type 0} (m : Step Table A) (f : B → A) (r : Result B Dead) (v w : View) (k : NearPlaces) → KeepsBy m
-    → Changes m f v.objects v.head r w.objects → IfErr r (λ e. w.objects ≡ v.objects) → w.held ≡ v.held → IsNear v k → IsNear w k
-near_unless m f (Ok b) v w k keeps changes dead held near = near_changed m f b v w k keeps changes held near
-near_unless m f (Err d) v w k keeps changes dead held near = near_kept v w k (keeps_same v.objects w.objects dead) held near
+near_unless m (Err d) v w k keeps changes dead held near = near_kept v w k (keeps_same v.objects w.objects dead) held near
 
 -- a new object
 pub near_placed : (v w : View) (k : NearPlaces) (o : Object) → w.objects ≡ placed v.objects o → w.held ≡ v.held → IsNear v k → IsNear w k

@@ -1,7 +1,7 @@
 pub mod Pairs
 pub mod AtOnce
 pub mod InContext
-mod Alike
+pub mod Rooms
 pub mod OverMemory
 mod Keeping
 pub mod Kept

@@ -2,9 +2,8 @@
 use Rattle.std.proofs.Common.{◌≡◌, Bool, true, Ok, refl, sym, ap, ◌∙◌, subst}
 use Rattle.st_model.specs.declared.dead.Dead.{Dead}
 use Rattle.st_model.specs.Outcomes as outcome
-use Rattle.st_model.specs.Machine.{World, State, Transition, Died, Went, Step}
+use Rattle.st_model.specs.Machine.{World, State, Transition, Died, Went}
 use Rattle.st_model.specs.Table.{Table, table, apart, bounded_table}
-use Rattle.st_memory.specs.inside.Tabular.{bounded_tabular}
 use Rattle.st_model.specs.declared.bytecode.Bytecode.{Bytecode}
 use Rattle.st_model.specs.Bytecodes.{bytecode, step}
 use Rattle.st_model.specs.View.{View, Held, IsWhole}
@@ -19,7 +18,6 @@ use Rattle.st_control.proofs.Suffices.{dies, foreseen, bounded}
 use Rattle.st_at_once.specs.inside.AtOnce.{NamesSame, kept, bytecode_at_once, IsFetched}
 use Rattle.st_at_once.proofs.Kept.{kept_same, kept_frame}
 use Rattle.st_at_once.proofs.AtOnce.{As, bytecode-as}
-use Rattle.st_at_once.proofs.Alike.{bytecode-is}
 
 -- the registers are held again, and so is what the world names
 pub quick_ready : (u v : View) (f g : Frame) (w : World) → IsReady u f w → StaysFrame u v g → IsReady v g w
@@ -46,16 +44,15 @@ pub record Done (c : State Table) (u : View) (g : Frame) (w : World) (r : Words)
   pub same : registers_in r ≡ registers_of g
 
 module _ (v : View) (f : Frame) (w : World) (whole : IsWhole v) (ready : IsReady v f w) (code : Bytecode) (start : Words) (fetched : IsFetched v f w code start) where
-  over_table : (o : Transition (State Table) Bool) → (bytecode_at_once bounded_table code).run (row_state v.objects v.head start) ≡ o → As outcome.Went o ((step table).run (shown v f w))
+  over_table : (o : Transition (State Table) Bool) → (bytecode_at_once table code).run (row_state v.objects v.head start) ≡ o → As outcome.Went o ((step table).run (shown v f w))
   over_table o e =
       let s = row_state v.objects v.head start in
-      let does : (bytecode_at_once table code).run s ≡ o = ap (λ (m : Step Table Bool). m.run s) (sym (bytecode-is bounded_tabular code)) ∙ e in
-      subst (λ x. As outcome.Went o x) (sym fetched) (subst (λ x. As outcome.Went x ((bytecode table code).run s)) does (bytecode-as table code s))
+      subst (λ x. As outcome.Went o x) (sym fetched) (subst (λ x. As outcome.Went x ((bytecode table code).run s)) e (bytecode-as table code s))
 
-  pub at_once_dies : (cause : Dead) → (bytecode_at_once bounded_table code).run (row_state v.objects v.head start) ≡ Died cause → (step apart).run (shown v f w) ≡ Died cause
+  pub at_once_dies : (cause : Dead) → (bytecode_at_once table code).run (row_state v.objects v.head start) ≡ Died cause → (step apart).run (shown v f w) ≡ Died cause
   at_once_dies cause e = dies v f w whole ready cause (over_table (Died cause) e)
 
-  pub at_once_done : (u : View) (r : Words) (g : Frame) → (bytecode_at_once bounded_table code).run (row_state v.objects v.head start) ≡ Went true (row_state u.objects u.head r)
+  pub at_once_done : (u : View) (r : Words) (g : Frame) → (bytecode_at_once table code).run (row_state v.objects v.head start) ≡ Went true (row_state u.objects u.head r)
       → IsWhole u → u.head ≡ v.head → u.held ≡ v.held → r.world.now ≡ w → g ≡ kept (Ok true) f r → NamesSame (registers_of f) (registers_in r) → Done (shown v f w) u g w r
   unfolding row_state
   at_once_done u r g e whole_then head held world frame names =

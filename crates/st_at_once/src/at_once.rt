@@ -33,42 +33,23 @@ fn short_jump_at_once<O: Objects>(m: &O, r: &mut Registers, i: u8) -> Result<boo
     )
 }
 
-/// Pops, and jumps on false by i times 256 plus the next byte. Answers whether the word is a boolean.
+/// Pops, and jumps on the wanted boolean by i times 256 plus the next byte. Answers whether the word is a boolean.
 #[inline(never)]
 #[tactic(auto, using(st_frames::proofs::Doing::rows), unfolding(crate::specs::inside::AtOnce::long_jump_at_once))]
-fn jump_on_false_at_once<O: Objects>(m: &O, r: &mut Registers, i: u8) -> Result<bool, Dead>
+fn long_jump_at_once<O: Objects>(
+    m: &O,
+    r: &mut Registers,
+    wanted: PageObject,
+    other: PageObject,
+    i: u8,
+) -> Result<bool, Dead>
     requires number { i < 4 }
-    ensures does { RowMoves O.Objects.own (long_jump_at_once O.names FalseObject TrueObject i)
+    ensures does { RowMoves O.Objects.own (long_jump_at_once O.names wanted other i)
         itself m.now r.old result r.new }
 {
     let byte = next_byte(m, r)?;
     let distance = u32::from(i) * 256 + u32::from(byte);
-    jump_at_once(
-        m,
-        r,
-        PageObject::FalseObject,
-        PageObject::TrueObject,
-        distance,
-    )
-}
-
-/// Pops, and jumps on true by i times 256 plus the next byte. Answers whether the word is a boolean.
-#[inline(never)]
-#[tactic(auto, using(st_frames::proofs::Doing::rows), unfolding(crate::specs::inside::AtOnce::long_jump_at_once))]
-fn jump_on_true_at_once<O: Objects>(m: &O, r: &mut Registers, i: u8) -> Result<bool, Dead>
-    requires number { i < 4 }
-    ensures does { RowMoves O.Objects.own (long_jump_at_once O.names TrueObject FalseObject i)
-        itself m.now r.old result r.new }
-{
-    let byte = next_byte(m, r)?;
-    let distance = u32::from(i) * 256 + u32::from(byte);
-    jump_at_once(
-        m,
-        r,
-        PageObject::TrueObject,
-        PageObject::FalseObject,
-        distance,
-    )
+    jump_at_once(m, r, wanted, other, distance)
 }
 
 /// Does the row of a bytecode that was fetched and decoded, if that is done at once, and answers whether it is. If so, the frame keeps
@@ -108,12 +89,12 @@ pub fn bytecode_at_once<O: Objects>(
             }
         }
         Bytecode::LongJumpOnFalse(i) => {
-            if !jump_on_false_at_once(m, r, i)? {
+            if !long_jump_at_once(m, r, PageObject::FalseObject, PageObject::TrueObject, i)? {
                 return Ok(false);
             }
         }
         Bytecode::LongJumpOnTrue(i) => {
-            if !jump_on_true_at_once(m, r, i)? {
+            if !long_jump_at_once(m, r, PageObject::TrueObject, PageObject::FalseObject, i)? {
                 return Ok(false);
             }
         }

@@ -1,16 +1,16 @@
-ghost use Rattle.std.specs.Prelude.{◌≡◌, ◌<◌, ◌≤◌, ◌/◌, true, IfSome};
+ghost use Rattle.std.specs.Prelude.{◌≡◌, ◌<◌, ◌≤◌, ◌/◌, nat_le, true, IfSome};
 ghost use Rattle.st_model.specs.{Values.{Ref, value, word}, Formed.{IsMakeable, fresh}};
 ghost use Rattle.st_model.specs.{View.{Has, SettlesTo, demand_of, fits, is_live}, Machine.used};
-ghost use Rattle.st_model.specs.Table.{table, bounded_table, first_free, placed};
+ghost use Rattle.st_model.specs.Table.{table, first_free, placed};
 ghost use Rattle.st_model.specs.{Steps.store_field, inside.Calls.{Changes, itself}};
 ghost use Rattle.st_frames.specs.inside.Shown.{IsFrame};
-ghost use Rattle.st_at_once.specs.inside.Known.{IsNear, ArePlaced, IsCodeAt, HasLiteral, HasNumber};
+ghost use Rattle.st_at_once.specs.inside.{Room.room_of, Known.{IsNear, ArePlaced, IsCodeAt, HasLiteral, HasNumber}};
 
 use crate::known::{Body, Code, NearPlaces};
 use crate::looking::{look, look_after_make};
 use st_frames::Frame;
 use st_memory::{Memory, live_value, store_live_field};
-use st_model::{Dead, Kind, Oop, Word};
+use st_model::{Dead, Demand, Kind, Oop, Word};
 
 /// The objects of a memory, with what is known of the active context, its home and its method, which it holds. As long as they
 /// are held, a field or a byte of them is read and stored at its place, without a look at the object; and a field of the last
@@ -36,9 +36,23 @@ impl<'a, M: Memory> Near<'a, M> {
         Near { memory, known }
     }
 
+    /// Whether there is room for so many changes, 1 to 71: an entry for each, and 2,050 words.
+    #[inline(always)]
+    pub fn has_room(&self, changes: u32) -> bool
+        requires some { 1 ≤ changes }
+        requires few { changes ≤ 71 }
+        ensures { result ≡ nat_le changes (room_of (M.view self.now.memory.now)) }
+    {
+        self.memory.room(Demand {
+            entries: changes,
+            words: 2050 * changes,
+        })
+    }
+
     /// Drops all objects but the largest set of which each is a root or is referred to by a member.
     pub fn settle(&mut self)
         ensures settles { SettlesTo (M.view self.old.memory.now) (M.view self.new.memory.now) }
+        ensures room { room_of (M.view self.old.memory.now) ≤ room_of (M.view self.new.memory.now) }
         ensures same_memory { self.new.memory.ghost_name ≡ self.old.memory.ghost_name }
     {
         self.known.made.number = 0;
@@ -164,11 +178,11 @@ impl<'a, M: Memory> Near<'a, M> {
 
     /// Stores x in field i of an object that is near at hand.
     #[inline(always)]
-    #[tactic(auto, using(st_model::proofs::Runs::runs, crate::proofs::Direct::bounded), unfolding(st_model::specs::Steps::store_field))]
+    #[tactic(auto, using(st_model::proofs::Runs::runs), unfolding(st_model::specs::Steps::store_field))]
     pub(crate) fn store_near(&mut self, object: Body, i: u32, x: Word) -> Result<(), Dead>
         requires has { Has (M.view self.old.memory.now).objects (value object.object) i 1 }
         requires place { M.stands self.old.memory.now (value object.object) object.place }
-        ensures stores { Changes (store_field bounded_table (value object.object) i (word x)) itself
+        ensures stores { Changes (store_field table (value object.object) i (word x)) itself
             (M.view self.old.memory.now).objects (M.view self.old.memory.now).head
             result (M.view self.new.memory.now).objects }
         ensures used { used table (M.view self.new.memory.now).objects
@@ -189,8 +203,9 @@ impl<'a, M: Memory> Near<'a, M> {
 
     /// Stores x in field i of an object that isn't near at hand.
     #[inline(never)]
+    #[tactic(auto, using(st_memory::proofs::Wide::bounded))]
     pub(crate) fn store_elsewhere(&mut self, o: Word, i: u32, x: Word) -> Result<(), Dead>
-        ensures stores { Changes (store_field bounded_table (word o) i (word x)) itself
+        ensures stores { Changes (store_field table (word o) i (word x)) itself
             (M.view self.old.memory.now).objects (M.view self.old.memory.now).head
             result (M.view self.new.memory.now).objects }
         ensures used { used table (M.view self.new.memory.now).objects
@@ -205,7 +220,7 @@ impl<'a, M: Memory> Near<'a, M> {
     /// Stores x in field i of an object of kind Pointers. As much is used as before, also if that dies.
     #[inline(always)]
     pub fn store(&mut self, o: Word, i: u32, x: Word) -> Result<(), Dead>
-        ensures stores { Changes (store_field bounded_table (word o) i (word x)) itself
+        ensures stores { Changes (store_field table (word o) i (word x)) itself
             (M.view self.old.memory.now).objects (M.view self.old.memory.now).head
             result (M.view self.new.memory.now).objects }
         ensures used { used table (M.view self.new.memory.now).objects
@@ -221,7 +236,7 @@ impl<'a, M: Memory> Near<'a, M> {
     }
 
     /// A new object as the memory makes it, which has room for it.
-    pub fn make_object(&mut self, class: Oop, kind: Kind, size: u32, literals: u32) -> Oop
+    pub(crate) fn make_object(&mut self, class: Oop, kind: Kind, size: u32, literals: u32) -> Oop
         requires class { is_live (M.view self.old.memory.now).objects (value class) ≡ true }
         requires makeable { IsMakeable (class.0 / 2) kind size literals }
         requires room { fits (M.view self.old.memory.now) (demand_of (fresh (class.0 / 2) kind size literals))

@@ -1,16 +1,16 @@
-ghost use Rattle.st_model.specs.Table.{bounded_table};
+ghost use Rattle.st_model.specs.Table.{table};
 
 use crate::known::NearPlaces;
-use crate::looking::{look_after_make, look_at_places};
+use crate::looking::look_at_places;
 use crate::near::Near;
 use st_memory::{ContextFields, Memory, Objects, live_value};
 use st_model::{Dead, Demand, Kind, Word};
 
 impl<'a, M: Memory> Objects for Near<'a, M> {
-    ghost use Rattle.st_memory.specs.inside.Tabular.{bounded_tabular};
-    ghost use Rattle.st_control.specs.inside.Borrowed.{fixed_of};
+    ghost use Rattle.st_control.specs.inside.Borrowed.{fixed_of, table_tabular};
+    ghost use Rattle.st_at_once.specs.inside.Room.{room_of};
 
-    ghost names = { bounded_table };
+    ghost names = { table };
 
     ghost table = { λ n. (M.view n.memory.now).objects };
 
@@ -18,14 +18,14 @@ impl<'a, M: Memory> Objects for Near<'a, M> {
 
     ghost fixed = { λ n. fixed_of (M.view n.memory.now) n.memory.ghost_name };
 
-    ghost room = { λ n. 70 };
+    ghost room = { λ n. room_of (M.view n.memory.now) };
 
     fn is_there(&self, v: Word) -> bool {
         live_value(self.memory, v).is_some()
     }
 
     #[inline(always)]
-    #[tactic(auto, using(st_model::proofs::Runs::runs, crate::proofs::Direct::bounded), unfolding(st_model::specs::Steps::fetch_field))]
+    #[tactic(auto, using(st_model::proofs::Runs::runs, st_memory::proofs::Wide::bounded), unfolding(st_model::specs::Steps::fetch_field))]
     fn fetch_field(&self, o: Word, i: u32) -> Result<Word, Dead> {
         match self.find_context(o, i) {
             Some(context) => Ok(Word::from(
@@ -36,7 +36,7 @@ impl<'a, M: Memory> Objects for Near<'a, M> {
     }
 
     #[inline(always)]
-    #[tactic(auto, using(st_model::proofs::Runs::runs, crate::proofs::Direct::bounded), unfolding(st_model::specs::Steps::count_fields))]
+    #[tactic(auto, using(st_model::proofs::Runs::runs, st_memory::proofs::Wide::bounded), unfolding(st_model::specs::Steps::count_fields))]
     fn count_fields(&self, o: Word) -> Result<u32, Dead> {
         match self.find_number(o) {
             Some(number) => Ok(number),
@@ -49,14 +49,17 @@ impl<'a, M: Memory> Objects for Near<'a, M> {
         self.memory.context_fields(context)
     }
 
+    #[tactic(auto, using(st_memory::proofs::Wide::bounded))]
     fn fetch_class(&self, o: Word) -> Result<Word, Dead> {
         self.memory.fetch_class(o)
     }
 
+    #[tactic(auto, using(st_memory::proofs::Sizes::kinds))]
     fn fetch_kind(&self, o: Word) -> Result<Kind, Dead> {
         self.memory.fetch_kind(o)
     }
 
+    #[tactic(auto, using(st_memory::proofs::Sizes::kinds))]
     fn fetch_size(&self, o: Word) -> Result<u32, Dead> {
         self.memory.fetch_size(o)
     }
@@ -65,12 +68,13 @@ impl<'a, M: Memory> Objects for Near<'a, M> {
         self.memory.half_word(o)
     }
 
+    #[tactic(auto, using(st_memory::proofs::Wide::bounded))]
     fn method_header(&self, method: Word) -> Result<Word, Dead> {
         self.memory.method_header(method)
     }
 
     #[inline(always)]
-    #[tactic(auto, using(st_model::proofs::Runs::runs, crate::proofs::Direct::bounded), unfolding(st_model::specs::Steps::literal))]
+    #[tactic(auto, using(st_model::proofs::Runs::runs, st_memory::proofs::Wide::bounded), unfolding(st_model::specs::Steps::literal))]
     fn literal(&self, method: Word, i: u32) -> Result<Word, Dead> {
         match self.find_literals(method, i) {
             Some(method) => Ok(Word::from(
@@ -81,16 +85,18 @@ impl<'a, M: Memory> Objects for Near<'a, M> {
         }
     }
 
+    #[tactic(auto, using(st_memory::proofs::Wide::bounded))]
     fn literal_from_last(&self, method: Word, k: u32) -> Result<Word, Dead> {
         self.memory.literal_from_last(method, k)
     }
 
+    #[tactic(auto, using(st_memory::proofs::Wide::bounded))]
     fn fetch_method_field(&self, method: Word, i: u32) -> Result<Word, Dead> {
         self.memory.fetch_method_field(method, i)
     }
 
     #[inline(always)]
-    #[tactic(auto, using(st_model::proofs::Runs::runs, crate::proofs::Direct::bounded), unfolding(st_model::specs::Steps::byte_at))]
+    #[tactic(auto, using(st_memory::proofs::Wide::bounded))]
     fn byte_at(&self, method: Word, ip: i32) -> Result<u8, Dead> {
         match self.find_code(method, ip) {
             Some(method) => {
@@ -103,10 +109,12 @@ impl<'a, M: Memory> Objects for Near<'a, M> {
         }
     }
 
+    #[tactic(auto, using(st_memory::proofs::Wide::bounded))]
     fn fetch_word(&self, o: Word, i: u32) -> Result<u16, Dead> {
         self.memory.fetch_word(o, i)
     }
 
+    #[tactic(auto, using(st_memory::proofs::Wide::bounded))]
     fn fetch_byte(&self, o: Word, i: u32) -> Result<u8, Dead> {
         self.memory.fetch_byte(o, i)
     }
@@ -119,6 +127,7 @@ impl<'a, M: Memory> Objects for Near<'a, M> {
         self.memory.next_instance(class, after)
     }
 
+    #[tactic(auto, using(crate::proofs::Rooms::reads))]
     fn free(&self) -> Demand {
         self.memory.free()
     }
@@ -139,23 +148,19 @@ impl<'a, M: Memory> Objects for Near<'a, M> {
         self.transfer_fields(n, source, from, target, to)
     }
 
-    #[tactic(auto, using(crate::proofs::Keeping::near_nothing, crate::proofs::Placed::placed_nothing))]
+    #[tactic(auto, using(crate::proofs::Keeping::near_nothing, crate::proofs::Placed::placed_nothing, crate::proofs::Rooms::reads))]
     fn exchange(&mut self, a: Word, b: Word) -> Result<(), Dead> {
         self.known = NearPlaces::NONE;
         self.memory.exchange(a, b)
     }
 
-    #[tactic(auto, using(crate::proofs::Keeping::near_nothing, crate::proofs::Placed::placed_nothing))]
     fn make(&mut self, class: Word, kind: Kind, size: u32, literals: u32) -> Result<Word, Dead> {
-        match Objects::make(self.memory, class, kind, size, literals) {
-            Ok(made) => {
-                self.known = look_after_make(self.memory, self.known, made);
-                Ok(made)
-            }
-            Err(cause) => {
-                self.known = NearPlaces::NONE;
-                Err(cause)
-            }
+        if class.is_small() {
+            return Err(Dead::Small);
+        }
+        match live_value(self.memory, class) {
+            Some(object) => Ok(Word::from(self.make_object(object, kind, size, literals))),
+            None => Err(Dead::Kind),
         }
     }
 
@@ -173,5 +178,5 @@ impl<'a, M: Memory> Objects for Near<'a, M> {
         self.known = look_at_places(self.memory, self.known);
     }
 
-    ghost tabular = { bounded_tabular };
+    ghost tabular = { table_tabular };
 }

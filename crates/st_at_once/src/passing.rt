@@ -1,6 +1,6 @@
 ghost use Rattle.std.specs.Prelude.{◌≡◌, ◌<◌};
 ghost use Rattle.st_model.specs.{Values.word, Machine.used, Steps.transfer};
-ghost use Rattle.st_model.specs.Table.{table, bounded_table};
+ghost use Rattle.st_model.specs.Table.{table};
 ghost use Rattle.st_model.specs.inside.Calls.{Changes, itself};
 ghost use Rattle.st_control.specs.inside.Borrowed.{fixed_of};
 
@@ -19,7 +19,7 @@ impl<'a, M: Memory> Near<'a, M> {
         target: Word,
         to: u32,
     ) -> Result<(), Dead>
-        ensures transfers { Changes (transfer bounded_table 1 (word source) from (word target) to) itself
+        ensures transfers { Changes (transfer table 1 (word source) from (word target) to) itself
             (M.view self.old.memory.now).objects (M.view self.old.memory.now).head
             result (M.view self.new.memory.now).objects }
         ensures used { used table (M.view self.new.memory.now).objects
@@ -43,7 +43,7 @@ impl<'a, M: Memory> Near<'a, M> {
         to: u32,
     ) -> Result<(), Dead>
         requires small { (from < 65536) × (to < 65536) }
-        ensures transfers { Changes (transfer bounded_table 2 (word source) from (word target) to) itself
+        ensures transfers { Changes (transfer table 2 (word source) from (word target) to) itself
             (M.view self.old.memory.now).objects (M.view self.old.memory.now).head
             result (M.view self.new.memory.now).objects }
         ensures used { used table (M.view self.new.memory.now).objects
@@ -60,7 +60,8 @@ impl<'a, M: Memory> Near<'a, M> {
 
     /// Stores n fields of one object in fields of another, once all of them are fetched. As much is used as before, also if that
     /// dies.
-    pub fn transfer_fields(
+    #[tactic(auto, using(st_memory::proofs::Wide::bounded))]
+    pub(crate) fn transfer_fields(
         &mut self,
         n: u32,
         source: Word,
@@ -68,7 +69,7 @@ impl<'a, M: Memory> Near<'a, M> {
         target: Word,
         to: u32,
     ) -> Result<(), Dead>
-        ensures transfers { Changes (transfer bounded_table n (word source) from (word target) to) itself
+        ensures transfers { Changes (transfer table n (word source) from (word target) to) itself
             (M.view self.old.memory.now).objects (M.view self.old.memory.now).head
             result (M.view self.new.memory.now).objects }
         ensures used { used table (M.view self.new.memory.now).objects

@@ -1,5 +1,4 @@
 mod Endings
-mod Rooms
 mod Fetching
 mod RowDone
 mod Foreseeing

@@ -4,7 +4,6 @@ ghost use Rattle.st_frames.specs.inside.Shown.{IsReady, shown};
 ghost use Rattle.st_machine.specs.inside.{Cycling.{Finishes, Follows, foreseen_step}, Runs.ending_of};
 
 use crate::doing::{StretchEnd, do_straight, fetch};
-use crate::roomy::Roomy;
 use crate::space::{free_space, warn};
 use crate::switching::check_process_switch;
 use st_at_once::Near;
@@ -89,10 +88,9 @@ pub fn do_next<M: Memory>(m: &mut M, f: &mut Frame, w: &mut World) -> Result<Cyc
     ensures ready { OnOk result (IsReady (M.view m.new) f.new w.new) }
 {
     let mut r = load(m, f, w);
-    let near = Near::new(m, f);
-    let mut roomy = Roomy { near };
-    let code = fetch(&roomy, f, &mut r)?;
-    let end = do_straight(&mut roomy, f, &mut r, code)?;
+    let mut near = Near::new(m, f);
+    let code = fetch(&near, f, &mut r)?;
+    let end = do_straight(&mut near, f, &mut r, code)?;
     let left = r.left;
     match end {
         None => Ok(CycleEnd::With(Outcome::Went)),

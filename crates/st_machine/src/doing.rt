@@ -1,20 +1,19 @@
-ghost use Rattle.std.specs.Prelude.{◌≡◌, Ok, Some, None, IfOk, IfErr, if◌then◌else◌};
+ghost use Rattle.std.specs.Prelude.{◌≡◌, ◌≤◌, Ok, Some, None, IfOk, IfErr, if◌then◌else◌};
 ghost use Rattle.st_model.specs.{Table.table, Machine.{Died, used}, Cycles.{less, capacity_of}, View.SettlesTo};
 ghost use Rattle.st_model.specs.{Decoded.IsNumbered, Outcomes.outcome_of};
 ghost use Rattle.st_frames.specs.declared.registers.Registers.{Registers as Words};
 ghost use Rattle.st_frames.specs.inside.Rows.{registers_in, outcome_in};
 ghost use Rattle.st_frames.specs.inside.Shown.{IsFrame, IsReady, registers_of, shown};
 ghost use Rattle.st_step.specs.inside.Planned.{HasEnded};
-ghost use Rattle.st_at_once.specs.inside.AtOnce.{IsFetched, NamesSame};
-ghost use Rattle.st_machine.specs.inside.{Cycling.{GoesCalmly, foreseen_step, warns}, Room.is_roomy};
+ghost use Rattle.st_at_once.specs.inside.{AtOnce.{IsFetched, NamesSame}, Room.room_of};
+ghost use Rattle.st_machine.specs.inside.Cycling.{GoesCalmly, foreseen_step, warns};
 ghost use Rattle.st_machine.specs.declared.doing.StretchEnd.TheVariants.{Warns};
 
-use crate::roomy::Roomy;
 use crate::space::needs_warning;
 use st_at_once::Near;
 use st_frames::{Frame, Registers, RowEnd, World, next_byte};
 use st_memory::Memory;
-use st_model::{Bytecode, Dead, Demand, Outcome, decode};
+use st_model::{Bytecode, Dead, Outcome, decode};
 use st_step::{bytecode, outcome};
 
 /// What is left of the cycle of a bytecode that wasn't foreseen, if that isn't all done.
@@ -30,16 +29,6 @@ pub enum StretchEnd {
     Asks(Outcome),
 }
 
-/// Whether there is room for whatever the next bytecode takes: 70 entries, and 2,050 words for each.
-fn has_room<M: Memory>(near: &Near<M>) -> bool
-    ensures { result ≡ is_roomy (M.view near.now.memory.now) }
-{
-    near.memory.room(Demand {
-        entries: 70,
-        words: 143_500,
-    })
-}
-
 /// What comes after a bytecode: what nothing supports any more is dropped. Answers whether it is to be told that space is low.
 #[inline(always)]
 pub fn finish_calmly<M: Memory>(near: &mut Near<M>, w: &World) -> Option<StretchEnd>
@@ -47,6 +36,7 @@ pub fn finish_calmly<M: Memory>(near: &mut Near<M>, w: &World) -> Option<Stretch
     ensures end { let free = less (capacity_of (M.view near.new.memory.now).head)
         (used table (M.view near.new.memory.now).objects) in
         result ≡ (if warns free w.now then Some Warns else None) }
+    ensures room { room_of (M.view near.old.memory.now) ≤ room_of (M.view near.new.memory.now) }
     ensures same_memory { near.new.memory.ghost_name ≡ near.old.memory.ghost_name }
 {
     near.settle();
@@ -69,49 +59,50 @@ fn outcome_near<M: Memory>(near: &Near<M>, f: &Frame, end: RowEnd) -> Outcome
 
 /// Fetches and decodes the next bytecode.
 #[inline(always)]
-pub fn fetch<M: Memory>(roomy: &Roomy<M>, f: &Frame, r: &mut Registers) -> Result<Bytecode, Dead>
+pub fn fetch<M: Memory>(near: &Near<M>, f: &Frame, r: &mut Registers) -> Result<Bytecode, Dead>
     requires same { registers_in r.old ≡ registers_of f.now }
-    requires ready { IsReady (M.view roomy.now.near.memory.now) f.now r.old.world.now }
+    requires ready { IsReady (M.view near.now.memory.now) f.now r.old.world.now }
     ensures dies { IfErr result (λ cause.
-        foreseen_step (shown (M.view roomy.now.near.memory.now) f.now r.old.world.now) ≡ Died cause) }
+        foreseen_step (shown (M.view near.now.memory.now) f.now r.old.world.now) ≡ Died cause) }
     ensures numbered { IfOk result IsNumbered }
     ensures fetched { IfOk result (λ code.
-        IsFetched (M.view roomy.now.near.memory.now) f.now r.old.world.now code r.new) }
+        IsFetched (M.view near.now.memory.now) f.now r.old.world.now code r.new) }
     ensures names { IfOk result (λ code. NamesSame (registers_of f.now) (registers_in r.new)) }
     ensures world { r.new.world.now ≡ r.old.world.now }
 {
-    let byte = next_byte(roomy, r)?;
+    let byte = next_byte(near, r)?;
     Ok(decode(byte))
 }
 
-/// Does the row of the next bytecode, which was fetched and decoded, over what is near at hand, if there is room for whatever it takes;
-/// and then what comes after it. No plan is made. While it goes on, the registers are those of the frame.
+/// Does the row of the next bytecode, which was fetched and decoded, over what is near at hand, if there is room for whatever it takes
+/// and one change more; and then what comes after it. No plan is made. While it goes on, the registers are those of the frame.
 #[inline(always)]
 pub fn do_straight<M: Memory>(
-    roomy: &mut Roomy<M>,
+    near: &mut Near<M>,
     f: &mut Frame,
     r: &mut Registers,
     code: Bytecode,
 ) -> Result<Option<StretchEnd>, Dead>
     requires numbered { IsNumbered code }
-    requires fetched { IsFetched (M.view roomy.old.near.memory.now) f.old r.old.world.now code r.old }
-    requires ready { IsReady (M.view roomy.old.near.memory.now) f.old r.old.world.now }
-    ensures step { GoesCalmly (shown (M.view roomy.old.near.memory.now) f.old r.old.world.now)
+    requires fetched { IsFetched (M.view near.old.memory.now) f.old r.old.world.now code r.old }
+    requires ready { IsReady (M.view near.old.memory.now) f.old r.old.world.now }
+    ensures step { GoesCalmly (shown (M.view near.old.memory.now) f.old r.old.world.now)
         r.new.left result
-        (shown (M.view roomy.new.near.memory.now) f.new r.old.world.now) }
-    ensures ready { IfOk result (λ end. IsReady (M.view roomy.new.near.memory.now) f.new r.old.world.now) }
+        (shown (M.view near.new.memory.now) f.new r.old.world.now) }
+    ensures ready { IfOk result (λ end. IsReady (M.view near.new.memory.now) f.new r.old.world.now) }
     ensures same { result ≡ Ok None → registers_in r.new ≡ registers_of f.new }
+    ensures room { result ≡ Ok None → 1 ≤ room_of (M.view near.new.memory.now) }
     ensures world { r.new.world.now ≡ r.old.world.now }
-    ensures same_memory { roomy.new.near.memory.ghost_name ≡ roomy.old.near.memory.ghost_name }
+    ensures same_memory { near.new.memory.ghost_name ≡ near.old.memory.ghost_name }
 {
-    if !has_room(&roomy.near) {
+    if !near.has_room(71) {
         return Ok(Some(StretchEnd::ToForesee));
     }
-    let end = bytecode(roomy, r, code)?;
-    roomy.near.hold_moved(f, r);
+    let end = bytecode(near, r, code)?;
+    near.hold_moved(f, r);
     match end {
-        RowEnd::Went => Ok(finish_calmly(&mut roomy.near, r.world)),
+        RowEnd::Went => Ok(finish_calmly(near, r.world)),
         RowEnd::Leaves => Ok(Some(StretchEnd::Leaves)),
-        _ => Ok(Some(StretchEnd::Asks(outcome_near(&roomy.near, f, end)))),
+        _ => Ok(Some(StretchEnd::Asks(outcome_near(near, f, end)))),
     }
 }

@@ -8,7 +8,6 @@ mod doing;
 mod ending;
 mod machine;
 mod preparing;
-mod roomy;
 mod running;
 mod saving;
 mod signals;

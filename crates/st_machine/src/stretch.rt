@@ -1,9 +1,9 @@
 ghost use Rattle.std.specs.Prelude.{◌≡◌, ◌≤◌, Ok, None, IfOk, OnOk};
 ghost use Rattle.st_frames.specs.inside.{Rows.registers_in, Shown.{IsReady, registers_of, shown}};
+ghost use Rattle.st_at_once.specs.inside.Room.{room_of};
 ghost use Rattle.st_machine.specs.inside.{Cycling.{GoesCalmly, IsCalm}, Strides.GoesOn};
 
 use crate::doing::{StretchEnd, do_straight, fetch, finish_calmly};
-use crate::roomy::Roomy;
 use st_at_once::{Near, bytecode_at_once};
 use st_frames::{Frame, Registers, World, load};
 use st_memory::Memory;
@@ -25,29 +25,31 @@ pub struct Stretch {
 /// the frame.
 #[inline(always)]
 fn do_calmly<M: Memory>(
-    roomy: &mut Roomy<M>,
+    near: &mut Near<M>,
     f: &mut Frame,
     r: &mut Registers,
 ) -> Result<Option<StretchEnd>, Dead>
     requires same { registers_in r.old ≡ registers_of f.old }
-    requires ready { IsReady (M.view roomy.old.near.memory.now) f.old r.old.world.now }
-    ensures step { GoesCalmly (shown (M.view roomy.old.near.memory.now) f.old r.old.world.now)
+    requires ready { IsReady (M.view near.old.memory.now) f.old r.old.world.now }
+    requires room { 1 ≤ room_of (M.view near.old.memory.now) }
+    ensures step { GoesCalmly (shown (M.view near.old.memory.now) f.old r.old.world.now)
         r.new.left result
-        (shown (M.view roomy.new.near.memory.now) f.new r.old.world.now) }
-    ensures ready { IfOk result (λ end. IsReady (M.view roomy.new.near.memory.now) f.new r.old.world.now) }
+        (shown (M.view near.new.memory.now) f.new r.old.world.now) }
+    ensures ready { IfOk result (λ end. IsReady (M.view near.new.memory.now) f.new r.old.world.now) }
     ensures same { result ≡ Ok None → registers_in r.new ≡ registers_of f.new }
+    ensures room { result ≡ Ok None → 1 ≤ room_of (M.view near.new.memory.now) }
     ensures world { r.new.world.now ≡ r.old.world.now }
-    ensures same_memory { roomy.new.near.memory.ghost_name ≡ roomy.old.near.memory.ghost_name }
+    ensures same_memory { near.new.memory.ghost_name ≡ near.old.memory.ghost_name }
 {
-    let code = fetch(roomy, f, r)?;
+    let code = fetch(near, f, r)?;
     let ip = r.ip;
     let sp = r.sp;
-    if bytecode_at_once(&mut roomy.near, f, r, code)? {
-        return Ok(finish_calmly(&mut roomy.near, r.world));
+    if bytecode_at_once(near, f, r, code)? {
+        return Ok(finish_calmly(near, r.world));
     }
     r.ip = ip;
     r.sp = sp;
-    do_straight(roomy, f, r, code)
+    do_straight(near, f, r, code)
 }
 
 /// Does cycles in a calm world, at most n of them, up to the first that isn't all done: its bytecode is to be foreseen, leaves a
@@ -61,10 +63,16 @@ pub fn go_on<M: Memory>(m: &mut M, f: &mut Frame, w: &World, n: u32) -> Stretch
     ensures most { result.done ≤ n }
 {
     let mut r = load(m, f, w);
-    let near = Near::new(m, f);
-    let mut roomy = Roomy { near };
+    let mut near = Near::new(m, f);
+    if !near.has_room(1) {
+        return Stretch {
+            done: 0,
+            end: Ok(Some(StretchEnd::ToForesee)),
+            left: Deed::Nothing,
+        };
+    }
     for done in 0..n {
-        match do_calmly(&mut roomy, f, &mut r) {
+        match do_calmly(&mut near, f, &mut r) {
             Ok(None) => {}
             Ok(Some(end)) => {
                 return Stretch {

@@ -74,9 +74,9 @@ fn changes_near<M: Memory>(m: &mut M, f: &Frame) -> bool
     requires { IsFrame (M.view m.old) f.now }
 {
     let mut near = Near::new(m, f);
-    let is_stored = stores(&mut near);
+    let is_stored = near.has_room(1) && stores(&mut near);
     near.settle();
-    is_stored && exchanges(&mut near)
+    is_stored && near.has_room(1) && exchanges(&mut near)
 }
 
 /// What was stored near at hand stands in the memory.

@@ -2,10 +2,10 @@ use Rattle.std.proofs.Common.{◌≡◌, ap}
 use Rattle.st_model.specs.Values.{word}
 use Rattle.st_model.specs.Steps.{transfer}
 use Rattle.st_model.specs.Table.{bounded_table}
-use Rattle.st_model.specs.inside.Calls.{itself}
-use Rattle.st_at_once.proofs.Keeping.{near_unless, transfer_stays}
+use Rattle.st_at_once.proofs.InContext.{bounded_transfer, keeps_sizes, keeps_used}
+use Rattle.st_at_once.proofs.Keeping.{near_unless}
 use Rattle.st_at_once.proofs.Placed.{placed_kept}
-use Rattle.st_at_once.proofs.Uses.{if_err, used_unless, transfer_keeps}
+use Rattle.st_at_once.proofs.Uses.{if_err, used_unless}
 use Rattle.st_at_once.proofs.near.Near.transfer_fields.Goals as goal
 
 pub invariant_of-self : goal.invariant_of-self
@@ -15,8 +15,8 @@ invariant_of-self g c =
     let v = g.M.Memory.view a.self.now.memory.now in
     let u = g.M.Memory.view done.new.m in
     record {
-      near = near_unless (transfer bounded_table a.n (word a.source) a.from (word a.target) a.to) itself done.result v u a.self.now.known
-          (transfer_stays a.n (word a.source) a.from (word a.target) a.to) done.ensures.transfers
+      near = near_unless (transfer bounded_table a.n (word a.source) a.from (word a.target) a.to) done.result v u a.self.now.known
+          (keeps_sizes _ (bounded_transfer a.n (word a.source) a.from (word a.target) a.to)) done.ensures.transfers
           (if_err done.result (done.new.m ≡ a.self.now.memory.now) (u.objects ≡ v.objects) (ap (λ m. (g.M.Memory.view m).objects)) done.ensures.dead) done.ensures.held a.self.now.near;
       places = placed_kept (g.M.Memory.stands a.self.now.memory.now) (g.M.Memory.stands done.new.m) a.self.now.known done.ensures.places a.self.now.places;
     }
@@ -27,5 +27,5 @@ returns-clause-used g c =
     let done = c.transfer_live_fields in
     let v = g.M.Memory.view a.self.now.memory.now in
     let u = g.M.Memory.view done.new.m in
-    used_unless (transfer bounded_table a.n (word a.source) a.from (word a.target) a.to) (transfer_keeps a.n (word a.source) a.from (word a.target) a.to) done.result v.objects u.objects v.head
+    used_unless (transfer bounded_table a.n (word a.source) a.from (word a.target) a.to) (keeps_used _ (bounded_transfer a.n (word a.source) a.from (word a.target) a.to)) done.result v.objects u.objects v.head
     done.ensures.transfers (if_err done.result (done.new.m ≡ a.self.now.memory.now) (u.objects ≡ v.objects) (ap (λ m. (g.M.Memory.view m).objects)) done.ensures.dead)

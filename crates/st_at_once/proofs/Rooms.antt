@@ -1,6 +1,6 @@
 -- Room in a memory: for which objects it is enough, what takes of it, and that a memory with room does as a table does.
-use Rattle.std.proofs.Common.{◌≡◌, ◌≤◌, ◌+◌, ◌*◌, ◌/◌, ℕ, Bool, true, false, refl, sym, ap, ◌∙◌, subst, is_some, arith}
-use Rattle.std.specs.Prelude.{◌-◌, ◌&&◌, nat_le, min}
+use Rattle.std.proofs.Common.{◌≡◌, ◌≤◌, ◌+◌, ◌*◌, ◌/◌, ℕ, suc, Bool, true, false, [], ◌∷◌, Option, Some, None, refl, sym, ap, ◌∙◌, subst, is_some, arith}
+use Rattle.std.specs.Prelude.{◌-◌, ◌&&◌, nat_le, min, if◌then◌else◌}
 use Rattle.std.proofs.lemmas.Bool.Decides.{nat_tests}
 use Rattle.st_model.specs.declared.dead.Dead.TheVariants as dead
 use Rattle.st_model.specs.declared.kind.Kind.{Kind}
@@ -8,15 +8,15 @@ use Rattle.st_model.specs.declared.kind.Kind.TheVariants as kind
 use Rattle.st_model.specs.Values.{Value, Small, Ref, value_of, is_small}
 use Rattle.st_model.specs.Objects.{Object, one, words_of}
 use Rattle.st_model.specs.Formed.{IsMakeable, fresh}
-use Rattle.st_model.specs.Machine.{State, Died, Went, die, is_there, used, next_of, first_instance}
+use Rattle.st_model.specs.Machine.{State, Head, Died, Went, die, is_there, used, next_of, first_instance}
 use Rattle.st_model.specs.Steps.{made, make_named, make, object_at, next_instance, get_free}
-use Rattle.st_model.specs.Table.{Table, table, bounded_table, entry, first_free, placed, total_used}
-use Rattle.st_model.specs.View.{View, is_live, fits, demand_of}
+use Rattle.st_model.specs.Table.{Table, table, bounded_table, entry, first_free, placed, settled_table, total_used}
+use Rattle.st_model.specs.View.{View, SettlesTo, is_live, fits, demand_of}
 use Rattle.st_memory.specs.inside.Making.{CanMake, making_changes}
 use Rattle.st_memory.proofs.Fresh.{words_pointers, words_words, words_bytes, words_method}
 use Rattle.st_memory.proofs.Wide.{named_word}
 use Rattle.st_simulation.proofs.Bounded.{total-placed}
-use Rattle.st_machine.specs.inside.Room.{room_of, is_roomy}
+use Rattle.st_at_once.specs.inside.Room.{room_of}
 use Rattle.st_at_once.proofs.Uses.{exchange-bounded}
 
 -- as much room as before
@@ -56,24 +56,47 @@ same_truth true q f g = sym (f refl)
 same_truth false true f g = g refl
 same_truth false false f g = refl
 
-enough : (a b c d : ℕ) → (nat_le (a + 70) b && nat_le (c + 143500) d) ≡ true → nat_le 70 (min (b - a) ((d - c) / 2050)) ≡ true
-enough a b c d h =
-    let p : a + 70 ≤ b = grind (arith, nat_tests, h) in
-    let q : c + 143500 ≤ d = grind (arith, nat_tests, h) in
-    let r : 70 ≤ min (b - a) ((d - c) / 2050) = omega arith in
+enough : (a b c d n : ℕ) → (nat_le (a + n) b && nat_le (c + 2050 * n) d) ≡ true → nat_le n (min (b - a) ((d - c) / 2050)) ≡ true
+enough a b c d n h =
+    let p : a + n ≤ b = grind (arith, nat_tests, h) in
+    let q : c + 2050 * n ≤ d = grind (arith, nat_tests, h) in
+    let r : n ≤ min (b - a) ((d - c) / 2050) = omega arith in
     grind (arith, nat_tests, r)
 
-at_least : (n : ℕ) → nat_le 70 n ≡ true → 70 ≤ n
-at_least n h = grind (arith, nat_tests, h)
+at_least : (n k : ℕ) → nat_le n k ≡ true → n ≤ k
+at_least n k h = grind (arith, nat_tests, h)
 
--- room for 70 entries and 143,500 words is room for 70 changes
-pub room_asked : (v : View) → fits v (record { entries = 70; words = 143500 }) ≡ is_roomy v
+-- room for n entries and 2,050 words for each is room for n changes
+pub room_asked : (v : View) (n : ℕ) → 1 ≤ n → fits v (record { entries = n; words = 2050 * n }) ≡ nat_le n (room_of v)
 unfolding room_of
-room_asked v =
+room_asked v n some =
     let a = total_used one v.objects in
     let c = total_used words_of v.objects in
-    same_truth _ _ (enough a v.head.entries c v.head.words)
-    (λ h. fits_if a v.head.entries c v.head.words 70 143500 70 (omega arith) (omega arith) (omega arith) (at_least _ h))
+    same_truth _ _ (enough a v.head.entries c v.head.words n)
+    (λ h. fits_if a v.head.entries c v.head.words n (2050 * n) n some (omega arith) (omega arith) (at_least n _ h))
+
+-- what settles leaves as much room, or more
+
+kept_uses : (weight : Object → ℕ) (b : Bool) (e : Option Object) (t u : Table) → total_used weight t ≤ total_used weight u → total_used weight ((if b then e else None) ∷ t) ≤ total_used weight (e ∷ u)
+kept_uses weight true None t u h = h
+kept_uses weight false None t u h = h
+kept_uses weight true (Some o) t u h = omega (arith, h)
+kept_uses weight false (Some o) t u h = omega (arith, h)
+
+settled_uses : (weight : Object → ℕ) (t : Table) (keep : ℕ → Bool) → total_used weight (settled_table t keep) ≤ total_used weight t
+settled_uses weight [] keep = omega arith
+settled_uses weight (e ∷ t) keep = kept_uses weight (keep 0) e (settled_table t (λ k. keep (suc k))) t (settled_uses weight t (λ k. keep (suc k)))
+
+more_room : (a b c d e f : ℕ) → e ≤ a → f ≤ c → min (b - a) ((d - c) / 2050) ≤ min (b - e) ((d - f) / 2050)
+more_room a b c d e f less few = omega arith
+
+pub room_settled : (v u : View) → SettlesTo v u → room_of v ≤ room_of u
+unfolding room_of
+room_settled v u s =
+    let entries : total_used one u.objects ≤ total_used one v.objects = subst (λ (t : Table). total_used one t ≤ total_used one v.objects) (sym s.objects) (settled_uses one v.objects s.set) in
+    let words : total_used words_of u.objects ≤ total_used words_of v.objects = subst (λ (t : Table). total_used words_of t ≤ total_used words_of v.objects) (sym s.objects) (settled_uses words_of v.objects s.set) in
+    subst (λ (h : Head). room_of v ≤ min (h.entries - total_used one u.objects) ((h.words - total_used words_of u.objects) / 2050)) (sym s.head)
+    (more_room (total_used one v.objects) v.head.entries (total_used words_of v.objects) v.head.words (total_used one u.objects) (total_used words_of u.objects) entries words)
 
 module _ (v : View) (o : Object) (n : ℕ) (some : 1 ≤ n) (few : words_of o ≤ 2050 * n) where
   pub room_fits : n ≤ room_of v → fits v (demand_of o) ≡ true
