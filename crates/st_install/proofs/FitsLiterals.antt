@@ -1,4 +1,4 @@
--- Literals, and trees of methods, none of whose objects has more words than one may have.
+-- Literals, and trees, that need no object of more words than one may have.
 use Rattle.std.proofs.Common.{ℕ, suc, ◌+◌, ◌-◌, ◌≤◌, Bool, true, false, cond, List, [], ◌∷◌, length, drop, arith, length-take, length-drop}
 use Rattle.std.specs.Prelude.{bytes_eq, codes, ◌==◌}
 use Rattle.std.specs.Str.{byte}
@@ -18,7 +18,7 @@ count lits.no_literals = 0
 count (lits.literal l ls) = suc (count ls)
 
 abbrev mutual
-  -- no text has more bytes, and no array more members, than an object of most_of_one words
+  -- An array counts with its size word and its class word. A text has half as many words as bytes, so this is more than enough.
   pub IsSmall : LiteralView → Type 0
   IsSmall (lits.bytes text) = length text ≤ most_of_one
   IsSmall (lits.symbol text) = length text ≤ most_of_one
@@ -94,7 +94,4 @@ content_small sorts.Name b h =
     chosen SmallContent (bytes_eq b (codes "nil")) views.nil_object _ tt
     (chosen SmallContent (bytes_eq b (codes "false")) views.false_object _ tt
     (chosen SmallContent (bytes_eq b (codes "true")) views.true_object (views.symbol b) tt h))
-content_small sorts.Keyword b h = h
-content_small sorts.Operator b h = h
-content_small sorts.Opening b h = h
-content_small sorts.Mark b h = h
+content_small _ b h = h

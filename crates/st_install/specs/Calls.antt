@@ -3,7 +3,7 @@ use Rattle.std.specs.Prelude.{ℕ, ◌+◌, List, Option, Some, None, Result, Ok
 use Rattle.st_model.specs.declared.dead.Dead.TheVariants as dead
 use Rattle.st_model.specs.declared.demand.Demand.{Demand}
 use Rattle.st_model.specs.Values.{Value}
-use Rattle.st_model.specs.Machine.{ObjectMemory, Head, Step, Went, answer, tried, used, is_over, ◌>>=◌}
+use Rattle.st_model.specs.Machine.{ObjectMemory, Head, Step, Went, answer, tried, used, is_over, ◌>>=◌, ◌>>◌}
 use Rattle.st_model.specs.Steps.{or_die}
 use Rattle.st_code.specs.Methods.{PartsView}
 use Rattle.st_scope.specs.declared.fault.InstallFault.{InstallFault}

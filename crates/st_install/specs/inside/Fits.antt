@@ -13,15 +13,15 @@ use Rattle.st_install.specs.Literals.{PlacedAll, place_owner, place_literals}
 use Rattle.st_install.specs.inside.Rooms.{AreSmall}
 
 module _ {H : Type 0} (m : ObjectMemory H) where
-  -- The Symbols that these parts name are small, if they have to be made. So are all objects that are made for their literals, in whatever
-  -- state, and the method.
+  -- What these parts need has at most 65535 words each: a Symbol for their selector and for each that their literals name; and what is made
+  -- for their literals, in whatever state, with the method.
   pub record FitParts (parts : PartsView) : Type 0 where
     pub symbols : (class : Value) → AreSmall (map (bytes_object class) (parts.selector ∷ symbols_in parts.literals))
     pub others : (symbols : List NamedSymbol) (association class method_class : Value) (meta : Bool) (next : ℕ) (s t : State H) (placed : PlacedAll)
         → (place_literals m symbols (place_owner m association class meta) next parts.literals).run s ≡ Went placed t
         → AreSmall (placed.objects ++ method_object method_class (There (value_of parts.header) ∷ placed.parts) parts.bytes ∷ [])
 
-  -- So it is with the code of each text that a definition may have, whatever its class's names are.
+  -- so it is with the code of each text that a definition may have, whatever names its class has
   abbrev pub TextsFit : Type 0
   TextsFit = (text : List ℕ) (tree : MethodView) (names : NamesView) (parts : PartsView)
       → length text ≤ most → syntax text ≡ Ok tree → code tree names ≡ Ok parts → FitParts parts
