@@ -123,7 +123,7 @@ fn respond_by<O: Objects>(
 
 /// Tries the primitive of this number with so many arguments; 83 and 84 fail. None tells that it failed.
 #[inline(always)]
-#[tactic(auto, unfolding(st_model::specs::Executing::respond, st_model::specs::Executing::respond_if_any))]
+#[tactic(auto, using(st_frames::proofs::Doing::rows), unfolding(st_model::specs::Executing::respond, st_model::specs::Executing::respond_if_any))]
 pub fn respond<O: Objects>(
     m: &mut O,
     r: &mut Registers,
@@ -167,7 +167,7 @@ fn perform_by<O: Objects>(
 
 /// Tries the primitive of this number with so many arguments, which may be 83 or 84. None tells that it failed.
 #[inline(always)]
-#[tactic(auto, unfolding(st_model::specs::Executing::respond_or_perform, st_model::specs::Executing::respond_if_any))]
+#[tactic(auto, using(st_frames::proofs::Doing::rows), unfolding(st_model::specs::Executing::respond_or_perform, st_model::specs::Executing::respond_if_any))]
 pub fn respond_or_perform<O: Objects>(
     m: &mut O,
     r: &mut Registers,
