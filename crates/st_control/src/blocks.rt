@@ -10,7 +10,7 @@ use st_frames::{
     Registers, Tried, answer_with, home_of, page, positive_small, small, small_integer, top, under,
 };
 use st_memory::Objects;
-use st_model::{Dead, PageObject, Word};
+use st_model::{BlockPrimitive, Dead, PageObject, Word};
 
 /// What a new block is made of.
 #[derive(Clone, Copy)]
@@ -130,36 +130,23 @@ pub fn primitive_block_copy<O: Objects>(m: &mut O, r: &mut Registers) -> Result<
     }
 }
 
-/// Tries the primitive on blocks of this number. It fails where it takes another number of arguments, and where there is none.
-#[tactic(auto, using(st_frames::proofs::Doing::rows), unfolding(st_model::specs::Blocks::blocks, st_model::specs::Primitives::taking))]
+/// Tries the primitive on blocks with so many arguments.
+#[tactic(auto, unfolding(st_model::specs::Blocks::blocks))]
 pub fn try_blocks<O: Objects>(
     m: &mut O,
     r: &mut Registers,
-    primitive: u32,
+    primitive: BlockPrimitive,
     arguments: u32,
 ) -> Result<Tried, Dead>
     requires few { arguments < 16384 }
     requires room { block_changes ≤ O.room m.old }
-    ensures does { RowTries O.Objects.own (blocks O.names primitive arguments)
+    ensures does { RowTries O.Objects.own (blocks O.names arguments primitive)
         m.old r.old result m.new r.new }
     ensures takes { Takes O.Objects.own (tried_changes block_changes result) m.old m.new }
 {
     match primitive {
-        80 => {
-            if arguments == 1 {
-                primitive_block_copy(m, r)
-            } else {
-                Ok(Tried::Failed)
-            }
-        }
-        81 => primitive_value(m, r, arguments),
-        82 => {
-            if arguments == 1 {
-                primitive_value_with(m, r)
-            } else {
-                Ok(Tried::Failed)
-            }
-        }
-        _ => Ok(Tried::Failed),
+        BlockPrimitive::BlockCopy => primitive_block_copy(m, r),
+        BlockPrimitive::Value => primitive_value(m, r, arguments),
+        BlockPrimitive::ValueWith => primitive_value_with(m, r),
     }
 }

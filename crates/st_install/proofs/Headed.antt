@@ -6,7 +6,8 @@ use Rattle.st_model.specs.Values.{value_of}
 use Rattle.st_model.specs.Formed.{literals_of}
 use Rattle.st_model.proofs.Words.{literals_of-value_of}
 use Rattle.st_scan.specs.Views.{MethodView}
-use Rattle.st_emit.specs.Bounds.{small_room}
+use Rattle.st_emit.specs.Bounds.{small_room, most_bytes}
+use Rattle.st_emit.specs.Steps.{size}
 use Rattle.st_emit.specs.Names.{NamesView, or_else}
 use Rattle.st_code.specs.declared.fault.Fault.{Fault}
 use Rattle.st_code.specs.declared.fault.Cause.{Cause}
@@ -82,9 +83,10 @@ count_in true f c l few = omega (arith, few)
 count_in false f c l few = omega (arith, few)
 
 module _ (tree : MethodView) (names : NamesView) where
-  record IsBounded : Type 0 where
-    literals_few : length (literals tree names) ≤ 63
-    variables_few : variables tree names ≤ 31
+  pub record IsBounded : Type 0 where
+    pub literals_few : length (literals tree names) ≤ 63
+    pub variables_few : variables tree names ≤ 31
+    pub bytes_few : length (literals tree names) * 2 + 2 + size (steps tree names) ≤ most_bytes
 
   bounded : fault tree names ≡ None → IsBounded
   bounded none =
@@ -93,9 +95,11 @@ module _ (tree : MethodView) (names : NamesView) where
       let bounds = (none_of (primitive_fault tree.primitive) (bounds_fault (length (literals tree names)) (variables tree names) (depth tree names) (steps tree names)) more).1 in
       let first = none_of _ _ bounds in
       let second = none_of _ _ first.1 in
+      let last = none_of _ _ (none_of _ _ second.1).1 in
       record {
         literals_few = at_most 63 (length (literals tree names)) (not_wrong _ _ first.0);
         variables_few = at_most 31 (variables tree names) (not_wrong _ _ second.0);
+        bytes_few = at_most most_bytes (length (literals tree names) * 2 + 2 + size (steps tree names)) (not_wrong _ _ last.1);
       }
 
   headed : (p : PartsView) → code tree names ≡ Ok p → IsBounded → parts tree names ≡ p → IsHeaded p
@@ -111,9 +115,13 @@ module _ (tree : MethodView) (names : NamesView) where
             (literals_of-value_of (header tree names) ∙ count_in room (flag tree names) (header_count tree names) (length (literals tree names)) h.literals_few);
       }
 
-  by_fault : (p : PartsView) (f : Option Fault) → fault tree names ≡ f → parts_or tree names f ≡ Ok p → code tree names ≡ Ok p → IsHeaded p
-  by_fault p None none e coded = let same : parts tree names ≡ p = cc in headed p coded (bounded none) same
-  by_fault p (Some g) none e coded = cc
+  by_fault : (p : PartsView) (f : Option Fault) → fault tree names ≡ f → parts_or tree names f ≡ Ok p → IsBounded × (parts tree names ≡ p)
+  by_fault p None none e = (bounded none, cc)
+  by_fault p (Some g) none e = cc
+
+  -- the code has the parts, in their bounds
+  pub code_bounded : (p : PartsView) → code tree names ≡ Ok p → IsBounded × (parts tree names ≡ p)
+  code_bounded p coded = by_fault p (fault tree names) refl coded
 
   pub code_headed : (p : PartsView) → code tree names ≡ Ok p → IsHeaded p
-  code_headed p coded = by_fault p (fault tree names) refl coded coded
+  code_headed p coded = let b = code_bounded p coded in headed p coded b.0 b.1

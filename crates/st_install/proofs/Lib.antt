@@ -72,3 +72,8 @@ pub mod Headed
 mod Rows
 pub mod Selectors
 pub mod Arities
+mod FitsLiterals
+mod FitsPhrases
+mod FitsNaming
+mod FitsPlans
+pub mod FitsLaw

@@ -14,3 +14,4 @@ pub mod PlanDrafts
 pub mod Unprepareds
 pub mod Prepareds
 pub mod Messages
+pub mod Fits

@@ -3,6 +3,8 @@
 ghost use Rattle.st_install.specs.inside.Same.{ClassShows, NamesShow, ReadyShows, InstallShows, InstallSettles};
 ghost use Rattle.st_install.specs.inside.Goes.{ReadyInstalls};
 ghost use Rattle.st_install.specs.inside.Gains.{Gains, GainsStay};
+ghost use Rattle.st_install.specs.inside.Fits.{TextsFit};
+ghost use Rattle.st_model.specs.{Table.table, Births.births};
 
 /// Where a table shows births, `class_of_name`, `names` and `ready` answer over it what they answer over the births, each
 /// object by its pointer, and change nothing. What is then installed in the table of a running machine is what is installed in
@@ -22,4 +24,11 @@ pub fn install_gains()
     ensures installs { ReadyInstalls }
     ensures gains { Gains }
     ensures stay { GainsStay }
+{}
+
+/// No text that a definition may have comes to an object of more than 65,535 words: neither the Symbols that its method names, nor the
+/// objects of its literals, nor the method.
+pub fn texts_fit()
+    ensures table { TextsFit table }
+    ensures births { TextsFit births }
 {}

@@ -30,7 +30,7 @@ mod unprepared;
 pub use defining::{carry_out, define};
 pub use definition_laws::special_messages;
 pub use installing::install;
-pub use laws::{install_gains, install_shows_births};
+pub use laws::{install_gains, install_shows_births, texts_fit};
 pub use plan::Ready;
 pub use preparing::{Prepared, prepare};
 pub use readiness::ready;

@@ -8,8 +8,7 @@ use Rattle.st_model.specs.Values.{Value, Small, Ref}
 use Rattle.st_model.specs.Objects.{Object, nil}
 use Rattle.st_model.specs.Machine.{State, Registers, Transition, Died, Went, empty_world}
 use Rattle.st_model.specs.Table.{Table, table}
-use Rattle.st_model.specs.Blocks.{blocks}
-use Rattle.st_model.proofs.Opened.{opened}
+use Rattle.st_model.proofs.Opened.{opened, tries}
 use Rattle.st_model.proofs.StorageRows.{pointers}
 
 unfoldable words : ℕ → Option Object
@@ -58,7 +57,7 @@ before ip stack others = state (in_method ip (length stack)) (objects None (meth
 -- primitive k with n arguments, where these words are the stack
 unfoldable trying : ℕ → ℕ → ℤ → List Value → List (Option Object) → Transition (State Table) Bool
 unfolding before
-trying k n ip stack others = (blocks table k n).run (before ip stack others)
+trying k n ip stack others = (tries table k n).run (before ip stack others)
 
 -- it fails, and nothing is changed
 abbrev Fails : ℕ → ℕ → ℤ → List Value → List (Option Object) → Type 0
@@ -133,7 +132,7 @@ unfolding opened trying before state in_method objects method_context block_cont
 valued_in_itself = refl
 
 -- the value of the active block: it is its own caller, and goes on where it was, since its stored pointers are stored last
-valued_again : (blocks table 81 0).run (state (in_block (Ref 31) (pos 9) 2) (objects None (method_context 0 0 []) (block_context nil nil nil (Small 0) (Small 7) (Ref 30) (nil ∷ Ref 31 ∷ []) ∷ [])))
+valued_again : (tries table 81 0).run (state (in_block (Ref 31) (pos 9) 2) (objects None (method_context 0 0 []) (block_context nil nil nil (Small 0) (Small 7) (Ref 30) (nil ∷ Ref 31 ∷ []) ∷ [])))
     ≡ Went true (state (in_block (Ref 31) (pos 9) 1) (objects None (method_context 0 0 []) (block_context (Ref 31) (Small 10) (Small 1) (Small 0) (Small 7) (Ref 30) (nil ∷ Ref 31 ∷ []) ∷ [])))
 unfolding opened state in_block objects method_context block_context pointers
 valued_again = refl

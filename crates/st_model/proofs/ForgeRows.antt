@@ -7,8 +7,7 @@ use Rattle.st_model.specs.Values.{Small, Ref}
 use Rattle.st_model.specs.Machine.{Died, ◌>>=◌}
 use Rattle.st_model.specs.Table.{table}
 use Rattle.st_model.specs.Lookup.{find}
-use Rattle.st_model.specs.Storage.{storage}
-use Rattle.st_model.proofs.Opened.{opened}
+use Rattle.st_model.proofs.Opened.{opened, tries}
 use Rattle.st_model.proofs.StorageRows.{pointers, bytes, method, string, class, objects, state, trying, failed, Fails}
 
 -- a method without literals, whose one byte has the index 3: its header has 1 and 2
@@ -22,6 +21,6 @@ unfolding opened trying failed state objects method pointers class
 outside = (refl, refl, refl, refl, refl, refl)
 
 -- the class 31 becomes the String 32, and then a message to an instance of it is sought
-class_gone : (storage table 72 1 >>= (λ done. find table (Ref 31) (Ref 2))).run (state 2 (objects None (Ref 31 ∷ Ref 32 ∷ []) (class 16386 ∷ string (1 ∷ []) ∷ []))) ≡ Died dead.Kind
+class_gone : (tries table 72 1 >>= (λ done. find table (Ref 31) (Ref 2))).run (state 2 (objects None (Ref 31 ∷ Ref 32 ∷ []) (class 16386 ∷ string (1 ∷ []) ∷ []))) ≡ Died dead.Kind
 unfolding opened state objects string bytes pointers class
 class_gone = refl

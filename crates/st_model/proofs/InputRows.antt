@@ -6,8 +6,7 @@ use Rattle.st_model.specs.Values.{Value, Small, Ref}
 use Rattle.st_model.specs.Objects.{Object, nil}
 use Rattle.st_model.specs.Machine.{State, World, Devices, Transition, Went, empty_world}
 use Rattle.st_model.specs.Table.{Table, table}
-use Rattle.st_model.specs.Input.{input}
-use Rattle.st_model.proofs.Opened.{opened}
+use Rattle.st_model.proofs.Opened.{opened, tries}
 use Rattle.st_model.proofs.StorageRows.{pointers, words, bytes, method, large, string}
 
 -- an object of kind Pointers
@@ -34,7 +33,7 @@ state depth w t = record {
 -- primitive k with n arguments in this world, where these words are the stack
 unfoldable trying : ℕ → ℕ → World → List Value → List (Option Object) → Transition (State Table) Bool
 unfolding state objects
-trying k n w stack others = (input table k n).run (state (length stack) w (objects [] None stack others))
+trying k n w stack others = (tries table k n).run (state (length stack) w (objects [] None stack others))
 
 -- it succeeded: one word is left, the answer
 unfoldable done : World → List Value → List (Option Object) → Transition (State Table) Bool
@@ -280,7 +279,7 @@ low_spaces = (refl, refl, refl, refl, refl, refl, refl, refl, refl, refl)
 -- in this world, where nil has three fields
 unfoldable trying_nil : ℕ → ℕ → World → List Value → List (Option Object) → Transition (State Table) Bool
 unfolding state objects
-trying_nil k n w stack others = (input table k n).run (state (length stack) w (objects (nil ∷ nil ∷ Small 0 ∷ []) None stack others))
+trying_nil k n w stack others = (tries table k n).run (state (length stack) w (objects (nil ∷ nil ∷ Small 0 ∷ []) None stack others))
 
 unfoldable done_nil : World → List Value → List (Option Object) → Transition (State Table) Bool
 unfolding state objects
@@ -301,12 +300,3 @@ nil_held : (trying_nil 93 1 (with (record quiet.devices { input_semaphore = Ref 
     ≡ done_nil (low nil 3 4) (nil ∷ nil ∷ Small 3 ∷ Small 4 ∷ []) (semaphore ∷ []))
 unfolding opened trying done made state objects quiet mouse awaiting clocks with timed low semaphore short object words method large string bytes pointers trying_nil done_nil
 nil_held = (refl, refl, refl, refl, refl, refl)
-
--- No other number is one of these.
-others : Fails 89 0 quiet (nil ∷ []) []
-    × Fails 96 0 quiet (nil ∷ []) []
-    × Fails 97 0 quiet (nil ∷ []) []
-    × Fails 103 0 quiet (nil ∷ []) []
-    × Fails 115 0 quiet (nil ∷ []) []
-unfolding opened trying done made state objects quiet mouse awaiting clocks with timed low semaphore short object words method large string bytes pointers
-others = (refl, refl, refl, refl, refl)

@@ -32,6 +32,7 @@ mod ImageRows
 mod OperationRows
 mod DecodedRows
 mod CodeTable
+mod PrimitiveRows
 mod IntegerRows
 mod Floors
 pub mod Opened

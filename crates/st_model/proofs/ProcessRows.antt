@@ -8,8 +8,8 @@ use Rattle.st_model.specs.Values.{Value, Small, Ref}
 use Rattle.st_model.specs.Objects.{Object, nil}
 use Rattle.st_model.specs.Machine.{State, Registers, World, Transition, Died, Went, empty_world}
 use Rattle.st_model.specs.Table.{Table, table}
-use Rattle.st_model.specs.Processes.{add_last, take_first, sleep, resume, signal, suspend, switch_to_process, processes}
-use Rattle.st_model.proofs.Opened.{opened}
+use Rattle.st_model.specs.Processes.{add_last, take_first, sleep, resume, signal, suspend, switch_to_process}
+use Rattle.st_model.proofs.Opened.{opened, tries}
 
 -- an object of kind Pointers
 unfoldable object : List Value → Option Object
@@ -295,7 +295,7 @@ not_switched = (refl, refl, refl, refl, refl)
 -- primitive k with n arguments, where these words are the stack
 unfoldable trying : ℕ → ℕ → List Value → (List Value → Table) → Transition (State Table) Bool
 unfolding state deep
-trying k n stack t = (processes table k n).run (deep (length stack) nil (t stack))
+trying k n stack t = (tries table k n).run (deep (length stack) nil (t stack))
 
 -- it succeeded: one word is left, the answer, and this process waits
 unfoldable done : Value → List Value → (List Value → Table) → Transition (State Table) Bool
@@ -373,7 +373,7 @@ suspend_rows = (refl, refl, refl, refl, refl, refl)
 -- primitive k with no argument, where this process waits to be switched to
 unfoldable trying_new : ℕ → Value → List Value → (List Value → Table) → Transition (State Table) Bool
 unfolding deep
-trying_new k p stack t = (processes table k 0).run (deep (length stack) p (t stack))
+trying_new k p stack t = (tries table k 0).run (deep (length stack) p (t stack))
 
 -- Where a process waits to be switched to, that one is added to the semaphore, and that one is suspended.
 new_rows : (trying_new 86 (Ref 11) (Ref 9 ∷ []) (objects (list_of (Ref 12) (Ref 12)) empty idle (alone 1) (alone 1) (process nil (Small 1) (Ref 7)))
@@ -384,9 +384,3 @@ new_rows : (trying_new 86 (Ref 11) (Ref 9 ∷ []) (objects (list_of (Ref 12) (Re
     ≡ Went false (deep 1 (Ref 11) ((objects (list_of (Ref 12) (Ref 12)) empty idle (alone 1) (alone 1) (process nil (Small 1) (Ref 7))) (Ref 10 ∷ []))))
 unfolding opened trying done state deep waits objects unscheduled alone empty idle list_of semaphore process object bytes trying_new
 new_rows = (refl, refl, refl)
-
--- No other number is one of these.
-others : Fails 84 0 (Ref 9 ∷ []) (objects empty empty idle (alone 1) (alone 1) (alone 1))
-    × Fails 89 0 (Ref 9 ∷ []) (objects empty empty idle (alone 1) (alone 1) (alone 1))
-unfolding opened trying done state deep waits objects unscheduled alone empty idle list_of semaphore process object bytes
-others = (refl, refl)

@@ -1,64 +1,23 @@
 -- More worked rows of the primitives on objects: each once as a method of its number is executed, further bounds at which one
 -- fails, and what is said of a String.
-use Rattle.std.proofs.Common.{◌≡◌, ℕ, List, [], ◌∷◌, None, Some, Option, Bool, true, false, refl}
+use Rattle.std.proofs.Common.{◌≡◌, ℕ, List, [], ◌∷◌, None, Some, Option, true, refl}
 use Rattle.std.specs.Prelude.{codes, length}
 use Rattle.st_model.specs.declared.kind.Kind.TheVariants as kind
-use Rattle.st_model.specs.declared.dead.Dead.TheVariants as dead
 use Rattle.st_model.specs.Values.{Value, Small, Ref}
 use Rattle.st_model.specs.Objects.{Object, nil}
-use Rattle.st_model.specs.Machine.{State, Transition, Died, Went}
+use Rattle.st_model.specs.Machine.{State, Transition, Went}
 use Rattle.st_model.specs.Outcomes.{Outcome}
 use Rattle.st_model.specs.Outcomes as outcome
 use Rattle.st_model.specs.Table.{Table, table}
-use Rattle.st_model.specs.Storage.{storage}
 use Rattle.st_model.specs.Executing.{respond}
 use Rattle.st_model.specs.Text.{escaped, said_text}
-use Rattle.st_model.proofs.Opened.{opened}
+use Rattle.st_model.proofs.Opened.{opened, tries}
 use Rattle.st_model.proofs.StorageRows.{pointers, words, bytes, method, large, string, array, class, objects, state, holding, trying, done, made, failed, Fails, stream}
 
 -- this primitive is called with n arguments, where these words are the stack
 executing : ℕ → ℕ → List Value → List (Option Object) → Transition (State Table) (Option Outcome)
 unfolding state objects
 executing k n stack others = (respond table k n).run (state (length stack) (objects None stack others))
-
--- what a trial that succeeded is to a step; one that failed is none
-succeeded : Transition (State Table) Bool → Transition (State Table) (Option Outcome)
-succeeded (Died cause) = Died cause
-succeeded (Went true s) = Went (Some outcome.Went) s
-succeeded (Went false s) = Died dead.Code
-
-abbrev Executes : ℕ → ℕ → List Value → List (Option Object) → Type 0
-Executes k n stack others = executing k n stack others ≡ succeeded (trying k n stack others)
-
--- each number is tried, and here succeeds
-elements : Executes 60 1 (Ref 31 ∷ Small 1 ∷ []) (array (Small 9 ∷ []) ∷ [])
-    × Executes 61 2 (Ref 31 ∷ Small 1 ∷ nil ∷ []) (array (Small 9 ∷ []) ∷ [])
-    × Executes 62 0 (Ref 31 ∷ []) (array [] ∷ [])
-    × Executes 63 1 (Ref 31 ∷ Small 1 ∷ []) (string (1 ∷ []) ∷ [])
-    × Executes 64 2 (Ref 31 ∷ Small 1 ∷ Ref 32 ∷ []) (string (7 ∷ []) ∷ pointers 20 (Small 255 ∷ []) ∷ [])
-    × Executes 65 0 (Ref 31 ∷ []) (stream 0 1 0 ∷ array (nil ∷ []) ∷ [])
-    × Executes 66 1 (Ref 31 ∷ nil ∷ []) (stream 0 0 1 ∷ array (nil ∷ []) ∷ [])
-    × Executes 67 0 (Ref 31 ∷ []) (stream 0 0 0 ∷ array [] ∷ [])
-    × Executes 68 1 (Ref 31 ∷ Small 1 ∷ []) (method (Small 0 ∷ []) [] ∷ [])
-    × Executes 69 2 (Ref 31 ∷ Small 1 ∷ Small 0 ∷ []) (method (Small 0 ∷ []) [] ∷ [])
-unfolding opened executing succeeded trying state objects array string method stream pointers class bytes
-elements = (refl, refl, refl, refl, refl, refl, refl, refl, refl, refl)
-
-others : Executes 70 0 (Ref 31 ∷ []) (class 16386 ∷ [])
-    × Executes 71 1 (Ref 29 ∷ Small 1 ∷ []) []
-    × Executes 72 1 (Ref 31 ∷ Ref 32 ∷ []) (array [] ∷ string [] ∷ [])
-    × Executes 73 1 (Ref 31 ∷ Small 1 ∷ []) (array (nil ∷ []) ∷ [])
-    × Executes 74 2 (Ref 31 ∷ Small 1 ∷ nil ∷ []) (array (Small 9 ∷ []) ∷ [])
-    × Executes 75 0 (Ref 31 ∷ []) (array [] ∷ [])
-    × Executes 76 0 (Small 31 ∷ []) (array [] ∷ [])
-    × Executes 77 0 (Ref 8 ∷ []) (array [] ∷ [])
-    × Executes 78 0 (Ref 31 ∷ []) (array [] ∷ array [] ∷ [])
-    × Executes 79 2 (Ref 17 ∷ Small 3 ∷ Small 129 ∷ []) []
-    × Executes 105 4 (Ref 31 ∷ Small 1 ∷ Small 1 ∷ Ref 31 ∷ Small 1 ∷ []) (string (1 ∷ []) ∷ [])
-    × Executes 112 0 (nil ∷ []) []
-    × Executes 115 0 (nil ∷ []) []
-unfolding opened executing succeeded trying state objects array string pointers class bytes
-others = (refl, refl, refl, refl, refl, refl, refl, refl, refl, refl, refl, refl, refl)
 
 -- 128 of a String; with an argument, and of an Array, it fails, as 0 does
 says : (executing 128 0 (Ref 31 ∷ []) (string (65 ∷ []) ∷ []) ≡ Went (Some (outcome.Say (Ref 31))) (state 1 (objects None (Ref 31 ∷ []) (string (65 ∷ []) ∷ []))))
@@ -169,7 +128,7 @@ unfolding opened trying failed state objects string large pointers class bytes
 small_alone = (refl, refl, refl, refl)
 
 -- 112 with 65593 words, of which 57 are used: a number of three bytes
-wide_left : (storage table 112 0).run (holding 100 65593 (state 1 (objects None (nil ∷ []) []))) ≡ Went true (holding 100 65593 (state 1 (objects (large (0 ∷ 0 ∷ 1 ∷ [])) (Ref 5 ∷ []) [])))
+wide_left : (tries table 112 0).run (holding 100 65593 (state 1 (objects None (nil ∷ []) []))) ≡ Went true (holding 100 65593 (state 1 (objects (large (0 ∷ 0 ∷ 1 ∷ [])) (Ref 5 ∷ []) [])))
 unfolding opened holding state objects large bytes pointers class
 wide_left = refl
 

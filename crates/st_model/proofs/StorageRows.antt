@@ -9,8 +9,8 @@ use Rattle.st_model.specs.Objects.{Object, nil}
 use Rattle.st_model.specs.Machine.{State, Transition, Died, Went, empty_world}
 use Rattle.st_model.specs.Table.{Table, table}
 use Rattle.st_model.specs.Births.{Birth, Births, births}
-use Rattle.st_model.specs.Storage.{storage, primitive_say}
-use Rattle.st_model.proofs.Opened.{opened}
+use Rattle.st_model.specs.Storage.{primitive_say}
+use Rattle.st_model.proofs.Opened.{opened, tries}
 
 -- an object of kind Pointers, by half the pointer of its class
 unfoldable pub pointers : ℕ → List Value → Option Object
@@ -70,7 +70,7 @@ holding entries words s = record s { head = record { entries = entries; words = 
 -- primitive k with n arguments, where these words are the stack
 unfoldable pub trying : ℕ → ℕ → List Value → List (Option Object) → Transition (State Table) Bool
 unfolding state objects
-trying k n stack others = (storage table k n).run (state (length stack) (objects None stack others))
+trying k n stack others = (tries table k n).run (state (length stack) (objects None stack others))
 
 -- it succeeded: one word is left, the answer
 unfoldable pub done : List Value → List (Option Object) → Transition (State Table) Bool
@@ -395,13 +395,13 @@ born v = record {
 }
 
 -- 75 to 78 go by the pointers of the kept ones, and by no birth number
-by_pointers : ((storage births 75 0).run (born (Ref 1)) ≡ Went true (born (Small 40)))
-    × ((storage births 76 0).run (born (Small 35)) ≡ Went true (born (Ref 2)))
-    × ((storage births 76 0).run (born (Small 32)) ≡ Went false (born (Small 32)))
-    × ((storage births 77 0).run (born (Ref 3)) ≡ Went true (born (Ref 2)))
-    × ((storage births 78 0).run (born (Ref 2)) ≡ Went true (born (Ref 1)))
-    × ((storage births 78 0).run (born (Ref 1)) ≡ Went true (born (Ref 5)))
-    × ((storage births 78 0).run (born (Ref 5)) ≡ Went false (born (Ref 5)))
+by_pointers : ((tries births 75 0).run (born (Ref 1)) ≡ Went true (born (Small 40)))
+    × ((tries births 76 0).run (born (Small 35)) ≡ Went true (born (Ref 2)))
+    × ((tries births 76 0).run (born (Small 32)) ≡ Went false (born (Small 32)))
+    × ((tries births 77 0).run (born (Ref 3)) ≡ Went true (born (Ref 2)))
+    × ((tries births 78 0).run (born (Ref 2)) ≡ Went true (born (Ref 1)))
+    × ((tries births 78 0).run (born (Ref 1)) ≡ Went true (born (Ref 5)))
+    × ((tries births 78 0).run (born (Ref 5)) ≡ Went false (born (Ref 5)))
 unfolding opened born birth
 by_pointers = (refl, refl, refl, refl, refl, refl, refl)
 
@@ -442,9 +442,9 @@ unfolding opened trying done state objects pointers class
 left = (refl, refl)
 
 -- with 20057 words, or 20018 entries, as many are free as before the new number of two bytes
-left_before : ((storage table 112 0).run (holding 100 20057 (state 1 (objects None (nil ∷ []) [])))
+left_before : ((tries table 112 0).run (holding 100 20057 (state 1 (objects None (nil ∷ []) [])))
     ≡ Went true (holding 100 20057 (state 1 (objects (large (32 ∷ 78 ∷ [])) (Ref 5 ∷ []) []))))
-    × ((storage table 115 0).run (holding 20018 20057 (state 1 (objects None (nil ∷ []) [])))
+    × ((tries table 115 0).run (holding 20018 20057 (state 1 (objects None (nil ∷ []) [])))
     ≡ Went true (holding 20018 20057 (state 1 (objects (large (32 ∷ 78 ∷ [])) (Ref 5 ∷ []) []))))
 unfolding opened holding state objects large bytes pointers class
 left_before = (refl, refl)

@@ -1,21 +1,19 @@
 -- Blocks (chapter 29, control primitives): a block is made, and its value is computed.
-use Rattle.std.specs.Prelude.{ℕ, ◌+◌, ◌-◌, ◌==◌, ◌||◌, ◌&&◌, Option, Some, None, Bool, true, false, nat_le, if◌then◌else◌, ℤ, pos, ◌+ℤ◌, int_le}
+use Rattle.std.specs.Prelude.{ℕ, ◌+◌, ◌-◌, ◌==◌, ◌||◌, Option, Some, None, Bool, true, false, nat_le, ℤ, pos, ◌+ℤ◌, int_le}
 use Rattle.st_model.specs.declared.dead.Dead.TheVariants as dead
+use Rattle.st_model.specs.declared.primitive.BlockPrimitive.{BlockPrimitive}
+use Rattle.st_model.specs.declared.primitive.BlockPrimitive.TheVariants as named
 use Rattle.st_model.specs.Values.{Value, Small, small_integer}
 use Rattle.st_model.specs.Objects.{MethodContextClass, BlockContextClass, ArrayClass}
 use Rattle.st_model.specs.Machine.{ObjectMemory, Step, answer, tried, ◌>>=◌, ◌>>◌}
 use Rattle.st_model.specs.Steps.{of_page, class_of, same_value, check, new_object, count_fields, fetch_field, store_field, fetch_integer, transfer, get_active, get_ip, get_sp, top, under, drop_words}
 use Rattle.st_model.specs.Contexts.{home_of, switch}
-use Rattle.st_model.specs.Primitives.{of_one, taking, check_class, positive_small}
+use Rattle.st_model.specs.Primitives.{of_one, check_class, positive_small}
 
 -- a block that takes as many arguments as an Array has fields
 pub record Passing : Type 0 where
   pub count : ℕ
   pub first : ℤ
-
--- the numbers of the primitives below
-abbrev pub is_block : ℕ → Bool
-is_block k = nat_le 80 k && nat_le k 82
 
 module _ {H : Type 0} (m : ObjectMemory H) where
   -- an instance of MethodContext or BlockContext
@@ -130,9 +128,8 @@ module _ {H : Type 0} (m : ObjectMemory H) where
     p ← tried (passing r a)
     value_with_if_any r a p
 
-  -- the primitives of this file by their numbers, each with its number of arguments; 81 takes any
-  unfoldable pub blocks : ℕ → ℕ → Step H Bool
-  blocks k n =
-      if k == 80 then taking 1 n primitive_block_copy else
-      if k == 81 then primitive_value n else
-      if k == 82 then taking 1 n primitive_value_with else answer false
+  -- the primitives of this file, with n arguments
+  unfoldable pub blocks : ℕ → BlockPrimitive → Step H Bool
+  blocks n named.BlockCopy = primitive_block_copy
+  blocks n named.Value = primitive_value n
+  blocks n named.ValueWith = primitive_value_with

@@ -1,6 +1,9 @@
 -- What executes a method that was called (chapter 28), by its primitive where it has one.
-use Rattle.std.specs.Prelude.{ℕ, zero, suc, ◌+◌, ◌-◌, ◌==◌, Option, Some, None, Bool, true, false, ◌&&◌, nat_lt, nat_le, if◌then◌else◌}
+use Rattle.std.specs.Prelude.{ℕ, ◌+◌, ◌-◌, ◌==◌, Option, Some, None, Bool, true, nat_lt, nat_le, if◌then◌else◌}
 use Rattle.st_model.specs.declared.dead.Dead.TheVariants as dead
+use Rattle.st_model.specs.declared.primitive.Primitive.{Primitive}
+use Rattle.st_model.specs.declared.primitive.Primitive.TheVariants as named
+use Rattle.st_model.specs.PrimitiveTable.{primitive_of}
 use Rattle.st_model.specs.Values.{Value}
 use Rattle.st_model.specs.Objects.{ArrayClass}
 use Rattle.st_model.specs.Machine.{ObjectMemory, Step, answer, tried, ◌>>=◌, ◌>>◌}
@@ -13,10 +16,10 @@ use Rattle.st_model.specs.Lookup.{find}
 use Rattle.st_model.specs.Sends.{Call, not_understood}
 use Rattle.st_model.specs.Primitives.{answer_with, check_class}
 use Rattle.st_model.specs.Arithmetic.{arithmetic, large_arithmetic, shift_large, equivalence, receiver_class, flush_cache}
-use Rattle.st_model.specs.Storage.{primitive_say, storage, is_storage}
-use Rattle.st_model.specs.Blocks.{blocks, is_block}
-use Rattle.st_model.specs.Processes.{processes, is_process}
-use Rattle.st_model.specs.Input.{input, is_input}
+use Rattle.st_model.specs.Storage.{primitive_say, storage}
+use Rattle.st_model.specs.Blocks.{blocks}
+use Rattle.st_model.specs.Processes.{processes}
+use Rattle.st_model.specs.Input.{input}
 
 -- a step that goes on
 unfoldable pub goes_on : {H : Type 0} → Step H Unit → Step H Outcome
@@ -34,9 +37,6 @@ succeeds m = do
   o ← m
   answer (Some o)
 
-abbrev pub is_from : ℕ → ℕ → ℕ → Bool
-is_from first last n = nat_le first n && nat_le n last
-
 module _ {H : Type 0} (m : ObjectMemory H) where
   -- 128: the receiver's bytes are to be said
   unfoldable pub says : Step H (Option Outcome)
@@ -51,37 +51,34 @@ module _ {H : Type 0} (m : ObjectMemory H) where
     answer_with m 0 r
     answer o
 
-  -- Those that ask for something. All numbers that no primitive has always fail: among them 0, which is none, and 40 to 54, 103
-  -- and 104, which the book has for floating-point and large numbers, the scanning of characters and lines.
-  unfoldable pub respond_last : ℕ → ℕ → Step H (Option Outcome)
-  respond_last primitive n =
-      if primitive == 128 && n == 0 then says else
-      if primitive == 97 && n == 0 then succeeds (asks outcome.Snapshot) else
-      if primitive == 113 && n == 0 then succeeds (asks outcome.Quit) else
-      if primitive == 114 && n == 0 then succeeds (asks outcome.Debugger) else answer None
+  -- What a primitive does with n arguments: how it ends, or none if it fails. 83 and 84 fail here, as of what is performed.
+  unfoldable pub respond_by : ℕ → Primitive → Step H (Option Outcome)
+  respond_by n (named.Arithmetic k) = if_done outcome.Went (arithmetic m k)
+  respond_by n (named.LargeArithmetic k) = if_done outcome.Went (large_arithmetic m k)
+  respond_by n named.LargeBitShift = if_done outcome.Went (shift_large m)
+  respond_by n (named.Storage p) = if_done outcome.Went (storage m p)
+  respond_by n (named.Blocks p) = if_done outcome.Went (blocks m n p)
+  respond_by n named.Perform = answer None
+  respond_by n named.PerformWith = answer None
+  respond_by n (named.Processes p) = if_done outcome.Went (processes m p)
+  respond_by n named.FlushCache = succeeds (goes_on (flush_cache m n))
+  respond_by n (named.Input p) = if_done outcome.Went (input m p)
+  respond_by n named.Snapshot = succeeds (asks outcome.Snapshot)
+  respond_by n named.Equivalent = succeeds (goes_on (equivalence m))
+  respond_by n named.Class = succeeds (goes_on (receiver_class m))
+  respond_by n named.Quit = succeeds (asks outcome.Quit)
+  respond_by n named.ExitToDebugger = succeeds (asks outcome.Debugger)
+  respond_by n named.Say = says
 
-  -- those on objects, blocks, processes and devices
-  unfoldable pub respond_on_objects : ℕ → ℕ → Step H (Option Outcome)
-  respond_on_objects primitive n =
-      if is_storage primitive then if_done outcome.Went (storage m primitive n) else
-      if is_block primitive then if_done outcome.Went (blocks m primitive n) else
-      if is_process primitive then if_done outcome.Went (processes m primitive n) else
-      if is_input primitive then if_done outcome.Went (input m primitive n) else respond_last primitive n
+  -- so a primitive responds, and none fails
+  unfoldable pub respond_if_any : (Primitive → Step H (Option Outcome)) → Option Primitive → Step H (Option Outcome)
+  respond_if_any responds None = answer None
+  respond_if_any responds (Some p) = responds p
 
-  -- those that any receiver has
-  unfoldable pub respond_always : ℕ → ℕ → Step H (Option Outcome)
-  respond_always primitive n =
-      if primitive == 89 then succeeds (goes_on (flush_cache m n)) else
-      if primitive == 110 && n == 1 then succeeds (goes_on (equivalence m)) else
-      if primitive == 111 && n == 0 then succeeds (goes_on (receiver_class m)) else respond_on_objects primitive n
-
-  -- The primitive of this number with n arguments: how it ends, or none where it fails. One that is given another number of
-  -- arguments than its own fails, but 81 and 89 take any number. 83 and 84 fail here, as of what is performed.
+  -- The primitive of this number with n arguments. It fails if the table has none, as for 0, which is no primitive, and 40 to 54, 103
+  -- and 104, which the book has for floating-point numbers, the scanning of characters and lines.
   unfoldable pub respond : ℕ → ℕ → Step H (Option Outcome)
-  respond primitive n =
-      if is_from 1 18 primitive && n == 1 then if_done outcome.Went (arithmetic m primitive) else
-      if is_from 21 36 primitive && n == 1 then if_done outcome.Went (large_arithmetic m primitive) else
-      if primitive == 37 && n == 1 then if_done outcome.Went (shift_large m) else respond_always primitive n
+  respond primitive n = respond_if_any (respond_by n) (primitive_of primitive n)
 
   -- a field of the word at the top takes its place
   unfoldable pub answer_field : ℕ → Step H Unit
@@ -190,11 +187,15 @@ module _ {H : Type 0} (m : ObjectMemory H) where
     n ← tried (spreading b)
     perform_fields r a b n
 
-  -- the primitive of this number, which may be 83 or 84
+  -- what a primitive does with n arguments, which may be 83 or 84
+  unfoldable pub perform_by : ℕ → Primitive → Step H (Option Outcome)
+  perform_by n named.Perform = primitive_perform (n - 1)
+  perform_by n named.PerformWith = primitive_perform_with
+  perform_by n p = respond_by n p
+
+  -- the primitive of this number with n arguments, which may be 83 or 84
   unfoldable pub respond_or_perform : ℕ → ℕ → Step H (Option Outcome)
-  respond_or_perform primitive n =
-      if primitive == 83 && nat_lt 0 n then primitive_perform (n - 1) else
-      if primitive == 84 && n == 2 then primitive_perform_with else respond primitive n
+  respond_or_perform primitive n = respond_if_any (perform_by n) (primitive_of primitive n)
 
   -- the method is executed
   unfoldable pub execute : Call → Step H Outcome

@@ -1,14 +1,16 @@
 -- The primitives of the input and output devices and of the clocks (chapter 29).
-use Rattle.std.specs.Prelude.{ℕ, ◌/◌, ◌%◌, ◌==◌, ◌&&◌, ◌||◌, List, [], ◌∷◌, length, Bool, false, nat_lt, nat_le, if◌then◌else◌, pos}
+use Rattle.std.specs.Prelude.{ℕ, ◌/◌, ◌%◌, ◌&&◌, ◌||◌, List, [], ◌∷◌, length, Bool, false, nat_lt, nat_le, if◌then◌else◌, pos}
 use Rattle.st_model.specs.declared.dead.Dead.TheVariants as dead
 use Rattle.st_model.specs.declared.device.Device.{Device}
 use Rattle.st_model.specs.declared.device.Device.TheVariants as device
+use Rattle.st_model.specs.declared.primitive.InputPrimitive.{InputPrimitive}
+use Rattle.st_model.specs.declared.primitive.InputPrimitive.TheVariants as named
 use Rattle.st_model.specs.Values.{Value, Small, Ref}
 use Rattle.st_model.specs.Objects.{NilObject, FalseObject, TrueObject, is_pointers}
 use Rattle.st_model.specs.Surroundings.{Hold, AddSignal, SetDue, SetLow, MoveMouse, TakeWord}
 use Rattle.st_model.specs.Machine.{ObjectMemory, Step, answer, ◌>>=◌, ◌>>◌}
 use Rattle.st_model.specs.Steps.{of_page, same_value, check, or_die, object, fetch_size, fetch_field, fetch_bytes, store_bytes, count_signals, oldest_word, get_mouse_x, get_mouse_y, get_second_clock, get_millisecond_clock, change_world, top, under}
-use Rattle.st_model.specs.Primitives.{primitive, of_receiver, of_one, of_two, taking, check_bytes, bits_or_die, positive_small, positive_value, number_of_bytes, number}
+use Rattle.st_model.specs.Primitives.{primitive, of_receiver, of_one, of_two, check_bytes, bits_or_die, positive_small, positive_value, number_of_bytes, number}
 use Rattle.st_model.specs.Arithmetic.{new_point}
 use Rattle.st_model.specs.Processes.{check_fields}
 
@@ -50,10 +52,6 @@ ring_or_wait time = do
 pub record Low : Type 0 where
   pub entries : ℕ
   pub words : ℕ
-
--- the numbers of the primitives below
-abbrev pub is_input : ℕ → Bool
-is_input k = (nat_le 90 k && nat_le k 95) || (nat_le 98 k && nat_le k 102) || (k == 116)
 
 module _ {H : Type 0} (m : ObjectMemory H) where
   unfoldable pub mouse_point : Step H Value
@@ -204,18 +202,17 @@ module _ {H : Type 0} (m : ObjectMemory H) where
     c ← top m
     primitive m 3 (low_space a b c) (λ low. set_low_space a low r)
 
-  -- the primitives of this file by their numbers, each with its number of arguments
-  unfoldable pub input : ℕ → ℕ → Step H Bool
-  input k n =
-      if k == 90 then taking 0 n primitive_mouse_point else
-      if k == 91 then taking 1 n primitive_move_mouse else
-      if k == 92 then taking 1 n primitive_link_cursor else
-      if k == 93 then taking 1 n primitive_input_semaphore else
-      if k == 94 then taking 1 n primitive_sample_interval else
-      if k == 95 then taking 0 n primitive_input_word else
-      if k == 98 then taking 1 n primitive_second_clock else
-      if k == 99 then taking 1 n primitive_millisecond_clock else
-      if k == 100 then taking 2 n primitive_timer else
-      if k == 101 then taking 0 n primitive_be_cursor else
-      if k == 102 then taking 0 n primitive_be_display else
-      if k == 116 then taking 3 n primitive_low_space else answer false
+  -- the primitives of this file
+  unfoldable pub input : InputPrimitive → Step H Bool
+  input named.MousePoint = primitive_mouse_point
+  input named.MoveMouse = primitive_move_mouse
+  input named.LinkCursor = primitive_link_cursor
+  input named.InputSemaphore = primitive_input_semaphore
+  input named.SampleInterval = primitive_sample_interval
+  input named.InputWord = primitive_input_word
+  input named.SecondClock = primitive_second_clock
+  input named.MillisecondClock = primitive_millisecond_clock
+  input named.Timer = primitive_timer
+  input named.BeCursor = primitive_be_cursor
+  input named.BeDisplay = primitive_be_display
+  input named.LowSpace = primitive_low_space

@@ -4,6 +4,7 @@ pub mod Values
 pub mod Objects
 pub mod Deaths
 pub mod Decoded
+pub mod PrimitiveTable
 pub mod Machine
 pub mod Surroundings
 pub mod Outcomes

@@ -7,10 +7,6 @@ use Rattle.st_model.specs.Objects.{PageObject, FalseObject, TrueObject, LargeCla
 use Rattle.st_model.specs.Machine.{ObjectMemory, Step, answer, die, tried, ◌>>=◌, ◌>>◌}
 use Rattle.st_model.specs.Steps.{of_page, class_of, same_value, check, fetch_kind, fetch_size, fetch_field, fetch_bytes, store_bytes, make, push, pop, top, under}
 
--- a primitive that is tried with this number of arguments alone, and fails with any other
-unfoldable pub taking : {H : Type 0} → ℕ → ℕ → Step H Bool → Step H Bool
-taking n arguments m = if arguments == n then m else answer false
-
 -- the 15 bits of a SmallInteger
 unfoldable pub bits_or_die : {H : Type 0} → Value → Step H ℕ
 bits_or_die (Small n) = answer n

@@ -4,25 +4,23 @@
 -- suspended context in field 1, its priority in field 2, and the list that it is in in field 3. A semaphore is a list, with its
 -- excess signals in field 2. The scheduler has the lists of those that are ready, by priority, in field 0, and the active
 -- process in field 1.
-use Rattle.std.specs.Prelude.{ℕ, zero, suc, ◌==◌, ◌&&◌, Bool, true, false, nat_le, if◌then◌else◌, ℤ, pos, ◌+ℤ◌, int_lt, int_le}
+use Rattle.std.specs.Prelude.{ℕ, zero, suc, Bool, true, false, nat_le, if◌then◌else◌, ℤ, pos, ◌+ℤ◌, int_lt, int_le}
 use Rattle.st_model.specs.declared.dead.Dead.TheVariants as dead
 use Rattle.st_model.specs.declared.device.Device.TheVariants.{NewProcess}
+use Rattle.st_model.specs.declared.primitive.ProcessPrimitive.{ProcessPrimitive}
+use Rattle.st_model.specs.declared.primitive.ProcessPrimitive.TheVariants as named
 use Rattle.st_model.specs.Values.{Value, Small, small_integer}
 use Rattle.st_model.specs.Objects.{NilObject, SchedulerAssociation}
 use Rattle.st_model.specs.Surroundings.{Hold}
 use Rattle.st_model.specs.Machine.{ObjectMemory, Step, answer, die, ◌>>=◌, ◌>>◌}
 use Rattle.st_model.specs.Steps.{of_page, same_value, check, count_fields, fetch_field, store_field, fetch_integer, get_active, get_device, change_world}
 use Rattle.st_model.specs.Contexts.{switch}
-use Rattle.st_model.specs.Primitives.{of_receiver, taking}
+use Rattle.st_model.specs.Primitives.{of_receiver}
 
 -- priorities count from 1
 unfoldable pub list_number : {H : Type 0} → ℤ → Step H ℕ
 list_number (pos (suc n)) = answer n
 list_number priority = die dead.Field
-
--- the numbers of the primitives below
-abbrev pub is_process : ℕ → Bool
-is_process k = nat_le 85 k && nat_le k 88
 
 module _ {H : Type 0} (m : ObjectMemory H) where
   unfoldable pub scheduler : Step H Value
@@ -218,10 +216,9 @@ module _ {H : Type 0} (m : ObjectMemory H) where
   unfoldable pub primitive_suspend : Step H Bool
   primitive_suspend = of_receiver m check_active (λ r u. suspend_and_answer)
 
-  -- the primitives of this file by their numbers, each with its number of arguments
-  unfoldable pub processes : ℕ → ℕ → Step H Bool
-  processes k n =
-      if k == 85 then taking 0 n primitive_signal else
-      if k == 86 then taking 0 n primitive_wait else
-      if k == 87 then taking 0 n primitive_resume else
-      if k == 88 then taking 0 n primitive_suspend else answer false
+  -- the primitives of this file
+  unfoldable pub processes : ProcessPrimitive → Step H Bool
+  processes named.Signal = primitive_signal
+  processes named.Wait = primitive_wait
+  processes named.Resume = primitive_resume
+  processes named.Suspend = primitive_suspend

@@ -1,9 +1,11 @@
 -- The primitives that read and store objects, make, exchange, find and count them (chapter 29: array and stream, storage
 -- management and system primitives), and 128, which is this machine's own. Each names what it succeeds by, its conditions in their order, and its effect, which gives its answer.
-use Rattle.std.specs.Prelude.{ℕ, ◌+◌, ◌-◌, ◌*◌, ◌/◌, ◌==◌, ◌&&◌, ◌||◌, not, Bool, true, false, nat_lt, nat_le, if◌then◌else◌, ℤ, pos, nat_abs, ◌-ℤ◌, int_lt, int_le}
+use Rattle.std.specs.Prelude.{ℕ, ◌+◌, ◌-◌, ◌*◌, ◌/◌, ◌==◌, ◌||◌, not, Bool, true, false, nat_lt, nat_le, if◌then◌else◌, ℤ, pos, nat_abs, ◌-ℤ◌, int_lt, int_le}
 use Rattle.st_model.specs.declared.dead.Dead.TheVariants as dead
 use Rattle.st_model.specs.declared.kind.Kind.{Kind}
 use Rattle.st_model.specs.declared.kind.Kind.TheVariants as kind
+use Rattle.st_model.specs.declared.primitive.StoragePrimitive.{StoragePrimitive}
+use Rattle.st_model.specs.declared.primitive.StoragePrimitive.TheVariants as named
 use Rattle.st_model.specs.Values.{Value, Small}
 use Rattle.st_model.specs.Objects.{ArrayClass, StringClass, CharacterClass, MethodClass, Characters, is_method}
 use Rattle.st_model.specs.Machine.{ObjectMemory, Step, answer, die, ◌>>=◌, ◌>>◌}
@@ -11,7 +13,7 @@ use Rattle.st_model.specs.Steps.{of_page, class_of, same_value, check, or_die, f
 use Rattle.st_model.specs.Methods.{literal_count, method_header}
 use Rattle.st_model.specs.Lookup.{half_word}
 use Rattle.st_model.specs.BitBlt.{primitive_copy_bits}
-use Rattle.st_model.specs.Primitives.{primitive, of_receiver, of_one, of_two, taking, truth, check_class, check_bytes, bits_or_die, positive_small, byte_or_die, positive_value, number, number_of, has_pointers, has_words, is_indexable, fixed_count, specification, fixed_fields}
+use Rattle.st_model.specs.Primitives.{primitive, of_receiver, of_one, of_two, truth, check_class, check_bytes, bits_or_die, positive_small, byte_or_die, positive_value, number, number_of, has_pointers, has_words, is_indexable, fixed_count, specification, fixed_fields}
 
 -- where an element is stored, and the word or byte
 pub record Storing : Type 0 where
@@ -70,10 +72,6 @@ pub record Replacing : Type 0 where
   pub first : ℕ
   pub last : ℕ
   pub from : ℕ
-
--- the numbers of the primitives below
-abbrev pub is_storage : ℕ → Bool
-is_storage k = (nat_le 60 k && nat_le k 79) || (k == 96) || (k == 105) || (k == 112) || (k == 115)
 
 module _ {H : Type 0} (m : ObjectMemory H) where
   -- Elements. An index counts from 1, behind the fixed fields, and a place from 0 over all of an object.
@@ -542,30 +540,29 @@ module _ {H : Type 0} (m : ObjectMemory H) where
   unfoldable pub primitive_say : Value → Step H Bool
   primitive_say r = primitive m 0 (check_bytes m r) (λ u. answer r)
 
-  -- the primitives of this file that only go on, by their numbers, each with its number of arguments
-  unfoldable pub storage : ℕ → ℕ → Step H Bool
-  storage k n =
-      if k == 60 then taking 1 n primitive_at else
-      if k == 61 then taking 2 n primitive_at_put else
-      if k == 62 then taking 0 n primitive_size else
-      if k == 63 then taking 1 n primitive_string_at else
-      if k == 64 then taking 2 n primitive_string_at_put else
-      if k == 65 then taking 0 n primitive_next else
-      if k == 66 then taking 1 n primitive_next_put else
-      if k == 67 then taking 0 n primitive_at_end else
-      if k == 68 then taking 1 n primitive_object_at else
-      if k == 69 then taking 2 n primitive_object_at_put else
-      if k == 70 then taking 0 n primitive_new else
-      if k == 71 then taking 1 n primitive_new_with else
-      if k == 72 then taking 1 n primitive_become else
-      if k == 73 then taking 1 n primitive_instance_variable_at else
-      if k == 74 then taking 2 n primitive_instance_variable_at_put else
-      if k == 75 then taking 0 n primitive_as_oop else
-      if k == 76 then taking 0 n primitive_as_object else
-      if k == 77 then taking 0 n primitive_some_instance else
-      if k == 78 then taking 0 n primitive_next_instance else
-      if k == 79 then taking 2 n primitive_new_method else
-      if k == 96 then taking 0 n (primitive_copy_bits m) else
-      if k == 105 then taking 4 n primitive_replace else
-      if k == 112 then taking 0 n primitive_core_left else
-      if k == 115 then taking 0 n primitive_oops_left else answer false
+  -- the primitives of this file that only go on
+  unfoldable pub storage : StoragePrimitive → Step H Bool
+  storage named.At = primitive_at
+  storage named.AtPut = primitive_at_put
+  storage named.Size = primitive_size
+  storage named.StringAt = primitive_string_at
+  storage named.StringAtPut = primitive_string_at_put
+  storage named.Next = primitive_next
+  storage named.NextPut = primitive_next_put
+  storage named.AtEnd = primitive_at_end
+  storage named.ObjectAt = primitive_object_at
+  storage named.ObjectAtPut = primitive_object_at_put
+  storage named.New = primitive_new
+  storage named.NewWith = primitive_new_with
+  storage named.Become = primitive_become
+  storage named.InstanceVariableAt = primitive_instance_variable_at
+  storage named.InstanceVariableAtPut = primitive_instance_variable_at_put
+  storage named.AsOop = primitive_as_oop
+  storage named.AsObject = primitive_as_object
+  storage named.SomeInstance = primitive_some_instance
+  storage named.NextInstance = primitive_next_instance
+  storage named.NewMethod = primitive_new_method
+  storage named.CopyBits = primitive_copy_bits m
+  storage named.Replace = primitive_replace
+  storage named.CoreLeft = primitive_core_left
+  storage named.OopsLeft = primitive_oops_left

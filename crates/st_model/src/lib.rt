@@ -26,6 +26,8 @@ mod oop;
 mod outcome;
 mod page;
 mod place;
+mod primitive;
+mod primitives;
 mod word;
 
 pub use bytecode::{Bytecode, Constant, Operand, decode, extended_operand};
@@ -45,6 +47,9 @@ pub use oop::Oop;
 pub use outcome::Outcome;
 pub use page::PageObject;
 pub use place::RootPlace;
+pub use primitive::{
+    BlockPrimitive, InputPrimitive, Primitive, ProcessPrimitive, StoragePrimitive, primitive_of,
+};
 pub use word::Word;
 
 /// The pointers of nil, false and true, and the words of nil and SmallInteger, are those of the root page.

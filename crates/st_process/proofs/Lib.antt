@@ -8,7 +8,6 @@ pub mod Semaphores
 pub mod Settings
 pub mod Timers
 pub mod Taking
-pub mod ByNumber
 pub mod ProcessTries
 pub mod InputTries
 pub mod Taken

@@ -1,13 +1,14 @@
--- Settings, and the primitives that differ only in what is set.
+-- Settings, and the primitives that differ only in what is set, or in the device.
 use Rattle.std.proofs.Common.{◌≡◌, refl}
+use Rattle.st_model.specs.declared.device.Device.TheVariants.{Cursor, Display}
 use Rattle.st_model.specs.Values.{Value, Small, Ref}
 use Rattle.st_model.specs.Machine.{ObjectMemory, State, Transition, Died, Went, answer, die, after, tried, ◌>>=◌, ◌>>◌}
 use Rattle.st_model.specs.Table.{Table}
 use Rattle.st_model.specs.Steps.{top, under}
 use Rattle.st_model.specs.Primitives.{primitive, succeed, bits_or_die}
-use Rattle.st_model.specs.Input.{check_truth, primitive_link_cursor, primitive_sample_interval}
+use Rattle.st_model.specs.Input.{check_truth, primitive_link_cursor, primitive_sample_interval, primitive_be_cursor, primitive_be_display}
 use Rattle.st_process.specs.declared.shapes.Setting.TheVariants.{CursorLink, SampleInterval}
-use Rattle.st_process.specs.inside.Devices.{check_setting, set_device}
+use Rattle.st_process.specs.inside.Devices.{check_setting, set_device, be_device}
 
 module _ (m : ObjectMemory Table) where
   pub link-said : (a : Value) (s : State Table) → (check_setting m CursorLink a).run s ≡ (check_truth m a).run s
@@ -41,5 +42,15 @@ module _ (m : ObjectMemory Table) where
   pub interval-set : (s : State Table) → (primitive_sample_interval m).run s ≡ (set_device m SampleInterval).run s
   unfolding primitive_sample_interval set_device ◌>>=◌
   interval-set s = with_receiver ((under m 1).run s)
+
+  pub cursor-shown : (s : State Table) → (primitive_be_cursor m).run s ≡ (be_device m Cursor).run s
+  unfolding primitive_be_cursor be_device
+  cursor-shown s = refl
+
+  pub display-shown : (s : State Table) → (primitive_be_display m).run s ≡ (be_device m Display).run s
+  unfolding primitive_be_display be_device
+  display-shown s = refl
+
+pub ruleset devices = (link-set, interval-set, cursor-shown, display-shown)
 
 pub ruleset settings = (link-said, interval-said)

@@ -1,4 +1,3 @@
 pub mod Devices
-pub mod Numbers
 pub mod Scheduling
 pub mod Timing

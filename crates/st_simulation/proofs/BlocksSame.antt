@@ -1,13 +1,15 @@
 -- Blocks over births do the same over pointers: the conditions of their primitives, and their effects.
 use Rattle.std.proofs.Common.{◌≡◌, ℕ, Option, Some, None, Bool}
 use Rattle.std.specs.Prelude.{◌||◌, ℤ}
+use Rattle.st_model.specs.declared.primitive.BlockPrimitive.{BlockPrimitive}
+use Rattle.st_model.specs.declared.primitive.BlockPrimitive.TheVariants as named
 use Rattle.st_model.specs.Values.{Value}
 use Rattle.st_model.specs.Machine.{ObjectMemory}
 use Rattle.st_model.specs.Blocks.{check_context, home_of_block, fill_block, new_block, primitive_block_copy, start_of, enter_block, value_with_words, value_if_any, primitive_value, Passing, passing, value_with_fields, value_with_if_any, primitive_value_with, blocks}
 use Rattle.st_simulation.proofs.Same.{Simulation, ValueSame, SameValue, SameAnswer, steps_same}
 use Rattle.st_simulation.proofs.StepsSame.{parts_same}
 use Rattle.st_simulation.proofs.ContextsSame.{home_of-same, switch-same}
-use Rattle.st_simulation.proofs.PrimitivesSame.{positive_small-same, primitive_value-same, taking-same}
+use Rattle.st_simulation.proofs.PrimitivesSame.{positive_small-same, primitive_value-same}
 use Rattle.st_simulation.proofs.StorageSame.{check_class-same}
 
 -- conditions; nothing is made
@@ -75,6 +77,8 @@ module _ {H K : Type 0} {M : ObjectMemory H} {N : ObjectMemory K} (sim : Simulat
   unfolding primitive_value_with
   value_with-same = search (parts_same, passing-same, value_with_if_any-same) depth 24 fits 4000
 
-  pub blocks-same : (k n : ℕ) → SameAnswer sim (blocks M k n) (blocks N k n)
+  pub blocks-same : (n : ℕ) (p : BlockPrimitive) → SameAnswer sim (blocks M n p) (blocks N n p)
   unfolding blocks
-  blocks-same k n = search (steps_same, taking-same, block_copy-same, value-same, value_with-same) depth 24 fits 4000
+  blocks-same n named.BlockCopy = block_copy-same
+  blocks-same n named.Value = value-same n
+  blocks-same n named.ValueWith = value_with-same

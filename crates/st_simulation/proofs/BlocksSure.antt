@@ -1,11 +1,13 @@
 -- Blocks meet no name without an object: their conditions, and their effects.
 use Rattle.std.proofs.Common.{ℕ, Option, Some, None}
 use Rattle.std.specs.Prelude.{ℤ}
+use Rattle.st_model.specs.declared.primitive.BlockPrimitive.{BlockPrimitive}
+use Rattle.st_model.specs.declared.primitive.BlockPrimitive.TheVariants as named
 use Rattle.st_model.specs.Values.{Value}
 use Rattle.st_model.specs.Objects.{Object}
 use Rattle.st_model.specs.Blocks.{check_context, home_of_block, fill_block, new_block, primitive_block_copy, start_of, enter_block, value_with_words, value_if_any, primitive_value, Passing, passing, value_with_fields, value_with_if_any, primitive_value_with, blocks}
 use Rattle.st_simulation.proofs.Present.{bare, full, answer_itself-sure, There, SureValue, SureAnswer}
-use Rattle.st_simulation.proofs.PresentSteps.{sures, parts, home_of-sure, switch-sure, primitive_value-sure, taking-sure, check_class-sure, positive_small-sure}
+use Rattle.st_simulation.proofs.PresentSteps.{parts, home_of-sure, switch-sure, primitive_value-sure, check_class-sure, positive_small-sure}
 
 module _ (o : Object) (lives : ℕ → Type 0) where
   check_context-sure : (n : ℕ) (v : Value) → There o lives n v → SureAnswer o lives n (check_context bare v) (check_context (full o) v)
@@ -66,6 +68,8 @@ module _ (o : Object) (lives : ℕ → Type 0) where
   unfolding primitive_value_with
   value_with-sure n = search (parts, passing-sure, value_with_if_any-sure) depth 24 fits 4000
 
-  pub blocks-sure : (n : ℕ) (k i : ℕ) → SureAnswer o lives n (blocks bare k i) (blocks (full o) k i)
+  pub blocks-sure : (n i : ℕ) (p : BlockPrimitive) → SureAnswer o lives n (blocks bare i p) (blocks (full o) i p)
   unfolding blocks
-  blocks-sure n k i = search (sures, taking-sure, block_copy-sure, value-sure, value_with-sure) depth 24 fits 4000
+  blocks-sure n i named.BlockCopy = block_copy-sure n
+  blocks-sure n i named.Value = value-sure n i
+  blocks-sure n i named.ValueWith = value_with-sure n

@@ -1,6 +1,9 @@
 -- Executing a method over births does the same over pointers.
 use Rattle.std.proofs.Common.{◌≡◌, ℕ, Bool, Option, Some, None, refl, ap}
-use Rattle.std.specs.Prelude.{◌==◌}
+use Rattle.std.specs.Prelude.{◌-◌, ◌==◌}
+use Rattle.st_model.specs.declared.primitive.Primitive.{Primitive}
+use Rattle.st_model.specs.declared.primitive.Primitive.TheVariants as named
+use Rattle.st_model.specs.PrimitiveTable.{primitive_of}
 use Rattle.st_model.specs.Values.{Value, renamed}
 use Rattle.st_model.specs.Machine.{ObjectMemory, Step, answer, ◌>>◌}
 use Rattle.st_model.specs.Outcomes.{Outcome, renamed_outcome, IsLiveOutcome}
@@ -8,7 +11,7 @@ use Rattle.st_model.specs.Outcomes as outcome
 use Rattle.st_model.specs.Steps.{look_at_words}
 use Rattle.st_model.specs.Sends.{Call}
 use Rattle.st_model.specs.Methods.{flag_of}
-use Rattle.st_model.specs.Executing.{goes_on, if_done, succeeds, says, asks, respond_last, respond_on_objects, respond_always, respond, answer_field, by_flag, or_activate, respond_by_extension, execute_by, takes, execute_found, drop_selector, spread_array, perform_found, perform, primitive_perform, spreading, perform_fields, primitive_perform_with, respond_or_perform, execute, executed, execute_if_any, executed_if_any}
+use Rattle.st_model.specs.Executing.{goes_on, if_done, succeeds, says, asks, respond_by, respond_if_any, respond, answer_field, by_flag, or_activate, respond_by_extension, execute_by, takes, execute_found, drop_selector, spread_array, perform_found, perform, primitive_perform, spreading, perform_fields, primitive_perform_with, perform_by, respond_or_perform, execute, executed, execute_if_any, executed_if_any}
 use Rattle.st_simulation.proofs.StepsSame.{parts_same}
 use Rattle.st_simulation.proofs.Same.{Simulation, Same, ValueSame, OptionalSame, CallSame, AnyCallSame, SameAnswer, SameCall, SameAnyCall, SameEnd, renamed_call, answer-same, then-same, then_answer-same, then_unit-same, steps_same}
 use Rattle.st_simulation.proofs.LargeSame.{large_arithmetic-same, shift_large-same}
@@ -102,15 +105,22 @@ module _ {H K : Type 0} {M : ObjectMemory H} {N : ObjectMemory K} (sim : Simulat
   debugger-same : SameEnd sim (asks M outcome.Debugger) (asks N outcome.Debugger)
   debugger-same = asks-same _ (answer-same sim _ _ _ _ tt refl)
 
-  respond_last-same : (k n : ℕ) → SameAnyEnd sim (respond_last M k n) (respond_last N k n)
-  unfolding respond_last
-  respond_last-same k n = search (steps_same, none-same, succeeds-same, says-same, snapshot-same, quit-same, debugger-same) depth 24 fits 4000
+  ruleset primitives_same = (none-same, goes_on-same, if_done-same, went_end, succeeds-same, snapshot-same, quit-same, debugger-same, arithmetic-same, large_arithmetic-same, shift_large-same, equivalence-same, receiver_class-same, flush_cache-same, storage-same, blocks-same, processes-same, input-same)
 
-  ruleset primitives_same = (arithmetic-same, large_arithmetic-same, shift_large-same, equivalence-same, receiver_class-same, flush_cache-same, storage-same, blocks-same, processes-same, input-same)
+  respond_by-same : (n : ℕ) (p : Primitive) → SameAnyEnd sim (respond_by M n p) (respond_by N n p)
+  unfolding respond_by
+  respond_by-same n named.Say = says-same
+  respond_by-same n p = search primitives_same depth 16 fits 4000
+
+  if_any-same : (f : Primitive → Step H (Option Outcome)) (g : Primitive → Step K (Option Outcome)) (p : Option Primitive) → ((q : Primitive) → SameAnyEnd sim (f q) (g q))
+      → SameAnyEnd sim (respond_if_any M f p) (respond_if_any N g p)
+  unfolding respond_if_any
+  if_any-same f g None h = none-same
+  if_any-same f g (Some p) h = h p
 
   respond-same : (k n : ℕ) → SameAnyEnd sim (respond M k n) (respond N k n)
-  unfolding respond respond_always respond_on_objects
-  respond-same k n = search (steps_same, goes_on-same, if_done-same, went_end, succeeds-same, respond_last-same, primitives_same) depth 24 fits 4000
+  unfolding respond
+  respond-same k n = if_any-same _ _ (primitive_of k n) (respond_by-same n)
 
   by_flag-same : (c : Call) (v w : Value) (flag other : ℕ) → ValueSame sim c.method (renamed sim.name c.method) → ValueSame sim v w → other ≡ flag
       → SameEnd sim (by_flag M c v flag) (by_flag N (renamed_call sim.name c) w other)
@@ -176,9 +186,15 @@ module _ {H K : Type 0} {M : ObjectMemory H} {N : ObjectMemory K} (sim : Simulat
   unfolding primitive_perform_with
   primitive_perform_with-same = search (parts_same, spreading-same, perform_fields-same) depth 24 fits 4000
 
+  perform_by-same : (n : ℕ) (p : Primitive) → SameAnyEnd sim (perform_by M n p) (perform_by N n p)
+  unfolding perform_by
+  perform_by-same n named.Perform = primitive_perform-same (n - 1)
+  perform_by-same n named.PerformWith = primitive_perform_with-same
+  perform_by-same n p = respond_by-same n _
+
   respond_or_perform-same : (k n : ℕ) → SameAnyEnd sim (respond_or_perform M k n) (respond_or_perform N k n)
   unfolding respond_or_perform
-  respond_or_perform-same k n = search (steps_same, primitive_perform-same, primitive_perform_with-same, respond-same) depth 16 fits 4000
+  respond_or_perform-same k n = if_any-same _ _ (primitive_of k n) (perform_by-same n)
 
   pub tried-same : (k n : ℕ) → SameAnyEnd sim (look_at_words M n >> respond_or_perform M k n) (look_at_words N n >> respond_or_perform N k n)
   unfolding look_at_words

@@ -1,6 +1,9 @@
 -- Executing a method, sends, returns and the bytecodes meet no name without an object, as the definitions that they use.
-use Rattle.std.proofs.Common.{◌≡◌, ℕ, ◌<◌, length, Option, Some, None, Bool, true, false, sym, ap, arith, inl, inr}
-use Rattle.std.specs.Prelude.{ℤ}
+use Rattle.std.proofs.Common.{◌≡◌, ℕ, ◌<◌, length, Option, Some, None, Bool, sym, ap, arith, inl, inr}
+use Rattle.std.specs.Prelude.{ℤ, ◌-◌}
+use Rattle.st_model.specs.declared.primitive.Primitive.{Primitive}
+use Rattle.st_model.specs.declared.primitive.Primitive.TheVariants as named
+use Rattle.st_model.specs.PrimitiveTable.{primitive_of}
 use Rattle.st_model.specs.declared.bytecode.Operand.{Operand}
 use Rattle.st_model.specs.declared.bytecode.Operand.TheVariants.{ReceiverVariable, LiteralConstant}
 use Rattle.st_model.specs.declared.bytecode.Constant.{Constant}
@@ -17,7 +20,7 @@ use Rattle.st_model.specs.Table.{Table}
 use Rattle.st_model.specs.Show.{Shows, IsKept}
 use Rattle.st_model.specs.Methods.{extension_arguments, arguments_by_extension, arguments_by, method_arguments}
 use Rattle.st_model.specs.Sends.{Call}
-use Rattle.st_model.specs.Executing.{if_done, succeeds, says, asks, respond_last, respond_on_objects, respond_always, respond, answer_field, by_flag, or_activate, respond_by_extension, execute_by, takes, execute_found, drop_selector, spread_array, perform_found, perform, primitive_perform, spreading, perform_fields, primitive_perform_with, respond_or_perform, execute, executed, execute_if_any, executed_if_any}
+use Rattle.st_model.specs.Executing.{if_done, succeeds, says, asks, respond_by, respond_if_any, respond, answer_field, by_flag, or_activate, respond_by_extension, execute_by, takes, execute_found, drop_selector, spread_array, perform_found, perform, primitive_perform, spreading, perform_fields, primitive_perform_with, perform_by, respond_or_perform, execute, executed, execute_if_any, executed_if_any}
 use Rattle.st_model.specs.Returns.{calls, calls_nothing, cannot_return, return_into, return_to_context, return_to, return_to_sender, return_to_caller, must_be_boolean, jump_on}
 use Rattle.st_model.specs.Bytecodes.{fetch_receiver_variable, fetch_temporary_variable, fetch_literal_constant, fetch_literal_variable, fetch_operand, store_receiver_variable, store_temporary_variable, store_literal_variable, store_operand, constant_value, or_send, arithmetic_by, arithmetic_send, primitive_send, rows, bytecode, step}
 use Rattle.st_model.proofs.Names.{map_all, map_object}
@@ -27,7 +30,7 @@ use Rattle.st_simulation.proofs.Present as at
 use Rattle.st_model.specs.Cycles.{check_process_switch}
 use Rattle.st_model.specs.Saving.{store_process}
 use Rattle.st_simulation.proofs.CyclesSure.{check_process_switch-sure, store_process-sure}
-use Rattle.st_simulation.proofs.Present.{bare, full, then_unit-sure, die-sure, later_value, later_option, later_call, answer_itself-sure, of_page-sure, There, ThereIfAny, CallThere, CallThereIfAny, Later, SureValue, SureCall, SureAnyCall, SureAnswer}
+use Rattle.st_simulation.proofs.Present.{bare, full, then_unit-sure, die-sure, later_value, later_option, answer_itself-sure, of_page-sure, There, ThereIfAny, CallThere, CallThereIfAny, Later, SureValue, SureCall, SureAnyCall, SureAnswer}
 use Rattle.st_simulation.proofs.PresentSteps.{large_arithmetic-sure, shift_large-sure, sures, parts, headers, activate-sure, fetch_context_registers-sure, find-sure, not_understood-sure, send-sure, send_to_super-sure, special_send-sure, end-sure, goes_on-sure, answer_with-sure, arithmetic-sure, equivalence-sure, receiver_class-sure, flush_cache-sure, check_class-sure, primitive_say-sure}
 use Rattle.st_simulation.proofs.StorageSure.{storage-sure}
 use Rattle.st_simulation.proofs.BlocksSure.{block_copy-sure, value-sure, blocks-sure}
@@ -53,13 +56,20 @@ module _ (o : Object) (lives : ℕ → Type 0) where
   unfolding asks
   asks-sure n a = search (parts, answer_with-sure) depth 24 fits 4000
 
-  respond_last-sure : (n k i : ℕ) → SureAnswer o lives n (respond_last bare k i) (respond_last (full o) k i)
-  unfolding respond_last
-  respond_last-sure n k i = search (sures, succeeds-sure, says-sure, asks-sure) depth 24 fits 4000
+  respond_by-sure : (n i : ℕ) (p : Primitive) → SureAnswer o lives n (respond_by bare i p) (respond_by (full o) i p)
+  unfolding respond_by
+  respond_by-sure n i named.Say = says-sure n
+  respond_by-sure n i p = search (sures, goes_on-sure, if_done-sure, succeeds-sure, asks-sure, primitives_sure) depth 16 fits 4000
+
+  if_any-sure : (n : ℕ) (f f' : Primitive → Step Births (Option Outcome)) (p : Option Primitive) → ((q : Primitive) → SureAnswer o lives n (f q) (f' q))
+      → SureAnswer o lives n (respond_if_any bare f p) (respond_if_any (full o) f' p)
+  unfolding respond_if_any
+  if_any-sure n f f' None h = answer_itself-sure o lives n _
+  if_any-sure n f f' (Some p) h = h p
 
   respond-sure : (n k i : ℕ) → SureAnswer o lives n (respond bare k i) (respond (full o) k i)
-  unfolding respond respond_always respond_on_objects
-  respond-sure n k i = search (sures, goes_on-sure, if_done-sure, succeeds-sure, respond_last-sure, primitives_sure) depth 24 fits 4000
+  unfolding respond
+  respond-sure n k i = if_any-sure n _ _ (primitive_of k i) (respond_by-sure n i)
 
   by_flag-sure : (n : ℕ) (c : Call) (v : Value) (flag : ℕ) → CallThere o lives n c → SureAnswer o lives n (by_flag bare c v flag) (by_flag (full o) c v flag)
   unfolding by_flag answer_field
@@ -159,9 +169,15 @@ module _ (o : Object) (lives : ℕ → Type 0) where
   unfolding primitive_perform_with
   primitive_perform_with-sure n = search (parts, spreading-sure, perform_fields-sure) depth 32 fits 4000
 
+  perform_by-sure : (n i : ℕ) (p : Primitive) → SureAnswer o lives n (perform_by bare i p) (perform_by (full o) i p)
+  unfolding perform_by
+  perform_by-sure n i named.Perform = primitive_perform-sure n (i - 1)
+  perform_by-sure n i named.PerformWith = primitive_perform_with-sure n
+  perform_by-sure n i p = respond_by-sure n i _
+
   respond_or_perform-sure : (n k i : ℕ) → SureAnswer o lives n (respond_or_perform bare k i) (respond_or_perform (full o) k i)
   unfolding respond_or_perform
-  respond_or_perform-sure n k i = search (sures, primitive_perform-sure, primitive_perform_with-sure, respond-sure) depth 24 fits 4000
+  respond_or_perform-sure n k i = if_any-sure n _ _ (primitive_of k i) (perform_by-sure n i)
 
   execute-sure : (n : ℕ) (c : Call) → CallThere o lives n c → SureAnswer o lives n (execute bare c) (execute (full o) c)
   unfolding execute

@@ -2,6 +2,9 @@
 -- the stack, and over births of kind Bytes.
 use Rattle.std.proofs.Common.{◌≡◌, ℕ, Option, Some, None, Bool, true, false, refl, subst}
 use Rattle.std.specs.Prelude.{if◌then◌else◌}
+use Rattle.st_model.specs.declared.primitive.Primitive.{Primitive}
+use Rattle.st_model.specs.declared.primitive.Primitive.TheVariants as named
+use Rattle.st_model.specs.PrimitiveTable.{primitive_of}
 use Rattle.st_model.specs.declared.dead.Dead.{Dead}
 use Rattle.st_model.specs.declared.bytecode.Bytecode.{Bytecode}
 use Rattle.st_model.specs.declared.bytecode.Bytecode.TheVariants as code
@@ -15,7 +18,7 @@ use Rattle.st_model.specs.Steps.{top, look_at_words}
 use Rattle.st_model.specs.Storage.{primitive_say}
 use Rattle.st_model.specs.Sends.{Call}
 use Rattle.st_model.specs.Contexts.{activate}
-use Rattle.st_model.specs.Executing.{goes_on, if_done, succeeds, says, asks, respond_last, respond_on_objects, respond_always, respond, by_flag, or_activate, respond_by_extension, execute_by, execute_found, perform_found, perform, primitive_perform, perform_fields, primitive_perform_with, respond_or_perform, execute, executed, execute_if_any, executed_if_any}
+use Rattle.st_model.specs.Executing.{goes_on, if_done, succeeds, says, asks, respond_by, respond_if_any, respond, by_flag, or_activate, respond_by_extension, execute_by, execute_found, perform_found, perform, primitive_perform, perform_fields, primitive_perform_with, perform_by, respond_or_perform, execute, executed, execute_if_any, executed_if_any}
 use Rattle.st_model.specs.Bytecodes.{or_send, arithmetic_by, arithmetic_send, primitive_send, bytecode, step}
 use Rattle.st_model.specs.inside.Foreseen.{NamesTop}
 use Rattle.st_simulation.specs.inside.Laws.{IsOfBytes}
@@ -132,9 +135,19 @@ module _ {H : Type 0} (M : ObjectMemory H) (so : State H → Value → Type 0)
 
   ruleset trying = (naming, none_names, if_done_names, succeeds_names, goes_on_names, says_names, snapshot_names, quit_names, debugger_names)
 
+  respond_by_names : (n : ℕ) (p : Primitive) → TriesOnlyTop (respond_by M n p)
+  unfolding respond_by asks
+  respond_by_names n named.Say = says_names
+  respond_by_names n p = search trying depth 16 fits 4000
+
+  if_any_names : (f : Primitive → Step H (Option Outcome)) (p : Option Primitive) → ((q : Primitive) → TriesOnlyTop (f q)) → TriesOnlyTop (respond_if_any M f p)
+  unfolding respond_if_any
+  if_any_names f None h = none_names
+  if_any_names f (Some p) h = h p
+
   respond_names : (k n : ℕ) → TriesOnlyTop (respond M k n)
-  unfolding respond respond_always respond_on_objects respond_last asks
-  respond_names k n = search trying depth 24 fits 4000
+  unfolding respond
+  respond_names k n = if_any_names _ (primitive_of k n) (respond_by_names n)
 
   -- what executes a method
 
@@ -171,9 +184,15 @@ module _ {H : Type 0} (M : ObjectMemory H) (so : State H → Value → Type 0)
   perform_fields_names r a b None = none_names
   perform_fields_names r a b (Some n) = perform_names r a n _
 
+  perform_by_names : (n : ℕ) (p : Primitive) → TriesOnlyTop (perform_by M n p)
+  unfolding perform_by primitive_perform primitive_perform_with
+  perform_by_names n named.Perform = search (naming, perform_names) depth 16 fits 4000
+  perform_by_names n named.PerformWith = search (naming, perform_fields_names) depth 16 fits 4000
+  perform_by_names n p = respond_by_names n _
+
   respond_or_perform_names : (k n : ℕ) → TriesOnlyTop (respond_or_perform M k n)
-  unfolding respond_or_perform primitive_perform primitive_perform_with
-  respond_or_perform_names k n = search (naming, perform_names, perform_fields_names, respond_names) depth 16 fits 4000
+  unfolding respond_or_perform
+  respond_or_perform_names k n = if_any_names _ (primitive_of k n) (perform_by_names n)
 
   execute_names : (c : Call) → NamesOnlyTop (execute M c)
   unfolding execute

@@ -1,6 +1,8 @@
 -- The primitives of input and output devices and of clocks over births do the same over pointers.
-use Rattle.std.proofs.Common.{◌≡◌, ℕ, Bool, refl}
+use Rattle.std.proofs.Common.{◌≡◌, Bool, refl}
 use Rattle.std.specs.Prelude.{◌||◌}
+use Rattle.st_model.specs.declared.primitive.InputPrimitive.{InputPrimitive}
+use Rattle.st_model.specs.declared.primitive.InputPrimitive.TheVariants as named
 use Rattle.st_model.specs.declared.device.Device.{Device}
 use Rattle.st_model.specs.Values.{Value, Small, Ref}
 use Rattle.st_model.specs.Machine.{ObjectMemory}
@@ -8,7 +10,7 @@ use Rattle.st_model.specs.Processes.{check_fields}
 use Rattle.st_model.specs.Input.{mouse_point, always, primitive_mouse_point, Place, place_in, move_mouse, primitive_move_mouse, check_truth, primitive_link_cursor, hold_and_answer, primitive_input_semaphore, primitive_sample_interval, word_that_waits, take_word, primitive_input_word, check_four_bytes, store_time, store_seconds, primitive_second_clock, store_milliseconds, primitive_millisecond_clock, Timing, Rings, can_be_signalled, ring, ring_or_wait, timing, signal_once, set_timer, set_timer_and_answer, primitive_timer, primitive_be_cursor, primitive_be_display, Low, low_space, set_low_space, primitive_low_space, input}
 use Rattle.st_simulation.proofs.Same.{Simulation, ValueSame, SameValue, SameAnswer, then_object-same, answer_itself-same, length-renamed, steps_same}
 use Rattle.st_simulation.proofs.StepsSame.{object-same, parts_same}
-use Rattle.st_simulation.proofs.PrimitivesSame.{bits_or_die-same, positive_small-same, primitive-same, taking-same, new_point-same}
+use Rattle.st_simulation.proofs.PrimitivesSame.{bits_or_die-same, positive_small-same, primitive-same, new_point-same}
 use Rattle.st_simulation.proofs.StorageSame.{number-same, check_bytes-same, positive_value-same}
 
 -- conditions; nothing is made
@@ -56,8 +58,9 @@ module _ {H K : Type 0} {M : ObjectMemory H} {N : ObjectMemory K} (sim : Simulat
 
 -- primitives
 module _ {H K : Type 0} {M : ObjectMemory H} {N : ObjectMemory K} (sim : Simulation M N) (makes : sim.makes) where
-  ruleset input_same = (parts_same, primitive-same, taking-same, either-same, bits_or_die-same, check_bytes-same, new_point-same, number-same, place_in-same, timing-same, low_space-same, set_timer-same, move_mouse-same, hold_and_answer-same, set_low_space-same)
+  ruleset input_same = (parts_same, primitive-same, either-same, bits_or_die-same, check_bytes-same, new_point-same, number-same, place_in-same, timing-same, low_space-same, set_timer-same, move_mouse-same, hold_and_answer-same, set_low_space-same)
 
-  pub input-same : (k n : ℕ) → SameAnswer sim (input M k n) (input N k n)
+  pub input-same : (p : InputPrimitive) → SameAnswer sim (input M p) (input N p)
   unfolding input primitive_mouse_point primitive_move_mouse primitive_link_cursor primitive_input_semaphore primitive_sample_interval primitive_input_word primitive_second_clock primitive_millisecond_clock primitive_timer primitive_be_cursor primitive_be_display primitive_low_space always mouse_point take_word word_that_waits check_fields check_truth check_four_bytes store_time store_seconds store_milliseconds set_timer_and_answer
-  input-same k n = search input_same depth 60 fits 60000
+  input-same named.MousePoint = search input_same depth 60 fits 60000
+  input-same p = search input_same depth 60 fits 60000

@@ -1,12 +1,14 @@
 -- The primitives of input and output devices and of clocks meet no name without an object.
 use Rattle.std.proofs.Common.{ℕ}
+use Rattle.st_model.specs.declared.primitive.InputPrimitive.{InputPrimitive}
+use Rattle.st_model.specs.declared.primitive.InputPrimitive.TheVariants as named
 use Rattle.st_model.specs.declared.device.Device.{Device}
 use Rattle.st_model.specs.Values.{Value, Small, Ref}
 use Rattle.st_model.specs.Objects.{Object}
 use Rattle.st_model.specs.Processes.{check_fields}
 use Rattle.st_model.specs.Input.{mouse_point, always, primitive_mouse_point, Place, place_in, move_mouse, primitive_move_mouse, check_truth, primitive_link_cursor, hold_and_answer, primitive_input_semaphore, primitive_sample_interval, word_that_waits, take_word, primitive_input_word, check_four_bytes, store_time, store_seconds, primitive_second_clock, store_milliseconds, primitive_millisecond_clock, Timing, Rings, can_be_signalled, ring, ring_or_wait, timing, signal_once, set_timer, set_timer_and_answer, primitive_timer, primitive_be_cursor, primitive_be_display, Low, low_space, set_low_space, primitive_low_space, input}
 use Rattle.st_simulation.proofs.Present.{bare, full, There, SureValue, SureAnswer}
-use Rattle.st_simulation.proofs.PresentSteps.{sures, parts, primitive-sure, taking-sure, check_bytes-sure, bits_or_die-sure, positive_small-sure, positive_value-sure, number-sure, new_point-sure}
+use Rattle.st_simulation.proofs.PresentSteps.{sures, parts, primitive-sure, check_bytes-sure, bits_or_die-sure, positive_small-sure, positive_value-sure, number-sure, new_point-sure}
 
 module _ (o : Object) (lives : ℕ → Type 0) where
   place_in-sure : (n : ℕ) (a : Value) → There o lives n a → SureAnswer o lives n (place_in bare a) (place_in (full o) a)
@@ -43,8 +45,9 @@ module _ (o : Object) (lives : ℕ → Type 0) where
   unfolding set_low_space
   set_low_space-sure n a low r h0 h1 = search parts depth 24 fits 4000
 
-  ruleset input_sure = (parts, primitive-sure, taking-sure, bits_or_die-sure, check_bytes-sure, new_point-sure, number-sure, place_in-sure, timing-sure, low_space-sure, set_timer-sure, move_mouse-sure, hold_and_answer-sure, set_low_space-sure)
+  ruleset input_sure = (parts, primitive-sure, bits_or_die-sure, check_bytes-sure, new_point-sure, number-sure, place_in-sure, timing-sure, low_space-sure, set_timer-sure, move_mouse-sure, hold_and_answer-sure, set_low_space-sure)
 
-  pub input-sure : (n : ℕ) (k : ℕ) (i : ℕ) → SureAnswer o lives n (input bare k i) (input (full o) k i)
+  pub input-sure : (n : ℕ) (p : InputPrimitive) → SureAnswer o lives n (input bare p) (input (full o) p)
   unfolding input primitive_mouse_point primitive_move_mouse primitive_link_cursor primitive_input_semaphore primitive_sample_interval primitive_input_word primitive_second_clock primitive_millisecond_clock primitive_timer primitive_be_cursor primitive_be_display primitive_low_space always mouse_point take_word word_that_waits check_fields check_truth check_four_bytes store_time store_seconds store_milliseconds set_timer_and_answer
-  input-sure n k i = search input_sure depth 60 fits 60000
+  input-sure n named.MousePoint = search input_sure depth 60 fits 60000
+  input-sure n p = search input_sure depth 60 fits 60000

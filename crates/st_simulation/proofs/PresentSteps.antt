@@ -17,7 +17,7 @@ use Rattle.st_model.specs.Lookup.{checked_method, method_at, place_says, look_at
 use Rattle.st_model.specs.Sends.{copy_arguments, argument_array, new_message, replace_by_message, call_not_understood, not_understood, call_found, send_from, send, class_above, send_to_super, argument_count, special_send}
 use Rattle.st_model.specs.declared.integers.IntAnswer.{IntAnswer}
 use Rattle.st_model.specs.declared.integers.IntAnswer.TheVariants.{Number, Truth, Point}
-use Rattle.st_model.specs.Primitives.{pop_words, answer_with, succeed, primitive, taking, truth, check_class, check_bytes, bits_or_die, positive_small, byte_or_die, large_value, positive_value, new_large, number, number_of, specification, fixed_of_class, fixed_by, fixed_fields}
+use Rattle.st_model.specs.Primitives.{pop_words, answer_with, succeed, primitive, truth, check_class, check_bytes, bits_or_die, positive_small, byte_or_die, large_value, positive_value, new_large, number, number_of, specification, fixed_of_class, fixed_by, fixed_fields}
 use Rattle.st_model.specs.Storage.{count_literals, first_by, first_place, place_of_element, place_at, place_behind_fixed, word_number, byte_number, element_by, fetch_element, word_of_value, unit_by, unit_of_element, store_by, store_element, Storing, storing_at, store_and_answer, primitive_at, storing_behind_fixed, primitive_at_put, count_elements, primitive_size, fetch_character, place_in_bytes, character_at, primitive_string_at, character_byte, character_storing_at, storing_character, primitive_string_at_put, characters_or_not, has_characters, place_of_object, place_of_character, stream_place, position_below, Standing, standing_at, stream_standing, stream_element, take_next, primitive_next, stream_unit, Putting, putting_at, stream_putting, put_next, primitive_next_put, is_at_end, primitive_at_end, method_place, place_in_method, header_or_literal, primitive_object_at, check_header, check_method_field, place_to_store, store_in_method, primitive_object_at_put, check_not_method_class, fixed_specification, primitive_new, checked_shape, indexed_shape, primitive_new_with, check_object, check_objects, exchange_and_answer, primitive_become, primitive_instance_variable_at, storing_by_index, primitive_instance_variable_at_put, half_pointer, primitive_as_oop, kept_object_at, primitive_as_object, first_kept_instance, primitive_some_instance, instance_after, primitive_next_instance, MethodShape, method_shape, new_method, primitive_new_method, Replacing, checked_replacing, replacing, replace_and_answer, primitive_replace, primitive_core_left, primitive_oops_left, primitive_say}
 use Rattle.st_model.specs.declared.kind.Kind.{Kind}
 use Rattle.st_model.specs.declared.kind.Kind.TheVariants as kind
@@ -25,7 +25,7 @@ use Rattle.st_model.specs.declared.integers.LargeAnswer.{LargeAnswer}
 use Rattle.st_model.specs.declared.integers.LargeAnswer.TheVariants as wide
 use Rattle.st_model.specs.Arithmetic.{new_point, value_of_answer, integer_under, integer_answer, arithmetic, large_under, large_answer, value_of_large, large_arithmetic, shift_answer, shift_large, equivalence, receiver_class, flush_cache}
 use Rattle.st_model.specs.Executing.{goes_on}
-use Rattle.st_simulation.proofs.Present.{bare, full, There, AllThere, ThereIfAny, ObjectThere, CallThere, CallThereIfAny, Later, SureValue, SureValues, SureOption, SureRegisters, SureCall, SureAnyCall, SureAnswer, then_value-sure, then_values-sure, then_option-sure, then_object-sure, then_registers-sure, then_call-sure, then_any_call-sure, then_answer-sure, then_unit-sure, if-sure, die-sure, later_value, later_values, later_option, later_object, later_call, small_there, small_integer_there, class_there, field_there, none_there, some_there, no_values_there, values_there, registers_there, method_there, answer_value-sure, answer_values-sure, answer_option-sure, answer_registers-sure, answer_call-sure, answer_some_call-sure, answer_no_call-sure, answer_itself-sure, get_active-sure, get_home-sure, get_method-sure, get_receiver-sure, get_ip-sure, get_sp-sure, set_ip-sure, set_sp-sure, of_page-sure, object_named-sure, object-sure, set_field-sure, make-sure, set_registers-sure, half_word-sure, exchange-sure, set_units-sure, get_device-sure, newest_signal-sure, count_signals-sure, oldest_word-sure, get_mouse_x-sure, get_mouse_y-sure, get_second_clock-sure, get_millisecond_clock-sure, hold_there, add_signal_there, take_signal_there, set_due_there, set_low_there, move_mouse_there, take_word_there, change_world-sure, get_free-sure, object_at-sure, next_instance-sure, tried_value-sure, tried_itself-sure}
+use Rattle.st_simulation.proofs.Present.{bare, full, There, AllThere, ThereIfAny, ObjectThere, Later, SureValue, SureValues, SureOption, SureCall, SureAnswer, then_value-sure, then_values-sure, then_option-sure, then_object-sure, then_registers-sure, then_call-sure, then_any_call-sure, then_answer-sure, then_unit-sure, if-sure, die-sure, later_value, later_values, later_option, later_object, later_call, small_there, small_integer_there, class_there, field_there, none_there, some_there, no_values_there, values_there, registers_there, method_there, answer_value-sure, answer_values-sure, answer_option-sure, answer_registers-sure, answer_call-sure, answer_some_call-sure, answer_no_call-sure, answer_itself-sure, get_active-sure, get_home-sure, get_method-sure, get_receiver-sure, get_ip-sure, get_sp-sure, set_ip-sure, set_sp-sure, of_page-sure, object_named-sure, object-sure, set_field-sure, make-sure, set_registers-sure, half_word-sure, exchange-sure, set_units-sure, get_device-sure, newest_signal-sure, count_signals-sure, oldest_word-sure, get_mouse_x-sure, get_mouse_y-sure, get_second_clock-sure, get_millisecond_clock-sure, hold_there, add_signal_there, take_signal_there, set_due_there, set_low_there, move_mouse_there, take_word_there, change_world-sure, get_free-sure, object_at-sure, next_instance-sure, tried_value-sure, tried_itself-sure}
 
 module _ (o : Object) (lives : ℕ → Type 0) where
   pub ruleset sures = (then_value-sure, then_values-sure, then_option-sure, then_object-sure, then_registers-sure, then_call-sure, then_any_call-sure, then_answer-sure, then_unit-sure, if-sure, die-sure, later_value, later_values, later_option, later_object, later_call, small_there, small_integer_there, class_there, field_there, none_there, some_there, no_values_there, values_there, registers_there, method_there, answer_value-sure, answer_values-sure, answer_option-sure, answer_registers-sure, answer_call-sure, answer_some_call-sure, answer_no_call-sure, answer_itself-sure, get_active-sure, get_home-sure, get_method-sure, get_receiver-sure, get_ip-sure, get_sp-sure, set_ip-sure, set_sp-sure, of_page-sure, object-sure, set_field-sure, make-sure, set_registers-sure, half_word-sure, exchange-sure, set_units-sure, get_device-sure, newest_signal-sure, count_signals-sure, oldest_word-sure, get_mouse_x-sure, get_mouse_y-sure, get_second_clock-sure, get_millisecond_clock-sure, hold_there, add_signal_there, take_signal_there, set_due_there, set_low_there, move_mouse_there, take_word_there, change_world-sure, get_free-sure, object_at-sure, next_instance-sure, tried_value-sure, tried_itself-sure)
@@ -418,10 +418,6 @@ module _ (o : Object) (lives : ℕ → Type 0) where
       → ((m : ℕ) (x : Value) → Later o lives n m → There o lives m x → SureValue o lives m (f x) (f' x)) → SureAnswer o lives n (primitive bare k p f) (primitive (full o) k p' f')
   unfolding primitive
   primitive_value-sure n k p p' f f' h l = then_option-sure o lives _ n _ _ _ _ (tried_value-sure o lives n p p' h) (λ m e a q. succeed_value-sure m k f f' a q (λ j x d t. l j x (record { is = omega (arith, e.is, d.is) }) t))
-
-  pub taking-sure : (n : ℕ) (k arguments : ℕ) (p p' : Step Births Bool) → SureAnswer o lives n p p' → SureAnswer o lives n (taking k arguments p) (taking k arguments p')
-  unfolding taking
-  taking-sure n k arguments p p' h = search sures
 
   pub truth-sure : (n : ℕ) (b : Bool) → SureValue o lives n (truth bare b) (truth (full o) b)
   unfolding truth

@@ -5,7 +5,7 @@ use Rattle.st_model.specs.declared.integers.IntAnswer.{IntAnswer}
 use Rattle.st_model.specs.declared.integers.IntAnswer.TheVariants.{Number, Truth, Point}
 use Rattle.st_model.specs.Values.{Value, Small, Ref, renamed}
 use Rattle.st_model.specs.Machine.{ObjectMemory, Step}
-use Rattle.st_model.specs.Primitives.{pop_words, answer_with, succeed, primitive, taking, truth, bits_or_die, positive_small}
+use Rattle.st_model.specs.Primitives.{pop_words, answer_with, succeed, primitive, truth, bits_or_die, positive_small}
 use Rattle.st_model.specs.Arithmetic.{new_point, value_of_answer, integer_under, integer_answer, arithmetic, equivalence, receiver_class, flush_cache}
 use Rattle.st_simulation.proofs.Same.{Simulation, ValueSame, OptionalSame, SameValue, SameAnswer, strict, steps_same}
 use Rattle.st_simulation.proofs.StepsSame.{parts_same}
@@ -63,10 +63,6 @@ module _ {H K : Type 0} {M : ObjectMemory H} {N : ObjectMemory K} (sim : Simulat
       → SameValue sim p q → SameValue (strict sim) p q → ((x y : Value) → ValueSame sim x y → SameValue sim (f x) (g y)) → SameAnswer sim (primitive M n p f) (primitive N n q g)
   unfolding primitive
   primitive_value-same n p q f g h k l = search (steps_same, succeed_value-same) depth 16 fits 4000
-
-  pub taking-same : (n arguments : ℕ) (p : Step H Bool) (q : Step K Bool) → SameAnswer sim p q → SameAnswer sim (taking n arguments p) (taking n arguments q)
-  unfolding taking
-  taking-same n arguments p q h = search steps_same
 
   pub truth-same : (b c : Bool) → c ≡ b → SameValue sim (truth M b) (truth N c)
   unfolding truth

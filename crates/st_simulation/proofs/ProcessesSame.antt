@@ -1,13 +1,15 @@
 -- Processes and semaphores over births do the same over pointers.
 use Rattle.std.proofs.Common.{◌≡◌, ℕ, zero, suc, Bool, true, false}
 use Rattle.std.specs.Prelude.{ℤ, pos}
+use Rattle.st_model.specs.declared.primitive.ProcessPrimitive.{ProcessPrimitive}
+use Rattle.st_model.specs.declared.primitive.ProcessPrimitive.TheVariants as named
 use Rattle.st_model.specs.Values.{Value}
 use Rattle.st_model.specs.Machine.{ObjectMemory}
 use Rattle.st_model.specs.Processes.{scheduler, scheduled_process, active_or_new, active_process, link_first, add_last, unlink_first, take_first, ready_lists, list_number, sleep, let_wait, resume_over, resume, add_excess, wake_first, signal, go_on_with, highest_goes_on, suspend, leave_process, enter_process, switch_to_process, check_fields, signal_and_answer, primitive_signal, excess_of, wait_in, take_excess, wait_and_answer, primitive_wait, resume_and_answer, primitive_resume, check_active, suspend_and_answer, primitive_suspend, processes}
 use Rattle.st_simulation.proofs.Same.{Simulation, ValueSame, SameValue, SameAnswer, steps_same}
 use Rattle.st_simulation.proofs.StepsSame.{parts_same}
 use Rattle.st_simulation.proofs.ContextsSame.{switch-same}
-use Rattle.st_simulation.proofs.PrimitivesSame.{primitive-same, taking-same}
+use Rattle.st_simulation.proofs.PrimitivesSame.{primitive-same}
 
 -- nothing is made
 module _ {H K : Type 0} {M : ObjectMemory H} {N : ObjectMemory K} (sim : Simulation M N) where
@@ -58,6 +60,9 @@ module _ {H K : Type 0} {M : ObjectMemory H} {N : ObjectMemory K} (sim : Simulat
 
 -- primitives
 module _ {H K : Type 0} {M : ObjectMemory H} {N : ObjectMemory K} (sim : Simulation M N) (makes : sim.makes) where
-  pub processes-same : (k n : ℕ) → SameAnswer sim (processes M k n) (processes N k n)
+  ruleset processes_same = (parts_same, primitive-same, signal-same, take_excess-same, resume_over-same, active_or_new-same, highest_goes_on-same)
+
+  pub processes-same : (p : ProcessPrimitive) → SameAnswer sim (processes M p) (processes N p)
   unfolding processes primitive_signal primitive_wait primitive_resume primitive_suspend check_fields excess_of check_active signal_and_answer wait_and_answer resume_and_answer suspend_and_answer resume active_process suspend ready_lists scheduler scheduled_process
-  processes-same k n = search (parts_same, taking-same, primitive-same, signal-same, take_excess-same, resume_over-same, active_or_new-same, highest_goes_on-same) depth 60 fits 40000
+  processes-same named.Signal = search processes_same depth 60 fits 40000
+  processes-same p = search processes_same depth 60 fits 40000

@@ -1,11 +1,13 @@
 -- Processes and semaphores meet no name without an object.
 use Rattle.std.proofs.Common.{ℕ, zero, suc, Bool, true, false}
 use Rattle.std.specs.Prelude.{ℤ, pos}
+use Rattle.st_model.specs.declared.primitive.ProcessPrimitive.{ProcessPrimitive}
+use Rattle.st_model.specs.declared.primitive.ProcessPrimitive.TheVariants as named
 use Rattle.st_model.specs.Values.{Value}
 use Rattle.st_model.specs.Objects.{Object}
 use Rattle.st_model.specs.Processes.{scheduler, scheduled_process, active_or_new, active_process, link_first, add_last, unlink_first, take_first, ready_lists, list_number, sleep, let_wait, resume_over, resume, add_excess, wake_first, signal, go_on_with, highest_goes_on, suspend, check_fields, signal_and_answer, primitive_signal, excess_of, wait_in, take_excess, wait_and_answer, primitive_wait, resume_and_answer, primitive_resume, check_active, suspend_and_answer, primitive_suspend, processes}
 use Rattle.st_simulation.proofs.Present.{bare, full, There, SureValue, SureAnswer}
-use Rattle.st_simulation.proofs.PresentSteps.{sures, parts, primitive-sure, taking-sure}
+use Rattle.st_simulation.proofs.PresentSteps.{sures, parts, primitive-sure}
 
 module _ (o : Object) (lives : ℕ → Type 0) where
   active_or_new-sure : (n : ℕ) (p : Value) (b : Bool) → There o lives n p → SureValue o lives n (active_or_new bare p b) (active_or_new (full o) p b)
@@ -53,6 +55,9 @@ module _ (o : Object) (lives : ℕ → Type 0) where
   take_excess-sure n r (pos (suc i)) h = search parts depth 24 fits 4000
   take_excess-sure n r i h = search (parts, active_or_new-sure, link_first-sure, highest_goes_on-sure) depth 40 fits 9000
 
-  pub processes-sure : (n : ℕ) (k : ℕ) (i : ℕ) → SureAnswer o lives n (processes bare k i) (processes (full o) k i)
+  ruleset processes_sure = (parts, primitive-sure, signal-sure, take_excess-sure, resume_over-sure, active_or_new-sure, highest_goes_on-sure)
+
+  pub processes-sure : (n : ℕ) (p : ProcessPrimitive) → SureAnswer o lives n (processes bare p) (processes (full o) p)
   unfolding processes primitive_signal primitive_wait primitive_resume primitive_suspend check_fields excess_of check_active signal_and_answer wait_and_answer resume_and_answer suspend_and_answer resume active_process suspend ready_lists scheduler scheduled_process
-  processes-sure n k i = search (parts, taking-sure, primitive-sure, signal-sure, take_excess-sure, resume_over-sure, active_or_new-sure, highest_goes_on-sure) depth 60 fits 40000
+  processes-sure n named.Signal = search processes_sure depth 60 fits 40000
+  processes-sure n p = search processes_sure depth 60 fits 40000

@@ -2,6 +2,8 @@
 -- their effects.
 use Rattle.std.proofs.Common.{◌≡◌, ℕ, Bool, true, false, refl, ap}
 use Rattle.std.specs.Prelude.{ℤ, pos, negsuc, not}
+use Rattle.st_model.specs.declared.primitive.StoragePrimitive.{StoragePrimitive}
+use Rattle.st_model.specs.declared.primitive.StoragePrimitive.TheVariants as named
 use Rattle.st_model.specs.declared.kind.Kind.{Kind}
 use Rattle.st_model.specs.declared.kind.Kind.TheVariants as kind
 use Rattle.st_model.specs.Values.{Value, Small, Ref}
@@ -13,7 +15,7 @@ use Rattle.st_simulation.proofs.Same.{Simulation, ValueSame, SameValue, SameAnsw
 use Rattle.st_simulation.proofs.StepsSame.{parts_same, get_free-same}
 use Rattle.st_simulation.proofs.ContextsSame.{headers_same}
 use Rattle.st_simulation.proofs.LookupSame.{half_word-same}
-use Rattle.st_simulation.proofs.PrimitivesSame.{bits_or_die-same, positive_small-same, primitive-same, primitive_value-same, taking-same, truth-same}
+use Rattle.st_simulation.proofs.PrimitivesSame.{bits_or_die-same, positive_small-same, primitive-same, primitive_value-same, truth-same}
 use Rattle.st_simulation.proofs.BitBltSame.{copy_bits-same}
 
 -- what conditions are made of; nothing is made
@@ -387,6 +389,9 @@ module _ {H K : Type 0} {M : ObjectMemory H} {N : ObjectMemory K} (sim : Simulat
   unfolding primitive_oops_left
   oops_left-same = search primitives_same depth 24 fits 4000
 
-  pub storage-same : (k n : ℕ) → SameAnswer sim (storage M k n) (storage N k n)
+  ruleset primitives_on_objects = (steps_same, at_put-same, size-same, string_at-same, string_at_put-same, next-same, next_put-same, at_end-same, object_at-same, object_at_put-same, new-same, new_with-same, become-same, instance_variable_at-same, instance_variable_at_put-same, as_oop-same, as_object-same, some_instance-same, next_instance-same, new_method_primitive-same, copy_bits-same, replace-same, core_left-same, oops_left-same)
+
+  pub storage-same : (p : StoragePrimitive) → SameAnswer sim (storage M p) (storage N p)
   unfolding storage
-  storage-same k n = search (steps_same, taking-same, at-same, at_put-same, size-same, string_at-same, string_at_put-same, next-same, next_put-same, at_end-same, object_at-same, object_at_put-same, new-same, new_with-same, become-same, instance_variable_at-same, instance_variable_at_put-same, as_oop-same, as_object-same, some_instance-same, next_instance-same, new_method_primitive-same, copy_bits-same, replace-same, core_left-same, oops_left-same) depth 32 fits 4000
+  storage-same named.At = at-same
+  storage-same p = search primitives_on_objects depth 32 fits 4000

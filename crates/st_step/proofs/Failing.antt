@@ -2,6 +2,17 @@
 use Rattle.std.proofs.Common.{◌≡◌, ℕ, zero, suc, ◌+◌, Bool, true, false, Option, Some, None, refl, sym, ◌∙◌}
 use Rattle.std.specs.Prelude.{if◌then◌else◌, ℤ}
 use Rattle.st_model.specs.declared.dead.Dead.{Dead}
+use Rattle.st_model.specs.declared.primitive.StoragePrimitive.{StoragePrimitive}
+use Rattle.st_model.specs.declared.primitive.StoragePrimitive.TheVariants as of_objects
+use Rattle.st_model.specs.declared.primitive.BlockPrimitive.{BlockPrimitive}
+use Rattle.st_model.specs.declared.primitive.BlockPrimitive.TheVariants as of_blocks
+use Rattle.st_model.specs.declared.primitive.ProcessPrimitive.{ProcessPrimitive}
+use Rattle.st_model.specs.declared.primitive.ProcessPrimitive.TheVariants as of_processes
+use Rattle.st_model.specs.declared.primitive.InputPrimitive.{InputPrimitive}
+use Rattle.st_model.specs.declared.primitive.InputPrimitive.TheVariants as of_devices
+use Rattle.st_model.specs.declared.primitive.Primitive.{Primitive}
+use Rattle.st_model.specs.declared.primitive.Primitive.TheVariants as named
+use Rattle.st_model.specs.PrimitiveTable.{primitive_of}
 use Rattle.st_model.specs.Values.{Value, Small, Ref}
 use Rattle.st_model.specs.Objects.{Object}
 use Rattle.st_model.specs.declared.page.PageObject.{PageObject}
@@ -11,14 +22,14 @@ use Rattle.st_model.specs.Table.{Table}
 use Rattle.st_model.specs.Steps.{get_active, get_sp, of_page, found, object_named, object, check, or_die, class_of, fetch_field, count_fields, top, under, look_at_words}
 use Rattle.st_model.specs.Methods.{method_header, literal_from_last, extension_arguments, arguments_by_extension, arguments_by, method_arguments}
 use Rattle.st_model.specs.Lookup.{half_word, checked_method, method_at, place_says, look_at_place, look_at_places, search_from, search_dictionary, or_above, method_in_class, look_in_class, unless_nil, end_at_nil, find_within, find}
-use Rattle.st_model.specs.Primitives.{succeed, primitive, taking, check_class}
+use Rattle.st_model.specs.Primitives.{succeed, primitive, check_class}
 use Rattle.st_model.specs.Arithmetic.{arithmetic, large_arithmetic, shift_large}
 use Rattle.st_model.specs.BitBlt.{primitive_copy_bits}
 use Rattle.st_model.specs.Storage.{primitive_at, primitive_at_put, primitive_size, primitive_string_at, primitive_string_at_put, primitive_next, primitive_next_put, primitive_at_end, primitive_object_at, primitive_object_at_put, primitive_new, primitive_new_with, primitive_become, primitive_instance_variable_at, primitive_instance_variable_at_put, primitive_as_oop, primitive_as_object, primitive_some_instance, primitive_next_instance, primitive_new_method, primitive_replace, primitive_core_left, primitive_oops_left, primitive_say, storage}
 use Rattle.st_model.specs.Blocks.{primitive_block_copy, value_with_words, value_if_any, start_of, primitive_value, passing, value_with_fields, value_with_if_any, primitive_value_with, blocks, Passing}
 use Rattle.st_model.specs.Processes.{primitive_signal, primitive_wait, primitive_resume, primitive_suspend, processes}
 use Rattle.st_model.specs.Input.{primitive_mouse_point, primitive_move_mouse, primitive_link_cursor, primitive_input_semaphore, primitive_sample_interval, primitive_input_word, primitive_second_clock, primitive_millisecond_clock, primitive_timer, primitive_be_cursor, primitive_be_display, primitive_low_space, input}
-use Rattle.st_model.specs.Executing.{if_done, succeeds, says, respond_last, respond_on_objects, respond_always, respond, takes, perform_found, perform, primitive_perform, spreading, perform_fields, primitive_perform_with, respond_or_perform}
+use Rattle.st_model.specs.Executing.{if_done, succeeds, says, respond_by, respond_if_any, takes, perform_found, perform, primitive_perform, spreading, perform_fields, primitive_perform_with, perform_by, respond_or_perform}
 use Rattle.st_step.specs.inside.Trying.{tried_number}
 
 -- a step that only reads
@@ -264,11 +275,7 @@ module _ (m : ObjectMemory Table) where
   unfolding primitive
   primitive_stays n c f = tried_stays c (succeed m n f) false (none_stays n f) (succeed_never n f)
 
-  taking_stays : (n arguments : ℕ) (p : Step Table Bool) → Stays p false → Stays (taking n arguments p) false
-  unfolding taking
-  taking_stays n arguments p h = stay_if _ _ _ _ h failed_stays
-
-  ruleset fails = (stay_then, stay_if, primitive_stays, taking_stays, failed_stays, read_top, read_under)
+  ruleset fails = (stay_then, primitive_stays, read_top, read_under)
 
   arithmetic_stays : (k : ℕ) → Stays (arithmetic m k) false
   unfolding arithmetic
@@ -282,17 +289,20 @@ module _ (m : ObjectMemory Table) where
   unfolding shift_large
   shift_stays = primitive_stays _ _ _
 
-  storage_stays : (k n : ℕ) → Stays (storage m k n) false
+  storage_stays : (p : StoragePrimitive) → Stays (storage m p) false
   unfolding storage primitive_copy_bits primitive_at primitive_at_put primitive_size primitive_string_at primitive_string_at_put primitive_next primitive_next_put primitive_at_end primitive_object_at primitive_object_at_put primitive_new primitive_new_with primitive_become primitive_instance_variable_at primitive_instance_variable_at_put primitive_as_oop primitive_as_object primitive_some_instance primitive_next_instance primitive_new_method primitive_replace primitive_core_left primitive_oops_left
-  storage_stays k n = search fails depth 48 fits 8000
+  storage_stays of_objects.At = search fails depth 12 fits 4000
+  storage_stays p = search fails depth 12 fits 4000
 
-  processes_stays : (k n : ℕ) → Stays (processes m k n) false
+  processes_stays : (p : ProcessPrimitive) → Stays (processes m p) false
   unfolding processes primitive_signal primitive_wait primitive_resume primitive_suspend
-  processes_stays k n = search fails depth 24 fits 4000
+  processes_stays of_processes.Signal = search fails depth 12 fits 4000
+  processes_stays p = search fails depth 12 fits 4000
 
-  input_stays : (k n : ℕ) → Stays (input m k n) false
+  input_stays : (p : InputPrimitive) → Stays (input m p) false
   unfolding input primitive_mouse_point primitive_move_mouse primitive_link_cursor primitive_input_semaphore primitive_sample_interval primitive_input_word primitive_second_clock primitive_millisecond_clock primitive_timer primitive_be_cursor primitive_be_display primitive_low_space
-  input_stays k n = search fails depth 32 fits 8000
+  input_stays of_devices.MousePoint = search fails depth 12 fits 4000
+  input_stays p = search fails depth 12 fits 4000
 
   value_never : (block : Value) (n : ℕ) (first : ℤ) → Never (value_if_any m block n (Some first)) false
   unfolding value_if_any value_with_words
@@ -318,9 +328,11 @@ module _ (m : ObjectMemory Table) where
   unfolding primitive_value_with
   value_with_stays = stay_then _ _ _ (read_under 1) (λ r. stay_then _ _ _ read_top (λ a. tried_stays (passing m r a) (value_with_if_any m r a) false (fields_none r a) (fields_never r a)))
 
-  blocks_stays : (k n : ℕ) → Stays (blocks m k n) false
+  blocks_stays : (n : ℕ) (p : BlockPrimitive) → Stays (blocks m n p) false
   unfolding blocks primitive_block_copy
-  blocks_stays k n = search (fails, value_stays, value_with_stays) depth 24 fits 4000
+  blocks_stays n of_blocks.BlockCopy = search fails depth 12 fits 4000
+  blocks_stays n of_blocks.Value = value_stays n
+  blocks_stays n of_blocks.ValueWith = value_with_stays
 
   -- CALLED BY ITS NUMBER
 
@@ -383,9 +395,25 @@ module _ (m : ObjectMemory Table) where
   unfolding primitive_perform_with
   with_stays = stay_then _ _ _ (read_under 2) (λ r. stay_then _ _ _ (read_under 1) (λ a. stay_then _ _ _ read_top (λ b. spread_stays r a b)))
 
+  respond_stays : (n : ℕ) (p : Primitive) → Stays (respond_by m n p) None
+  unfolding respond_by
+  respond_stays n named.Say = says_stays
+  respond_stays n p = search (if_done_stays, succeeds_stays, none_read, arithmetic_stays, large_stays, shift_stays, storage_stays, blocks_stays, processes_stays, input_stays) depth 12 fits 4000
+
+  perform_stays : (n : ℕ) (p : Primitive) → Stays (perform_by m n p) None
+  unfolding perform_by
+  perform_stays n named.Perform = selector_stays _
+  perform_stays n named.PerformWith = with_stays
+  perform_stays n p = respond_stays n _
+
+  any_stays : (n : ℕ) (p : Option Primitive) → Stays (respond_if_any m (perform_by m n) p) None
+  unfolding respond_if_any
+  any_stays n None = none_read
+  any_stays n (Some p) = perform_stays n p
+
   number_stays : (k n : ℕ) → Stays (respond_or_perform m k n) None
-  unfolding respond_or_perform respond respond_always respond_on_objects respond_last
-  number_stays k n = search (stay_if, if_done_stays, succeeds_stays, none_read, says_stays, selector_stays, with_stays, arithmetic_stays, large_stays, shift_stays, storage_stays, blocks_stays, processes_stays, input_stays) depth 32 fits 8000
+  unfolding respond_or_perform
+  number_stays k n = any_stays n (primitive_of k n)
 
   pub failed_still : (k n : ℕ) (s t : State Table) → (tried_number m k n).run s ≡ Went None t → t ≡ s
   unfolding tried_number ◌>>◌

@@ -1,20 +1,29 @@
--- How a selector is performed with the fields of an Array, by the condition on that.
-use Rattle.std.proofs.Common.{◌≡◌, ◌<◌, ◌≤◌, ◌+◌, ℕ, refl, Option, None}
+-- What is no 83 and no 84; and how a selector is performed with the fields of an Array, by the condition on that.
+use Rattle.std.proofs.Common.{◌≡◌, ◌≢◌, ◌<◌, ◌≤◌, ◌+◌, ℕ, refl, Option, None}
 use Rattle.std.specs.Prelude.{◌-◌}
 use Rattle.st_model.specs.declared.dead.Dead.{Dead}
 use Rattle.st_model.specs.declared.dead.Dead.TheVariants as dead
+use Rattle.st_model.specs.declared.primitive.Primitive.{Primitive}
+use Rattle.st_model.specs.declared.primitive.Primitive.TheVariants as named
 use Rattle.st_model.specs.Values.{Value, word}
 use Rattle.st_model.specs.declared.page.PageObject.TheVariants.{ArrayClass}
 use Rattle.st_model.specs.Outcomes.{Outcome}
 use Rattle.st_model.specs.Machine.{ObjectMemory, Head, State, Transition, Died, Went, answer, after, ◌>>=◌, ◌>>◌}
 use Rattle.st_model.specs.Steps.{count_fields, top, under}
 use Rattle.st_model.specs.Primitives.{check_class}
-use Rattle.st_model.specs.Executing.{spread_array, perform, spreading, perform_fields, primitive_perform_with}
+use Rattle.st_model.specs.Executing.{respond_by, spread_array, perform, spreading, perform_fields, primitive_perform_with, perform_by}
 use Rattle.st_model.specs.Table.{Table}
 use Rattle.st_model.proofs.Runs.{check-below, check-not_below, run-tried_went, run-tried_died}
 use Rattle.st_frames.specs.declared.registers.Registers.{Registers as Words}
 use Rattle.st_frames.specs.inside.Rows.{row_state}
 use Rattle.st_frames.proofs.Doing.{row-memory, row-active, row-sp}
+
+-- one that performs nothing
+pub plain : (m : ObjectMemory Table) (n : ℕ) (p : Primitive) (s : State Table) → p ≢ named.Perform → p ≢ named.PerformWith → (perform_by m n p).run s ≡ (respond_by m n p).run s
+unfolding perform_by
+plain m n named.Perform s h k = absurd (h refl)
+plain m n named.PerformWith s h k = absurd (k refl)
+plain m n p s h k = refl
 
 -- 84 that is tried
 module _ (m : ObjectMemory Table) (v w b : Value) (s : State Table)

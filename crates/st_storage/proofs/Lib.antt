@@ -8,4 +8,4 @@ pub mod ObjectTries
 pub mod PutTries
 pub mod StreamTries
 pub mod Valued
-pub mod ByNumber
+pub mod SayTries

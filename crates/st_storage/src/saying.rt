@@ -9,7 +9,7 @@ use st_memory::Objects;
 use st_model::{Dead, Word};
 
 /// Primitive 128: the receiver, an object of kind Bytes, is the answer. Whether it succeeded; its caller has the bytes said.
-#[tactic(auto, using(crate::proofs::ByNumber::says))]
+#[tactic(auto, using(crate::proofs::SayTries::says))]
 pub fn primitive_say<O: Objects>(m: &mut O, r: &mut Registers, receiver: Word) -> Result<bool, Dead>
     requires room { 1 ≤ O.room m.old }
     ensures does { RowDoes O.Objects.own (primitive_say O.names (word receiver))

@@ -1,5 +1,5 @@
 use Rattle.std.proofs.Common.{arith}
-use Rattle.st_storage.proofs.ByNumber.{says}
+use Rattle.st_storage.proofs.SayTries.{says}
 use Rattle.st_storage.proofs.saying.primitive_say.Goals as goal
 
 pub returns-in_err-answer_with-in-Ok-clause-does : goal.returns-in_err-answer_with-in-Ok-clause-does
