@@ -31,7 +31,7 @@ fn return_constant<O: Objects>(m: &mut O, r: &mut Registers, c: Constant) -> Res
 }
 
 /// Does the row of a bytecode that was fetched and decoded.
-#[inline(always)]
+#[inline(never)]
 #[tactic(auto, using(st_frames::proofs::Doing::rows), unfolding(st_model::specs::Bytecodes::bytecode, st_model::specs::Bytecodes::long_jump_on_true, st_model::specs::Bytecodes::long_jump_on_false, crate::specs::inside::Jumping::long_conditional_jump, st_model::specs::Executing::goes_on, st_model::specs::Bytecodes::return_receiver, st_model::specs::Executing::executed_if_any))]
 pub fn bytecode<O: Objects>(m: &mut O, r: &mut Registers, code: Bytecode) -> Result<RowEnd, Dead>
     requires numbered { IsNumbered code }
