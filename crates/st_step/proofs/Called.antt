@@ -21,7 +21,6 @@ use Rattle.st_frames.specs.inside.Shown.{shown, registers_of, IsReady}
 use Rattle.st_frames.proofs.Closed.{is_closed}
 use Rattle.st_step.specs.inside.Trying.{tried_number}
 use Rattle.st_step.specs.inside.Responding.{outcome_if_any, deed_if_any}
-use Rattle.st_step.proofs.Failing.{failed_still}
 use Rattle.st_step.proofs.Stepped.{from_row, there_in}
 
 -- no stack has so many words
@@ -46,28 +45,28 @@ pub row_as : (p q n : ℕ) → q ≡ p → (v : View) (f : Frame) (w : World) (r
 row_as p q n e v f w r same world x does = subst (λ k. (tried_number bounded_table k n).run (shown v f w) ≡ x) e (from_row (tried_number bounded_table q n) v f w r x same world does)
 
 -- where it failed, the memory is as it was
-module _ (p n : ℕ) (u v : View) (f : Frame) (w : World) (x : Option RowEnd) (r : Words) (none : x ≡ None)
-    (does : (tried_number bounded_table p n).run (shown v f w) ≡ Went (outcome_if_any r x) (with_deed (deed_if_any r x) (row_state u.objects u.head r))) where
-  left_still : with_deed (deed_if_any r x) (row_state u.objects u.head r) ≡ shown v f w
-  left_still = failed_still bounded_table p n (shown v f w) (with_deed (deed_if_any r x) (row_state u.objects u.head r)) (does ∙ ap (λ y. Went (outcome_if_any r y) (with_deed (deed_if_any r x) (row_state u.objects u.head r))) none)
-
-  row_still : row_state u.objects u.head r ≡ shown v f w
-  row_still = sym (ap (λ y. with_deed (deed_if_any r y) (row_state u.objects u.head r)) none) ∙ left_still
-
-  pub objects_still : u.objects ≡ v.objects
+module _ (p n : ℕ) (u v : View) (f : Frame) (w : World) (x : Option RowEnd) (r q : Words) (none : x ≡ None)
+    (still : row_state u.objects u.head r ≡ row_state v.objects v.head q) (same : registers_in q ≡ registers_of f) (world : q.world.now ≡ w) where
+  objects_still : u.objects ≡ v.objects
   unfolding row_state
-  objects_still = ap (λ (s : State Table). s.memory) row_still
+  objects_still = ap (λ (s : State Table). s.memory) still
 
-  pub head_still : u.head ≡ v.head
+  head_still : u.head ≡ v.head
   unfolding row_state
-  head_still = ap (λ (s : State Table). s.head) row_still
+  head_still = ap (λ (s : State Table). s.head) still
 
   pub view_still : u.held ≡ v.held → u ≡ v
   view_still e = let o = objects_still in let h = head_still in λ i. record { objects = o i; held = e i; head = h i }
 
-  pub fails : (tried_number bounded_table p n).run (shown v f w) ≡ Went None (shown u f w)
-  fails =
+  -- the state is again the one that was loaded
+  left_still : with_deed (deed_if_any r x) (row_state u.objects u.head r) ≡ shown u f w
+  unfolding row_state
+  left_still =
       let o = objects_still in
       let h = head_still in
-      let same : shown v f w ≡ shown u f w = λ i. record { memory = sym o i; registers = registers_of f; world = w; head = sym h i } in
-      does ∙ (λ i. Went (outcome_if_any r (none i)) ((left_still ∙ same) i))
+      let loaded : row_state v.objects v.head q ≡ shown u f w = λ i. record { memory = sym o i; registers = same i; world = world i; head = sym h i } in
+      ap (λ y. with_deed (deed_if_any r y) (row_state u.objects u.head r)) none ∙ still ∙ loaded
+
+  pub fails : (tried_number bounded_table p n).run (shown v f w) ≡ Went (outcome_if_any r x) (with_deed (deed_if_any r x) (row_state u.objects u.head r))
+      → (tried_number bounded_table p n).run (shown v f w) ≡ Went None (shown u f w)
+  fails does = does ∙ (λ i. Went (outcome_if_any r (none i)) (left_still i))

@@ -1,5 +1,5 @@
--- A primitive that failed, when it was called by its number, has changed nothing.
-use Rattle.std.proofs.Common.{◌≡◌, ℕ, zero, suc, ◌+◌, Bool, true, false, Option, Some, None, refl, sym, ◌∙◌}
+-- A primitive that failed has changed nothing.
+use Rattle.std.proofs.Common.{Result, Ok, Err, ◌≡◌, ℕ, Bool, true, false, Option, Some, None, refl, sym, ◌∙◌}
 use Rattle.std.specs.Prelude.{if◌then◌else◌, ℤ}
 use Rattle.st_model.specs.declared.dead.Dead.{Dead}
 use Rattle.st_model.specs.declared.primitive.StoragePrimitive.{StoragePrimitive}
@@ -12,25 +12,24 @@ use Rattle.st_model.specs.declared.primitive.InputPrimitive.{InputPrimitive}
 use Rattle.st_model.specs.declared.primitive.InputPrimitive.TheVariants as of_devices
 use Rattle.st_model.specs.declared.primitive.Primitive.{Primitive}
 use Rattle.st_model.specs.declared.primitive.Primitive.TheVariants as named
-use Rattle.st_model.specs.PrimitiveTable.{primitive_of}
 use Rattle.st_model.specs.Values.{Value, Small, Ref}
 use Rattle.st_model.specs.Objects.{Object}
-use Rattle.st_model.specs.declared.page.PageObject.{PageObject}
 use Rattle.st_model.specs.Outcomes.{Outcome}
 use Rattle.st_model.specs.Machine.{ObjectMemory, State, Transition, Died, Went, Step, answer, die, after, or_left, tried, ◌>>=◌, ◌>>◌}
 use Rattle.st_model.specs.Table.{Table}
-use Rattle.st_model.specs.Steps.{get_active, get_sp, of_page, found, object_named, object, check, or_die, class_of, fetch_field, count_fields, top, under, look_at_words}
-use Rattle.st_model.specs.Methods.{method_header, literal_from_last, extension_arguments, arguments_by_extension, arguments_by, method_arguments}
-use Rattle.st_model.specs.Lookup.{half_word, checked_method, method_at, place_says, look_at_place, look_at_places, search_from, search_dictionary, or_above, method_in_class, look_in_class, unless_nil, end_at_nil, find_within, find}
-use Rattle.st_model.specs.Primitives.{succeed, primitive, check_class}
+use Rattle.st_model.specs.Steps.{get_active, get_sp, found, object_named, object, check, or_die, fetch_field, top, under}
+use Rattle.st_model.specs.Primitives.{succeed, primitive}
 use Rattle.st_model.specs.Arithmetic.{arithmetic, large_arithmetic, shift_large}
 use Rattle.st_model.specs.BitBlt.{primitive_copy_bits}
 use Rattle.st_model.specs.Storage.{primitive_at, primitive_at_put, primitive_size, primitive_string_at, primitive_string_at_put, primitive_next, primitive_next_put, primitive_at_end, primitive_object_at, primitive_object_at_put, primitive_new, primitive_new_with, primitive_become, primitive_instance_variable_at, primitive_instance_variable_at_put, primitive_as_oop, primitive_as_object, primitive_some_instance, primitive_next_instance, primitive_new_method, primitive_replace, primitive_core_left, primitive_oops_left, primitive_say, storage}
 use Rattle.st_model.specs.Blocks.{primitive_block_copy, value_with_words, value_if_any, start_of, primitive_value, passing, value_with_fields, value_with_if_any, primitive_value_with, blocks, Passing}
 use Rattle.st_model.specs.Processes.{primitive_signal, primitive_wait, primitive_resume, primitive_suspend, processes}
 use Rattle.st_model.specs.Input.{primitive_mouse_point, primitive_move_mouse, primitive_link_cursor, primitive_input_semaphore, primitive_sample_interval, primitive_input_word, primitive_second_clock, primitive_millisecond_clock, primitive_timer, primitive_be_cursor, primitive_be_display, primitive_low_space, input}
-use Rattle.st_model.specs.Executing.{if_done, succeeds, says, respond_by, respond_if_any, takes, perform_found, perform, primitive_perform, spreading, perform_fields, primitive_perform_with, perform_by, respond_or_perform}
-use Rattle.st_step.specs.inside.Trying.{tried_number}
+use Rattle.st_model.specs.Executing.{if_done, succeeds, says, respond_by}
+use Rattle.st_memory.specs.declared.objects.Objects.{Ghosts}
+use Rattle.st_frames.specs.declared.registers.Registers.{Registers as Words}
+use Rattle.st_frames.specs.declared.ending.RowEnd.{RowEnd}
+use Rattle.st_step.specs.inside.Responding.{RowResponds, StaysIfFailed}
 
 -- a step that only reads
 record Reads {A : Type 0} (n : Step Table A) : Type 0 where
@@ -90,14 +89,6 @@ never_next : {A B : Type 0} (n : Step Table A) (p : Step Table B) (b : B) → Ne
 unfolding ◌>>◌
 never_next n p b g = never_then n (λ a. p) b (λ a. g)
 
-read_if : {A : Type 0} (b : Bool) (n p : Step Table A) → Reads n → Reads p → Reads (if b then n else p)
-read_if true n p h g = h
-read_if false n p h g = g
-
-stay_if : {A : Type 0} (b : Bool) (n p : Step Table A) (x : A) → Stays n x → Stays p x → Stays (if b then n else p) x
-stay_if true n p x h g = h
-stay_if false n p x h g = g
-
 stay_read : {A : Type 0} (n : Step Table A) (x : A) → Reads n → Stays n x
 stay_read n x h = record { still = λ s t e. h.still s t x e }
 
@@ -117,7 +108,7 @@ module _ {A B : Type 0} (n : Step Table A) (f : Option A → Step Table B) (b : 
 
 -- WHAT IS READ
 
-ruleset reading = (read_answer, read_die, read_then, read_next, read_if)
+ruleset reading = (read_answer, read_die, read_then, read_next)
 
 read_check : (k : Dead) (b : Bool) → Reads (check k b)
 unfolding check
@@ -138,10 +129,6 @@ unfolding get_sp
 read_sp = record { still = λ s t a e. cc }
 
 module _ (m : ObjectMemory Table) where
-  read_page : (q : PageObject) → Reads (of_page m q)
-  unfolding of_page
-  read_page q = record { still = λ s t a e. cc }
-
   found_read : (x : Option Object) (s t : State Table) (o : Object) → (found x).run s ≡ Went o t → t ≡ s
   unfolding found answer die
   found_read None s t o e = cc
@@ -156,17 +143,7 @@ module _ (m : ObjectMemory Table) where
   read_object (Small n) = read_die _
   read_object (Ref n) = read_named n
 
-  read_half : (v : Value) → Reads (half_word m v)
-  unfolding half_word
-  read_half (Small n) = read_answer n
-  read_half (Ref n) = record { still = λ s t a e. cc }
-
-  ruleset bases = (reading, read_check, read_or_die, read_active, read_sp, read_page, read_named, read_object, read_half)
-
-  read_class : (v : Value) → Reads (class_of m v)
-  unfolding class_of
-  read_class (Small n) = read_page _
-  read_class (Ref n) = search bases depth 12 fits 4000
+  ruleset bases = (reading, read_check, read_or_die, read_active, read_sp, read_named, read_object)
 
   read_field : (v : Value) (i : ℕ) → Reads (fetch_field m v i)
   unfolding fetch_field
@@ -179,80 +156,6 @@ module _ (m : ObjectMemory Table) where
   read_under : (k : ℕ) → Reads (under m k)
   unfolding under
   read_under k = search (bases, read_field) depth 12 fits 4000
-
-  read_words : (n : ℕ) → Reads (look_at_words m n)
-  unfolding look_at_words
-  read_words n = search (bases, read_top, read_under) depth 12 fits 4000
-
-  read_header : (v : Value) → Reads (method_header m v)
-  unfolding method_header
-  read_header v = search bases depth 12 fits 4000
-
-  read_extension : (v : Value) → Reads (extension_arguments v)
-  unfolding extension_arguments
-  read_extension (Small n) = read_answer _
-  read_extension (Ref n) = read_die _
-
-  read_arguments : (v : Value) → Reads (method_arguments m v)
-  unfolding method_arguments arguments_by arguments_by_extension literal_from_last
-  read_arguments v = search (bases, read_header, read_extension) depth 24 fits 4000
-
-  read_takes : (n : ℕ) (a : Option Value) → Reads (takes m n a)
-  unfolding takes
-  read_takes n None = read_answer true
-  read_takes n (Some v) = search (bases, read_arguments) depth 12 fits 4000
-
-  -- the search for a method
-
-  read_method : (d : Value) (k : ℕ) → Reads (method_at m d k)
-  unfolding method_at checked_method fetch_field
-  read_method d k = search (bases, read_header) depth 24 fits 4000
-
-  read_says : (d : Value) (k : ℕ) (a b : Bool) (n : Step Table (Option Value)) → Reads n → Reads (place_says m d k a b n)
-  unfolding place_says
-  read_says d k true b n h = read_method d k
-  read_says d k false true n h = read_answer None
-  read_says d k false false n h = h
-
-  read_place : (d x : Value) (k : ℕ) (n : Step Table (Option Value)) → Reads n → Reads (look_at_place m d x k n)
-  unfolding look_at_place
-  read_place d x k n h = read_then _ _ (read_field d (2 + k)) (λ s. read_then _ _ (read_page _) (λ nil. read_says d k _ _ n h))
-
-  read_places : (d x : Value) (k left : ℕ) (n : Step Table (Option Value)) → Reads n → Reads (look_at_places m d x k left n)
-  unfolding look_at_places
-  read_places d x k zero n h = h
-  read_places d x k (suc left) n h = read_place d x k _ (read_places d x (suc k) left n h)
-
-  read_dictionary : (d x : Value) (places : ℕ) → Reads (search_dictionary m d x places)
-  unfolding search_dictionary search_from
-  read_dictionary d x places = search (bases, read_places) depth 12 fits 4000
-
-  read_above : (c : Value) (a : Option Value) (f : Value → Step Table (Option Value)) → ((v : Value) → Reads (f v)) → Reads (or_above m c a f)
-  unfolding or_above fetch_field
-  read_above c None f h = search (bases, h) depth 16 fits 4000
-  read_above c (Some v) f h = read_answer _
-
-  read_in_class : (c x : Value) (f : Value → Step Table (Option Value)) → ((v : Value) → Reads (f v)) → Reads (look_in_class m c x f)
-  unfolding look_in_class method_in_class count_fields fetch_field
-  read_in_class c x f h = search (bases, read_dictionary, read_above, h) depth 32 fits 4000
-
-  read_unless : (b : Bool) (n : Step Table (Option Value)) → Reads n → Reads (unless_nil b n)
-  unfolding unless_nil
-  read_unless true n h = read_answer None
-  read_unless false n h = h
-
-  read_nil : (c : Value) (n : Step Table (Option Value)) → Reads n → Reads (end_at_nil m c n)
-  unfolding end_at_nil
-  read_nil c n h = read_then _ _ (read_page _) (λ nil. read_unless _ n h)
-
-  read_within : (x : Value) (left : ℕ) (c : Value) → Reads (find_within m x left c)
-  unfolding find_within
-  read_within x zero c = read_nil c _ (read_die _)
-  read_within x (suc left) c = read_nil c _ (read_in_class c x _ (read_within x left))
-
-  read_find : (c x : Value) → Reads (find m c x)
-  unfolding find
-  read_find c x = read_within x 32767 c
 
   -- PRIMITIVES THAT FAIL
 
@@ -369,52 +272,16 @@ module _ (m : ObjectMemory Table) where
   unfolding says
   says_stays = stay_then _ _ _ read_top (λ r. if_done_stays _ _ (say_stays r))
 
-  performs_stays : (r a : Value) (n : ℕ) (p : Step Table Unit) → Stays (perform m r a n p) None
-  unfolding perform perform_found
-  performs_stays r a n p = stay_then _ _ _ (read_class r) (λ class. stay_then _ _ _ (read_find class a) (λ found. stay_then _ _ _ (read_takes n found)
-      (λ fits. stay_if _ _ _ _ (stay_never _ _ (never_next _ _ _ (succeeds_never _))) none_read)))
-
-  selector_stays : (n : ℕ) → Stays (primitive_perform m n) None
-  unfolding primitive_perform
-  selector_stays n = stay_then _ _ _ (read_under (n + 1)) (λ r. stay_then _ _ _ (read_under n) (λ a. performs_stays r a n _))
-
-  spread_after : (r a b : Value) (s t : State Table) (x : Transition (State Table) ℕ) → ((n : ℕ) (u : State Table) → x ≡ Went n u → u ≡ s) → after (or_left s x) (λ n u. (perform_fields m r a b n).run u) ≡ Went None t → t ≡ s
-  unfolding after perform_fields
-  spread_after r a b s t (Died k) h e = none_read.still s t e
-  spread_after r a b s t (Went n u) h e = (performs_stays r a n _).still u t e ∙ h n u refl
-
-  read_spreading : (b : Value) → Reads (spreading m b)
-  unfolding spreading check_class count_fields
-  read_spreading b = search (bases, read_class) depth 32 fits 4000
-
-  spread_stays : (r a b : Value) → Stays (tried (spreading m b) >>= (λ n. perform_fields m r a b n)) None
-  unfolding tried ◌>>=◌
-  spread_stays r a b = record { still = λ s t e. spread_after r a b s t ((spreading m b).run s) (λ n u q. (read_spreading b).still s u n q) e }
-
-  with_stays : Stays (primitive_perform_with m) None
-  unfolding primitive_perform_with
-  with_stays = stay_then _ _ _ (read_under 2) (λ r. stay_then _ _ _ (read_under 1) (λ a. stay_then _ _ _ read_top (λ b. spread_stays r a b)))
+  ruleset responses = (if_done_stays, succeeds_stays, none_read, arithmetic_stays, large_stays, shift_stays, storage_stays, blocks_stays, processes_stays, input_stays)
 
   respond_stays : (n : ℕ) (p : Primitive) → Stays (respond_by m n p) None
   unfolding respond_by
   respond_stays n named.Say = says_stays
-  respond_stays n p = search (if_done_stays, succeeds_stays, none_read, arithmetic_stays, large_stays, shift_stays, storage_stays, blocks_stays, processes_stays, input_stays) depth 12 fits 4000
+  respond_stays n p = search responses depth 12 fits 4000
 
-  perform_stays : (n : ℕ) (p : Primitive) → Stays (perform_by m n p) None
-  unfolding perform_by
-  perform_stays n named.Perform = selector_stays _
-  perform_stays n named.PerformWith = with_stays
-  perform_stays n p = respond_stays n _
-
-  any_stays : (n : ℕ) (p : Option Primitive) → Stays (respond_if_any m (perform_by m n) p) None
-  unfolding respond_if_any
-  any_stays n None = none_read
-  any_stays n (Some p) = perform_stays n p
-
-  number_stays : (k n : ℕ) → Stays (respond_or_perform m k n) None
-  unfolding respond_or_perform
-  number_stays k n = any_stays n (primitive_of k n)
-
-  pub failed_still : (k n : ℕ) (s t : State Table) → (tried_number m k n).run s ≡ Went None t → t ≡ s
-  unfolding tried_number ◌>>◌
-  failed_still k n s t e = (stay_then (look_at_words m n) (λ u. respond_or_perform m k n) None (read_words n) (λ u. number_stays k n)).still s t e
+-- so a call that responds by a primitive which failed left the state as it was
+pub response_still : {M : Type 0} (o : Ghosts M) (n : ℕ) (p : Primitive) (x : Result (Option RowEnd) Dead) (m k : M) (r q : Words)
+    → RowResponds o (respond_by o.names n p) m r x k q → StaysIfFailed o m r x k q
+response_still o n p (Err cause) m k r q h = tt
+response_still o n p (Ok None) m k r q h = λ e. (respond_stays o.names n p).still _ _ h.does
+response_still o n p (Ok (Some end)) m k r q h = λ e. cc

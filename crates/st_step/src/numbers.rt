@@ -2,7 +2,7 @@ ghost use Rattle.std.specs.Prelude.{◌≡◌, ◌<◌, ◌≤◌};
 ghost use Rattle.st_model.specs.{declared.deed.Deed.TheVariants.Nothing};
 ghost use Rattle.st_model.specs.{Outcomes.Went, Arithmetic.arithmetic, PrimitiveTable.IsNumberedPrimitive};
 ghost use Rattle.st_model.specs.Executing.{if_done, succeeds, says, asks, respond_by, respond, perform_by, respond_or_perform};
-ghost use Rattle.st_step.specs.inside.{Trying.tried_number, Responding.{end_of_trial, RowResponds, number_changes}};
+ghost use Rattle.st_step.specs.inside.{Trying.tried_number, Responding.{end_of_trial, RowResponds, StaysIfFailed, number_changes}};
 ghost use Rattle.st_frames.specs.declared.registers.Registers.{Registers as Words};
 ghost use Rattle.st_frames.specs.inside.Rows.{Takes, response_changes, execution_changes, deed_in, outcome_in};
 
@@ -157,6 +157,7 @@ fn perform_by<O: Objects>(
     ensures does { RowResponds O.Objects.own (perform_by O.names arguments primitive)
         m.old r.old result m.new r.new }
     ensures takes { Takes O.Objects.own (number_changes execution_changes result) m.old m.new }
+    ensures still { StaysIfFailed O.Objects.own m.old r.old result m.new r.new }
 {
     match primitive {
         Primitive::Perform => primitive_perform(m, r, arguments.saturating_sub(1)),
@@ -179,6 +180,7 @@ pub fn respond_or_perform<O: Objects>(
     ensures does { RowResponds O.Objects.own (respond_or_perform O.names number arguments)
         m.old r.old result m.new r.new }
     ensures takes { Takes O.Objects.own (number_changes execution_changes result) m.old m.new }
+    ensures still { StaysIfFailed O.Objects.own m.old r.old result m.new r.new }
 {
     match primitive_of(number, arguments) {
         Some(primitive) => perform_by(m, r, primitive, arguments),
@@ -199,6 +201,7 @@ pub fn tried_number<O: Objects>(
     ensures does { RowResponds O.Objects.own (tried_number O.names primitive arguments)
         m.old r.old result m.new r.new }
     ensures takes { Takes O.Objects.own (number_changes execution_changes result) m.old m.new }
+    ensures still { StaysIfFailed O.Objects.own m.old r.old result m.new r.new }
 {
     look_at_words(m, r, arguments)?;
     respond_or_perform(m, r, primitive, arguments)

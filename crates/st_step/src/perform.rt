@@ -2,7 +2,7 @@ ghost use Rattle.std.specs.Prelude.{◌<◌, ◌≤◌, ◌+◌, IfOk};
 ghost use Rattle.st_model.specs.{Values.word, Sends.call_of};
 ghost use Rattle.st_model.specs.Executing.{respond, execute_by, takes, drop_selector, spread_array, perform, primitive_perform, spreading, primitive_perform_with};
 ghost use Rattle.st_model.specs.inside.Calls.{itself};
-ghost use Rattle.st_step.specs.inside.Responding.{execute_sent, RowResponds, number_changes};
+ghost use Rattle.st_step.specs.inside.Responding.{execute_sent, RowResponds, StaysIfFailed, number_changes};
 ghost use Rattle.st_lookup.specs.inside.Places.{found_word};
 ghost use Rattle.st_frames.specs.inside.Rows.{RowReads, RowDoes, RowEnds, Takes, send_changes, response_changes, execution_changes};
 
@@ -140,6 +140,7 @@ fn perform_above<O: Objects>(
         (perform O.names (word receiver) (word selector) n (drop_selector O.names n))
         m.old r.old result m.new r.new }
     ensures takes { Takes O.Objects.own (number_changes execution_changes result) m.old m.new }
+    ensures still { StaysIfFailed O.Objects.own m.old r.old result m.new r.new }
 {
     let class = m.fetch_class(receiver)?;
     let found = find_method(m, r, class, selector)?;
@@ -167,6 +168,7 @@ pub fn primitive_perform<O: Objects>(
     requires room { execution_changes ≤ O.room m.old }
     ensures does { RowResponds O.Objects.own (primitive_perform O.names n) m.old r.old result m.new r.new }
     ensures takes { Takes O.Objects.own (number_changes execution_changes result) m.old m.new }
+    ensures still { StaysIfFailed O.Objects.own m.old r.old result m.new r.new }
 {
     let receiver = under(m, r, n + 1)?;
     let selector = under(m, r, n)?;
@@ -191,6 +193,7 @@ fn perform_fields<O: Objects>(
         (perform O.names (word receiver) (word selector) n (spread_array O.names (word array) n))
         m.old r.old result m.new r.new }
     ensures takes { Takes O.Objects.own (number_changes execution_changes result) m.old m.new }
+    ensures still { StaysIfFailed O.Objects.own m.old r.old result m.new r.new }
 {
     let class = m.fetch_class(receiver)?;
     let found = find_method(m, r, class, selector)?;
@@ -216,6 +219,7 @@ pub fn primitive_perform_with<O: Objects>(
     requires room { execution_changes ≤ O.room m.old }
     ensures does { RowResponds O.Objects.own (primitive_perform_with O.names) m.old r.old result m.new r.new }
     ensures takes { Takes O.Objects.own (number_changes execution_changes result) m.old m.new }
+    ensures still { StaysIfFailed O.Objects.own m.old r.old result m.new r.new }
 {
     let receiver = under(m, r, 2)?;
     let selector = under(m, r, 1)?;

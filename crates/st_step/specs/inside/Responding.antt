@@ -1,5 +1,5 @@
 -- Parts of how a method responds that is executed, and what a call leaves that tries a primitive.
-use Rattle.std.specs.Prelude.{ℕ, Result, Ok, Err, Option, Some, None}
+use Rattle.std.specs.Prelude.{◌≡◌, ℕ, Result, Ok, Err, IfOk, Option, Some, None}
 use Rattle.std.specs.Option.{option_map}
 use Rattle.st_model.specs.declared.dead.Dead.{Dead}
 use Rattle.st_model.specs.declared.deed.Deed.{Deed}
@@ -16,7 +16,7 @@ use Rattle.st_frames.specs.declared.ending.RowEnd.{RowEnd}
 use Rattle.st_frames.specs.declared.ending.RowEnd.TheVariants as rows
 use Rattle.st_frames.specs.declared.tried.Tried.{Tried}
 use Rattle.st_frames.specs.declared.tried.Tried.TheVariants.{Failed, Done, Leaves}
-use Rattle.st_frames.specs.inside.Rows.{RowLeaves, outcome_in, deed_in, storage_changes}
+use Rattle.st_frames.specs.inside.Rows.{RowLeaves, state_of, outcome_in, deed_in, storage_changes}
 use Rattle.st_lookup.specs.inside.Places.{found_word}
 use Rattle.st_control.specs.declared.sent.Sent.{Sent}
 
@@ -35,6 +35,10 @@ deed_if_any q (Some end) = deed_in q end
 -- the call tries a primitive by its number, which is this step but for the deed that it leaves in the registers
 abbrev pub RowResponds : {M : Type 0} → Ghosts M → Step Table (Option Outcome) → M → Words → Result (Option RowEnd) Dead → M → Words → Type 0
 RowResponds o step m r result n q = RowLeaves o step (outcome_if_any q) (deed_if_any q) m r result n q
+
+-- a primitive that failed left the state as it was
+abbrev pub StaysIfFailed : {M : Type 0} → Ghosts M → M → Words → Result (Option RowEnd) Dead → M → Words → Type 0
+StaysIfFailed o m r result n q = IfOk result (λ x. x ≡ None → state_of o n q ≡ state_of o m r)
 
 -- the end of a primitive that its family tried; none where it failed
 abbrev pub end_of_trial : Tried → Option RowEnd

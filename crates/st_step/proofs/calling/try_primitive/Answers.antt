@@ -79,14 +79,13 @@ returns-in-None-clause-does g c =
     let v = g.M.Memory.view c.args.m.now in
     let u = g.M.Memory.view c.tried_number.new.m in
     let row = row_as c.args.n c.from.result c.args.args c.from.ensures v c.args.f.now c.args.w.now c.load-r.result c.load-r.ensures.registers c.load-r.ensures.world _ c.in_ok-row.ensures.does.does in
-    fails c.args.n c.args.args u v c.args.f.now c.args.w.now c.in_ok-row.row c.tried_number.new.r c.in-None.is row
+    fails c.args.n c.args.args u v c.args.f.now c.args.w.now c.in_ok-row.row c.tried_number.new.r c.load-r.result c.in-None.is (c.in_ok-row.ensures.still c.in-None.is) c.load-r.ensures.registers c.load-r.ensures.world row
 
 pub returns-in-None-clause-still : goal.returns-in-None-clause-still
 returns-in-None-clause-still g c e =
     let v = g.M.Memory.view c.args.m.now in
     let u = g.M.Memory.view c.tried_number.new.m in
-    let row = row_as c.args.n c.from.result c.args.args c.from.ensures v c.args.f.now c.args.w.now c.load-r.result c.load-r.ensures.registers c.load-r.ensures.world _ c.in_ok-row.ensures.does.does in
-    (view_still c.args.n c.args.args u v c.args.f.now c.args.w.now c.in_ok-row.row c.tried_number.new.r c.in-None.is row (ap (λ (x : View). x.held) c.in_ok-row.ensures.takes.fixed), refl, refl)
+    (view_still c.args.n c.args.args u v c.args.f.now c.args.w.now c.in_ok-row.row c.tried_number.new.r c.load-r.result c.in-None.is (c.in_ok-row.ensures.still c.in-None.is) c.load-r.ensures.registers c.load-r.ensures.world (ap (λ (x : View). x.held) c.in_ok-row.ensures.takes.fixed), refl, refl)
 
 pub returns-in-Some-clause-still : goal.returns-in-Some-clause-still
 returns-in-Some-clause-still g c e = absurd (c.trial.ensures.succeeded e)
