@@ -1,5 +1,5 @@
 -- What a changes file lists, and where it is damaged.
-use Rattle.std.specs.Prelude.{◌≡◌, ◌⊎◌, ℕ, ◌+◌, ◌<◌, ◌≤◌, List, ◌++◌, length, take, All, ⊤}
+use Rattle.std.specs.Prelude.{◌≡◌, ◌⊎◌, ℕ, ◌<◌, ◌≤◌, List, ◌++◌, length, take, All, ⊤}
 use Rattle.st_host.specs.Files.{Files, bytes_of}
 use Rattle.st_store.specs.Names.{changes_file}
 use Rattle.st_store.specs.Stored.{StoreState}
