@@ -1,6 +1,7 @@
 """An edit of a crate's code: the text that it leaves, and the parts of the crate that it turns."""
 
 import dataclasses
+import functools
 import pathlib
 import re
 
@@ -9,6 +10,7 @@ FOLDERS = ("src", "specs", "proofs")
 # head of the `impl` or trait that a method stands in.
 FUNCTION = re.compile(r"^(?: *(?://|#\[).*\n)*( {4})?(?:pub(?:\([a-z]+\))? )?(?:const )?fn (\w+)", re.M)
 TRAIT = re.compile(r"^(?:pub(?:\([a-z]+\))? )?trait (\w+)", re.M)
+TYPE = re.compile(r"^(?:pub(?:\([a-z]+\))? )?(?:struct|enum) (\w+)", re.M)
 IMPL = re.compile(r"^impl(?P<parameters><[^{]*?>)? (?:(?P<of>[\w:]+)(?P<given><[^{]*?>)? for )?(?P<type>[\w:]+)[^{;]*\{", re.M)
 
 
@@ -57,7 +59,14 @@ def module_of(file):
     return [] if parts in (("lib",), ("main",)) else list(parts)
 
 
-def function_from(file, text, head):
+@functools.cache
+def modules_of_types(folder):
+    """The module in which each type of a crate is declared; the checker names the methods of a type after it."""
+    files = sorted((folder / "src").rglob("*.rt"))
+    return {name: module_of(str(file.relative_to(folder))) for file in files for name in TYPE.findall(file.read_text(errors="replace"))}
+
+
+def function_from(folder, file, text, head):
     """The name of the function that begins so, and where its body begins and ends; or None if that can't be told."""
     indent, name = head[1] or "", head[2]
     opens = re.compile(rf"^{indent}(?! ).*\{{$", re.M).search(text, text.rfind("\n", 0, head.start(2)) + 1)
@@ -65,34 +74,37 @@ def function_from(file, text, head):
     owner = owner_of(text, head.start()) if indent else ""
     if owner is None or not closes:
         return None
-    return "::".join([*module_of(file), *([owner] if owner else []), name]), opens.end(), closes.end()
+    module = module_of(file)
+    if owner and owner not in TYPE.findall(text):
+        module = modules_of_types(folder).get(owner, module)
+    return "::".join([*module, *([owner] if owner else []), name]), opens.end(), closes.end()
 
 
-def lines_of(part, text):
+def lines_of(folder, part, text):
     """The first and the last line of a function in its file's text."""
     for head in FUNCTION.finditer(text):
-        found = function_from(part.file, text, head)
+        found = function_from(folder, part.file, text, head)
         if found and found[0] == part.name:
             return text.count("\n", 0, head.start()) + 1, text.count("\n", 0, found[2]) + 1
     return 0, 0
 
 
-def part_around(file, text, start, end):
+def part_around(folder, file, text, start, end):
     """The function that this part of a file stands in, else the module."""
     heads = [it for it in FUNCTION.finditer(text, 0, end) if it.start() <= start]
-    found = function_from(file, text, heads[-1]) if heads else None
+    found = function_from(folder, file, text, heads[-1]) if heads else None
     if found and end <= found[2]:
         return Part(found[0], file, start >= found[1])
     return Part("::".join(module_of(file)), file, False)
 
 
-def replace_once(file, text, old, new):
+def replace_once(folder, file, text, old, new):
     """The text with `new` in place of the one `old`, and the part of the crate around it."""
     found = text.count(old)
     if found != 1:
         raise Unfit(f"an 'old:' text stands {found} times in {file}, and not once")
     start = text.index(old)
-    return text.replace(old, new), part_around(file, text, start, start + len(old))
+    return text.replace(old, new), part_around(folder, file, text, start, start + len(old))
 
 
 def read_file(folder, file):
@@ -118,7 +130,7 @@ def apply_edit(edit, folder, before=None):
         elif word == "new":
             if not file or not old:
                 raise Unfit("a 'new:' line has no 'file:' and 'old:' lines before it")
-            texts[file], part = replace_once(file, texts.get(file) or read_file(folder, file), old, rest)
+            texts[file], part = replace_once(folder, file, texts.get(file) or read_file(folder, file), old, rest)
             parts.add(part)
             old = None
     if not parts:
